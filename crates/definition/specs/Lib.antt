@@ -1,0 +1,1 @@
+-- What is right: document 01, in its order.
