@@ -1,1 +1,18 @@
--- What is right: document 01, in its order.
+-- What is right: document 01, in its order, from Xlib manual chapter 15 and X(7) RESOURCES.
+-- A byte, a word and a length are natural numbers, and a text is a list of bytes.
+pub mod Lists
+pub mod Parsing
+pub mod Limits
+pub mod Bytes
+pub mod Archive
+pub mod Text
+pub mod Including
+pub mod Image
+pub mod Reading
+pub mod Query
+pub mod Matching
+pub mod Ranking
+pub mod Lookup
+pub mod Value
+pub mod ThirdTerm
+pub mod Examples

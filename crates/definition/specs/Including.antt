@@ -1,0 +1,57 @@
+-- Includes (document 01, "Includes"; Xlib 15.1, IncludeFile; `parse_data_with_base_directory`): all that a reading meets, in text
+-- order and without limits, from main text and archive alone.
+use mathlib.Core.List.{List, [], _∷_, _++_}
+use mathlib.Core.Option.{Option, some, none}
+use Prim.Native.Nat.{ℕ, zero, suc}
+use Rattle.definition.specs.Archive.{File, bodyOf, folderOf, pathOf}
+use Rattle.definition.specs.Text.{Entry, Line, skipped, include, entry, linesOf}
+
+-- a chain of includes: the names of the files being read, outermost first; none for the main text
+abbrev pub Chain : Type 0
+Chain = List (List ℕ)
+
+-- document 01's open, with the chain that ends in the file opened; and an entry, with the chain of its line
+pub data Event : Type 0 where
+  opened : Chain → Event
+  entered : Chain → Entry → Event
+
+-- the lines of a text with that chain, where `including` reads an include; its events stand at the include's place
+unfoldable pub eventsOf : (List ℕ → List Event) → Chain → List Line → List Event
+eventsOf including chain [] = []
+eventsOf including chain (skipped ∷ ls) = eventsOf including chain ls
+eventsOf including chain (include n ∷ ls) = including n ++ eventsOf including chain ls
+eventsOf including chain (entry e ∷ ls) = entered chain e ∷ eventsOf including chain ls
+
+-- a file that was looked for, if it is there
+unfoldable pub opening : Chain → (List ℕ → List Event) → Option (List ℕ) → List Event
+opening chain reading none = []
+opening chain reading (some body) = opened chain ∷ reading body
+
+-- an include of n from a text in `folder` with that chain; d depths are left below that text, and with none the include adds nothing
+unfoldable pub including : ℕ → List File → List ℕ → Chain → List ℕ → List Event
+including zero fs folder chain n = []
+including (suc d) fs folder chain n =
+    let file = pathOf folder n in
+    let below = chain ++ file ∷ [] in
+    opening below (λ body. eventsOf (including d fs (folderOf file) below) below (linesOf body)) (bodyOf fs file)
+
+-- the main text: its folder and its chain are empty
+unfoldable pub events : ℕ → List File → List ℕ → List Event
+events depth fs text = eventsOf (including depth fs [] []) [] (linesOf text)
+
+-- ---- Of what a reading meets
+
+pub record Entered : Type 0 where
+  pub chain : Chain
+  pub entry : Entry
+
+-- each entry with its chain of includes
+unfoldable pub entriesOf : List Event → List Entered
+entriesOf [] = []
+entriesOf (opened ch ∷ es) = entriesOf es
+entriesOf (entered ch e ∷ es) = record { chain = ch; entry = e } ∷ entriesOf es
+
+unfoldable pub opensOf : List Event → ℕ
+opensOf [] = 0
+opensOf (opened ch ∷ es) = suc (opensOf es)
+opensOf (entered ch e ∷ es) = opensOf es

@@ -1,0 +1,47 @@
+-- Document 01's limits, each under a name.
+use Prim.Native.Nat.{ℕ, _+_, _*_}
+
+-- main text and archive, in bytes
+abbrev pub textBytes : ℕ
+textBytes = 32768
+
+abbrev pub archiveBytes : ℕ
+archiveBytes = 65536
+
+abbrev pub archiveFiles : ℕ
+archiveFiles = 64
+
+abbrev pub fileNameBytes : ℕ
+fileNameBytes = 96
+
+-- the deepest text that is read; the main text is at depth 0 (Xlib has the same number; the manual is silent)
+abbrev pub deepest : ℕ
+deepest = 100
+
+abbrev pub mostOpens : ℕ
+mostOpens = 4096
+
+abbrev pub mostEntries : ℕ
+mostEntries = 512
+
+abbrev pub mostParts : ℕ
+mostParts = 16
+
+-- keys and values together, and the bytes of the lent bodies
+abbrev pub bodyBytes : ℕ
+bodyBytes = 32768
+
+-- the words of an entry's row: start, key length, value length
+abbrev pub rowWords : ℕ
+rowWords = 3
+
+-- the words of the lent contents
+abbrev pub contentsWords : ℕ
+contentsWords = 2 + rowWords * mostEntries
+
+-- of a query's name or class
+abbrev pub queryBytes : ℕ
+queryBytes = 1024
+
+abbrev pub queryParts : ℕ
+queryParts = 32

@@ -1,0 +1,101 @@
+-- What the buyer's third term says, in its words; the crate `laws` proves it of the definition.
+use mathlib.Core.Bool.{Bool, true, false, not}
+use mathlib.Core.List.{List, [], _∷_}
+use mathlib.Core.Logic.{_↔_, _⊎_}
+use mathlib.Core.Option.{Option}
+use mathlib.Core.Path.{_≡_}
+use Prim.Native.Nat.{ℕ, _<_}
+use lib.ListN.{length, getD}
+use Rattle.definition.specs.Lists.{any, filter, same}
+use Rattle.definition.specs.Archive.{File, filesOf, struckOff}
+use Rattle.definition.specs.Text.{Part}
+use Rattle.definition.specs.Including.{Chain, Entered}
+use Rattle.definition.specs.Image.{tooShort}
+use Rattle.definition.specs.Reading.{Answer, accepted, refused, Outcome, reading, readEntries, plain}
+use Rattle.definition.specs.Query.{Query, positions, malformed, pastLimit, queryOf}
+use Rattle.definition.specs.Matching.{Beats}
+use Rattle.definition.specs.Lookup.{keysOf, answerOf, getBytes, answerIn}
+
+-- an entry came through a file if that file is on its chain of includes
+unfoldable pub cameThrough : List ℕ → Entered → Bool
+cameThrough file x = any (same file) (x .chain)
+
+-- the entries once all that came through that file are left out
+abbrev pub leftWithout : List ℕ → List Entered → List Entered
+leftWithout file xs = filter (λ x. not (cameThrough file x)) xs
+
+-- entry i beats the rest; of a malformed query nothing aligns
+abbrev pub BeatsRest : List Entered → Query → ℕ → Type 0
+BeatsRest xs (positions qs) i = Beats (keysOf (plain xs)) qs i
+BeatsRest xs malformed i = ⊥
+BeatsRest xs (pastLimit k) i = ⊥
+
+abbrev pub entryNumber : List Entered → ℕ → Entered
+entryNumber xs i = getD xs i (record { chain = []; entry = record { parts = []; value = [] } })
+
+module _ (file : List ℕ) (xs : List Entered) (q : Query) where
+  -- no entry that came through that file beats the rest
+  abbrev pub NoneThroughBeats : Type 0
+  NoneThroughBeats = (i : ℕ) → BeatsRest xs q i → cameThrough file (entryNumber xs i) ≡ false
+
+  -- or one does, some entry beats the rest once all that came through that file are left out, and both carry the very same bytes
+  pub record SameBytesWithout : Type 0 where
+    pub winner : ℕ
+    pub beats : BeatsRest xs q winner
+    pub through : cameThrough file (entryNumber xs winner) ≡ true
+    pub other : ℕ
+    pub beatsLeft : BeatsRest (leftWithout file xs) q other
+    pub sameBytes : entryNumber xs winner .entry .value ≡ entryNumber (leftWithout file xs) other .entry .value
+
+abbrev pub isAccepted : Answer → Bool
+isAccepted (accepted entries opens) = true
+isAccepted (refused k) = false
+
+-- a main text, an archive, the number of a file on it, a query's name and class, and the buffers lent to each reading
+pub record Case : Type 0 where
+  pub text : List ℕ
+  pub archive : List ℕ
+  pub file : ℕ
+  pub name : List ℕ
+  pub class : List ℕ
+  pub contents : List ℕ
+  pub bodies : List ℕ
+  pub contents′ : List ℕ
+  pub bodies′ : List ℕ
+
+module _ (c : Case) where
+  abbrev pub query : Query
+  query = queryOf (c .name) (c .class)
+
+  abbrev pub fileName : List ℕ
+  fileName = getD (filesOf (c .archive)) (c .file) (record { name = []; body = [] }) .name
+
+  -- with the file on the archive, and with it struck off
+  abbrev pub withFile : Outcome
+  withFile = reading (c .text) (c .archive) (c .contents) (c .bodies)
+
+  abbrev pub withoutFile : Outcome
+  withoutFile = reading (c .text) (struckOff (c .file) (c .archive)) (c .contents′) (c .bodies′)
+
+  pub record Given : Type 0 where
+    pub fileOnIt : c .file < length (filesOf (c .archive))
+    pub withinLimits : (k : ℕ) → query ≡ pastLimit k → ⊥
+    pub longEnough : tooShort (c .contents) (c .bodies) ≡ false
+    pub longEnough′ : tooShort (c .contents′) (c .bodies′) ≡ false
+    pub isRead : isAccepted (withFile .answer) ≡ true
+
+  -- the query looked up in what each reading left: bytes or none
+  abbrev pub lookedUp : Outcome → Option (List ℕ)
+  lookedUp o = answerIn (o .bodies) (getBytes (o .contents) (o .bodies) (c .name) (c .class))
+
+  -- the answer that the definition gives for the main text and an archive
+  abbrev pub defined : List ℕ → Option (List ℕ)
+  defined archive = answerOf (plain (readEntries (c .text) archive)) query
+
+  pub record ThirdTerm : Type 0 where
+    pub isReadToo : isAccepted (withoutFile .answer) ≡ true
+    pub firstAnswer : lookedUp withFile ≡ defined (c .archive)
+    pub secondAnswer : lookedUp withoutFile ≡ defined (struckOff (c .file) (c .archive))
+    pub equalJustWhen : (lookedUp withFile ≡ lookedUp withoutFile)
+        ↔ (NoneThroughBeats fileName (readEntries (c .text) (c .archive)) query
+        ⊎ SameBytesWithout fileName (readEntries (c .text) (c .archive)) query)
