@@ -1,0 +1,11 @@
+-- Laws of the definition, each layer from those above it.
+pub mod Lists
+pub mod Parsing
+pub mod Archive
+pub mod Struck
+pub mod Limits
+pub mod Keys
+pub mod Image
+pub mod Ranking
+pub mod Lookup
+pub mod ThirdTerm
