@@ -4,6 +4,7 @@ pub mod Parsing
 pub mod Archive
 pub mod Struck
 pub mod Limits
+pub mod Reading
 pub mod Keys
 pub mod Image
 pub mod Ranking

@@ -1,5 +1,5 @@
 -- Laws of the words for lists. Assumes nothing.
-use mathlib.Core.Bool.{Bool, true, false, _&&_, not}
+use mathlib.Core.Bool.{Bool, true, false, _&&_, _||_, not, or-assoc}
 use mathlib.Core.List.{List, [], _∷_, _++_}
 use mathlib.Core.Path.{_≡_, refl, sym, ap, _∙_}
 use Prim.Native.Nat.{ℕ, zero, suc, _+_, _≤_, _<_}
@@ -158,3 +158,21 @@ module _ {A : Type 0} (p : A → Bool) where
   dropWhile-append (x ∷ xs) ys h =
       let a = and-true (p x) (all p xs) h in
       rw (a .0) (dropWhile-append xs ys (a .1))
+
+-- ---- Tests of a whole list
+
+module _ {A : Type 0} (p : A → Bool) where
+  pub any-append : (xs ys : List A) → any p (xs ++ ys) ≡ (any p xs || any p ys)
+  unfolding any
+  any-append [] ys = refl
+  any-append (x ∷ xs) ys = rw (any-append xs ys) (sym (or-assoc (p x) (any p xs) (any p ys)))
+
+  pub filter-append : (xs ys : List A) → filter p (xs ++ ys) ≡ filter p xs ++ filter p ys
+  unfolding filter
+  filter-append [] ys = refl
+  filter-append (x ∷ xs) ys = at (p x) (filter-append xs ys)
+    where
+      at : (b : Bool) → filter p (xs ++ ys) ≡ filter p xs ++ filter p ys
+          → (if b then x ∷ filter p (xs ++ ys) else filter p (xs ++ ys)) ≡ (if b then x ∷ filter p xs else filter p xs) ++ filter p ys
+      at true ih = ap (λ (l : List A). x ∷ l) ih
+      at false ih = ih

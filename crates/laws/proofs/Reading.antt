@@ -1,0 +1,131 @@
+-- What an accepted reading is, and what holds of all that a reading gives. Assumes nothing.
+use mathlib.Core.Bool.{Bool, true, false, _&&_, not}
+use mathlib.Core.List.{List, [], _∷_, _++_, map}
+use mathlib.Core.Option.{Option, some, none}
+use mathlib.Core.Path.{_≡_, refl, sym, ap, _∙_}
+use Prim.Native.Nat.{ℕ, zero, suc, _+_, _≤_, _<_}
+use native.Mathlib.Omega.{arith}
+use lib.Dec.{leb, ltb}
+use lib.ListN.{length}
+use borrow.Author.Tests.{ltb-false, le-ltb, le-leb}
+use Rattle.definition.specs.Lists.{if_then_else_, all}
+use Rattle.definition.specs.Limits.{textBytes, mostParts}
+use Rattle.definition.specs.Archive.{File, laidOut, filesOf, bodyOf, folderOf, pathOf}
+use Rattle.definition.specs.Text.{Entry, Line, skipped, include, entry, linesOf}
+use Rattle.definition.specs.Including.{Chain, Event, opened, entered, eventsOf, opening, including, events, Entered, entriesOf, opensOf}
+use Rattle.definition.specs.Image.{tooShort, imageContents, imageBodies}
+use Rattle.definition.specs.Reading.{
+  Totals,
+  Verdict,
+  within,
+  past,
+  judge,
+  start,
+  Answer,
+  accepted,
+  refused,
+  Outcome,
+  outcome,
+  met,
+  readEntries,
+  plain,
+  left,
+  reading,
+}
+use Rattle.definition.specs.ThirdTerm.{isAccepted}
+use Rattle.laws.proofs.Lists.{not-both, and-true, and-both}
+use Rattle.laws.proofs.Limits.{InLimits, FewParts, judge-limits, limits-judge, totalsFrom}
+
+-- ---- An accepted reading
+
+pub record Reads (text archive contents bodies : List ℕ) : Type 0 where
+  pub long : tooShort contents bodies ≡ false
+  pub fits : length text ≤ textBytes
+  pub isLaidOut : laidOut archive ≡ true
+  pub limits : InLimits start (met text archive)
+
+not-refused : (b : Bool) (k : ℕ) (c d : List ℕ) (o : Outcome) → isAccepted ((if b then outcome (refused k) c d else o) .answer) ≡ true
+    → (b ≡ false) × (isAccepted (o .answer) ≡ true)
+not-refused true k c d o e = absurd (not-both e refl)
+not-refused false k c d o e = (refl, e)
+
+judged : (v : Verdict) (es : List Entry) (c b : List ℕ) → isAccepted (left v es c b .answer) ≡ true → (s : Totals) × (v ≡ within s)
+unfolding left
+judged (within s) es c b e = (s, refl)
+judged (past k) es c b e = absurd (not-both e refl)
+
+not-not : (b : Bool) → not b ≡ false → b ≡ true
+not-not true e = refl
+not-not false e = sym e
+
+module _ (text archive contents bodies : List ℕ) where
+  pub accepted-reads : isAccepted (reading text archive contents bodies .answer) ≡ true → Reads text archive contents bodies
+  unfolding reading
+  accepted-reads e =
+      let a = not-refused (tooShort contents bodies) 1 contents bodies _ e in
+      let b = not-refused (ltb textBytes (length text)) 2 contents bodies _ (a .1) in
+      let c = not-refused (not (laidOut archive)) 3 contents bodies _ (b .1) in
+      let d = judged (judge start (met text archive)) (plain (readEntries text archive)) contents bodies (c .1) in
+      record {
+        long = a .0;
+        fits = ltb-false textBytes (length text) (b .0);
+        isLaidOut = not-not (laidOut archive) (c .0);
+        limits = judge-limits (met text archive) start (d .0) (omega arith) (omega arith) (omega arith) (d .1) .1;
+      }
+
+  -- it leaves the image of its entries
+  pub reads-outcome : Reads text archive contents bodies
+      → reading text archive contents bodies
+      ≡ outcome (accepted (0 + length (readEntries text archive)) (0 + opensOf (met text archive)))
+      (imageContents (plain (readEntries text archive)) contents) (imageBodies (plain (readEntries text archive)) bodies)
+  unfolding reading left
+  reads-outcome r =
+      rw (r .long, le-ltb textBytes (length text) (r .fits), r .isLaidOut, limits-judge (met text archive) start (r .limits)) refl
+
+-- ---- What holds of every line's entry holds of every entry read
+
+module _ (good : Entry → Bool) (test : Line → Bool) (agrees : (e : Entry) → test (entry e) ≡ good e) (lines-pass : (t : List ℕ) → all test (linesOf t) ≡ true) where
+  abbrev Good : List Event → Type 0
+  Good es = all good (plain (entriesOf es)) ≡ true
+
+  good-append : (xs ys : List Event) → Good xs → Good ys → Good (xs ++ ys)
+  unfolding entriesOf all
+  good-append [] ys h k = k
+  good-append (opened ch ∷ xs) ys h k = good-append xs ys h k
+  good-append (entered ch e ∷ xs) ys h k =
+      let a = and-true (good e) (all good (plain (entriesOf xs))) h in
+      and-both (a .0) (good-append xs ys (a .1) k)
+
+  eventsOf-good : (inc : List ℕ → List Event) (ch : Chain) (ls : List Line) → ((n : List ℕ) → Good (inc n)) → all test ls ≡ true → Good (eventsOf inc ch ls)
+  unfolding eventsOf entriesOf all
+  eventsOf-good inc ch [] f h = refl
+  eventsOf-good inc ch (skipped ∷ ls) f h = eventsOf-good inc ch ls f (and-true (test skipped) (all test ls) h .1)
+  eventsOf-good inc ch (include n ∷ ls) f h =
+      good-append (inc n) (eventsOf inc ch ls) (f n) (eventsOf-good inc ch ls f (and-true (test (include n)) (all test ls) h .1))
+  eventsOf-good inc ch (entry e ∷ ls) f h =
+      let a = and-true (test (entry e)) (all test ls) h in
+      and-both (sym (agrees e) ∙ a .0) (eventsOf-good inc ch ls f (a .1))
+
+  opening-good : (ch : Chain) (r : List ℕ → List Event) (o : Option (List ℕ)) → ((b : List ℕ) → Good (r b)) → Good (opening ch r o)
+  unfolding opening entriesOf all
+  opening-good ch r none f = refl
+  opening-good ch r (some b) f = f b
+
+  including-good : (d : ℕ) (fs : List File) (folder : List ℕ) (ch : Chain) (n : List ℕ) → Good (including d fs folder ch n)
+  unfolding including entriesOf all
+  including-good zero fs folder ch n = refl
+  including-good (suc d) fs folder ch n =
+      let g = pathOf folder n in
+      opening-good (ch ++ g ∷ []) _ (bodyOf fs g)
+      (λ b. eventsOf-good (including d fs (folderOf g) (ch ++ g ∷ [])) (ch ++ g ∷ []) (linesOf b) (λ m. including-good d fs (folderOf g) (ch ++ g ∷ []) m) (lines-pass b))
+
+  pub events-good : (d : ℕ) (fs : List File) (t : List ℕ) → all good (plain (entriesOf (events d fs t))) ≡ true
+  unfolding events
+  events-good d fs t = eventsOf-good (including d fs [] []) [] (linesOf t) (λ n. including-good d fs [] [] n) (lines-pass t)
+
+-- each entry of a reading within the limits has few enough parts
+pub few-parts : (es : List Event) → FewParts es → all (λ (e : Entry). leb (length (e .parts)) mostParts) (plain (entriesOf es)) ≡ true
+unfolding FewParts entriesOf all
+few-parts [] h = refl
+few-parts (opened ch ∷ es) h = few-parts es h
+few-parts (entered ch e ∷ es) h = and-both (le-leb (length (e .parts)) mostParts (h .0)) (few-parts es (h .1))
