@@ -1,12 +1,12 @@
 -- Laws of the words for lists. Assumes nothing.
 use mathlib.Core.Bool.{Bool, true, false, _&&_, _||_, not, or-assoc}
-use mathlib.Core.List.{List, [], _∷_, _++_}
+use mathlib.Core.List.{List, [], _∷_, _++_, map}
 use mathlib.Core.Path.{_≡_, refl, sym, ap, _∙_}
 use Prim.Native.Nat.{ℕ, zero, suc, _+_, _≤_, _<_}
 use native.Mathlib.Omega.{arith}
 use native.Mathlib.Decide.{decLt}
 use lib.Dec.{eqb, ltb}
-use lib.ListN.{length, take, drop}
+use lib.ListN.{length, getD, take, drop}
 use borrow.Author.Tests.{eqb-true, eq-eqb, lt-ltb, le-ltb}
 use Rattle.definition.specs.Lists.{if_then_else_, all, any, takeWhile, dropWhile, filter, isEmpty, orElse, same, lower}
 
@@ -176,3 +176,91 @@ module _ {A : Type 0} (p : A → Bool) where
           → (if b then x ∷ filter p (xs ++ ys) else filter p (xs ++ ys)) ≡ (if b then x ∷ filter p xs else filter p xs) ++ filter p ys
       at true ih = ap (λ (l : List A). x ∷ l) ih
       at false ih = ih
+
+-- ---- Neither below the other
+
+pub not-lower-equal : (xs ys : List ℕ) → lower xs ys ≡ false → lower ys xs ≡ false → xs ≡ ys
+unfolding lower
+not-lower-equal [] [] p q = refl
+not-lower-equal [] (y ∷ ys) p q = absurd (not-both refl p)
+not-lower-equal (x ∷ xs) [] p q = absurd (not-both refl q)
+not-lower-equal (x ∷ xs) (y ∷ ys) p q = at (order x y) (not-lower-equal xs ys)
+  where
+    at : Order x y → (lower xs ys ≡ false → lower ys xs ≡ false → xs ≡ ys) → x ∷ xs ≡ y ∷ ys
+    at (below h) ih = absurd (not-both (lower-below x y xs ys h) p)
+    at (equal h) ih = rw (h, ih (sym (lower-equal x y xs ys h) ∙ p) (sym (lower-equal y x ys xs (sym h)) ∙ q)) refl
+    at (above h) ih = absurd (not-both (lower-below y x ys xs h) q)
+
+-- ---- Places in a list, and after a filter
+
+pub getD-map : {A B : Type 0} (f : A → B) (xs : List A) (i : ℕ) (d : A) (e : B) → i < length xs → getD (map f xs) i e ≡ f (getD xs i d)
+getD-map f [] i d e h = absurd (omega arith)
+getD-map f (x ∷ xs) zero d e h = refl
+getD-map f (x ∷ xs) (suc i) d e h = getD-map f xs i d e (omega arith)
+
+-- ys are elements of xs in their order, every kept one among them: place says where in xs each stands
+pub record Places {A : Type 0} (keep : A → Bool) (d : A) (ys xs : List A) : Type 0 where
+  pub place : ℕ → ℕ
+  pub rises : (j k : ℕ) → j < k → place j < place k
+  pub inside : (k : ℕ) → k < length ys → place k < length xs
+  pub element : (k : ℕ) → getD ys k d ≡ getD xs (place k) d
+  pub back : (i : ℕ) → i < length xs → keep (getD xs i d) ≡ true → (k : ℕ) × (k < length ys) × (place k ≡ i)
+
+-- a new first stays first, and the rest stand one further on
+lifted : (ℕ → ℕ) → ℕ → ℕ
+lifted f zero = zero
+lifted f (suc k) = suc (f k)
+
+module _ {A : Type 0} (keep : A → Bool) (d : A) where
+  none-yet : Places keep d [] []
+  none-yet = record {
+    place = λ k. k;
+    rises = λ j k h. h;
+    inside = λ k h. h;
+    element = λ k. refl;
+    back = λ i h e. absurd (omega arith);
+  }
+
+  one-more : (x : A) (ys xs : List A) → Places keep d ys xs → Places keep d (x ∷ ys) (x ∷ xs)
+  unfolding lifted
+  one-more x ys xs p = record { place = lifted (p .place); rises = rises; inside = inside; element = element; back = back }
+    where
+      rises : (j k : ℕ) → j < k → lifted (p .place) j < lifted (p .place) k
+      rises zero zero h = absurd (omega arith)
+      rises zero (suc k) h = omega arith
+      rises (suc j) zero h = absurd (omega arith)
+      rises (suc j) (suc k) h = omega (arith, p .rises j k (omega arith))
+
+      inside : (k : ℕ) → k < suc (length ys) → lifted (p .place) k < suc (length xs)
+      inside zero h = omega arith
+      inside (suc k) h = omega (arith, p .inside k (omega arith))
+
+      element : (k : ℕ) → getD (x ∷ ys) k d ≡ getD (x ∷ xs) (lifted (p .place) k) d
+      element zero = refl
+      element (suc k) = p .element k
+
+      back : (i : ℕ) → i < suc (length xs) → keep (getD (x ∷ xs) i d) ≡ true → (k : ℕ) × (k < suc (length ys)) × (lifted (p .place) k ≡ i)
+      back zero h e = (0, omega arith, refl)
+      back (suc i) h e = let r = p .back i (omega arith) e in (suc (r .0), omega (arith, r .1), ap suc (r .2))
+
+  one-less : (x : A) (ys xs : List A) → keep x ≡ false → Places keep d ys xs → Places keep d ys (x ∷ xs)
+  one-less x ys xs e p = record {
+    place = λ k. suc (p .place k);
+    rises = λ j k h. omega (arith, p .rises j k h);
+    inside = λ k h. omega (arith, p .inside k h);
+    element = p .element;
+    back = back;
+  }
+    where
+      back : (i : ℕ) → i < suc (length xs) → keep (getD (x ∷ xs) i d) ≡ true → (k : ℕ) × (k < length ys) × (suc (p .place k) ≡ i)
+      back zero h f = absurd (not-both f e)
+      back (suc i) h f = let r = p .back i (omega arith) f in (r .0, r .1, ap suc (r .2))
+
+  pub places : (xs : List A) → Places keep d (filter keep xs) xs
+  unfolding filter
+  places [] = none-yet
+  places (x ∷ xs) = at (keep x) refl (places xs)
+    where
+      at : (b : Bool) → keep x ≡ b → Places keep d (filter keep xs) xs → Places keep d (if b then x ∷ filter keep xs else filter keep xs) (x ∷ xs)
+      at true e p = one-more x (filter keep xs) xs p
+      at false e p = one-less x (filter keep xs) xs e p
