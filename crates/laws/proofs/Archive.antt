@@ -16,7 +16,7 @@ use Rattle.laws.proofs.Lists.{and-true, and-both, same-eq, same-refl, l
 
 -- ---- The files of the bytes of files
 
-halves : (n : ℕ) → n % 256 + 256 * (n / 256) ≡ n
+pub halves : (n : ℕ) → n % 256 + 256 * (n / 256) ≡ n
 halves n = omega arith
 
 pub length-lengths : (fs : List File) → length (lengthsOf fs) ≡ 4 * length fs
@@ -40,11 +40,15 @@ files-from (f ∷ fs) xs =
       files-from fs xs,
     ) refl
 
+-- after the number of files and their lengths
+pub archive-bodies : (fs : List File) → drop (2 + 4 * length fs) (archiveOf fs) ≡ bodiesOf fs
+unfolding archiveOf
+archive-bodies fs =
+    drop-at (length fs % 256 ∷ length fs / 256 ∷ lengthsOf fs) (bodiesOf fs) (2 + 4 * length fs) (omega (arith, length-lengths fs))
+
 pub files-archive : (fs : List File) → filesOf (archiveOf fs) ≡ fs
 unfolding filesOf archiveOf
-files-archive fs =
-    rw (halves (length fs), drop-at (length fs % 256 ∷ length fs / 256 ∷ lengthsOf fs) (bodiesOf fs) (2 + 4 * length fs) (omega (arith, length-lengths fs)))
-    (files-from fs (bodiesOf fs))
+files-archive fs = rw (halves (length fs), archive-bodies fs) (files-from fs (bodiesOf fs))
 
 -- ---- What the test of an archive says
 

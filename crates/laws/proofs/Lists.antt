@@ -161,6 +161,12 @@ module _ {A : Type 0} (p : A → Bool) where
 
 -- ---- One element left out, and elements that all pass a test
 
+-- two tests that pass together are the same
+pub both-ways : (a b : Bool) → (a ≡ true → b ≡ true) → (b ≡ true → a ≡ true) → a ≡ b
+both-ways true b p q = sym (p refl)
+both-ways false true p q = q refl
+both-ways false false p q = refl
+
 pub lower-differ : (xs ys : List ℕ) → lower xs ys ≡ true → same xs ys ≡ false
 lower-differ xs ys h = at (same xs ys) refl
   where
