@@ -2,6 +2,7 @@
 pub mod Lists
 pub mod Parsing
 pub mod Archive
+pub mod Walked
 pub mod Struck
 pub mod Limits
 pub mod Reading

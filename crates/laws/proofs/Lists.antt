@@ -7,6 +7,8 @@ use native.Mathlib.Omega.{arith}
 use native.Mathlib.Decide.{decLt}
 use lib.Dec.{eqb, ltb}
 use lib.ListN.{length, getD, take, drop}
+
+use lib.ListN.{length, take, drop, getD}
 use borrow.Author.Tests.{eqb-true, eq-eqb, lt-ltb, le-ltb}
 use Rattle.definition.specs.Lists.{if_then_else_, all, any, takeWhile, dropWhile, filter, isEmpty, orElse, same, lower}
 
@@ -264,3 +266,53 @@ module _ {A : Type 0} (keep : A → Bool) (d : A) where
       at : (b : Bool) → keep x ≡ b → Places keep d (filter keep xs) xs → Places keep d (if b then x ∷ filter keep xs else filter keep xs) (x ∷ xs)
       at true e p = one-more x (filter keep xs) xs p
       at false e p = one-less x (filter keep xs) xs e p
+
+-- ---- One element left out, and elements that all pass a test
+
+-- two tests that pass together are the same
+pub both-ways : (a b : Bool) → (a ≡ true → b ≡ true) → (b ≡ true → a ≡ true) → a ≡ b
+both-ways true b p q = sym (p refl)
+both-ways false true p q = q refl
+both-ways false false p q = refl
+
+pub lower-differ : (xs ys : List ℕ) → lower xs ys ≡ true → same xs ys ≡ false
+lower-differ xs ys h = at (same xs ys) refl
+  where
+    at : (b : Bool) → same xs ys ≡ b → b ≡ false
+    at true e = absurd (not-both h (rw (same-eq xs ys e) (lower-irrefl ys)))
+    at false e = refl
+
+pub same-sym : (xs ys : List ℕ) → same xs ys ≡ false → same ys xs ≡ false
+same-sym xs ys h = at (same ys xs) refl
+  where
+    at : (b : Bool) → same ys xs ≡ b → b ≡ false
+    at true e = absurd (not-both (eq-same xs ys (sym (same-eq ys xs e))) h)
+    at false e = refl
+
+module _ {A : Type 0} (p : A → Bool) where
+  pub all-getD : (xs : List A) (j : ℕ) (d : A) → all p xs ≡ true → j < length xs → p (getD xs j d) ≡ true
+  unfolding all
+  all-getD [] j d h k = absurd (omega arith)
+  all-getD (x ∷ xs) zero d h k = and-true (p x) (all p xs) h .0
+  all-getD (x ∷ xs) (suc j) d h k = all-getD xs j d (and-true (p x) (all p xs) h .1) (omega arith)
+
+  pub all-map : {B : Type 0} (f : B → A) (xs : List B) → all p (map f xs) ≡ all (λ x. p (f x)) xs
+  unfolding all
+  all-map f [] = refl
+  all-map f (x ∷ xs) = rw (all-map f xs) refl
+
+module _ {A : Type 0} where
+  pub all-without : (p : A → Bool) (j : ℕ) (xs : List A) → all p xs ≡ true → all p (take j xs ++ drop (suc j) xs) ≡ true
+  unfolding all
+  all-without p zero [] h = h
+  all-without p zero (x ∷ xs) h = and-true (p x) (all p xs) h .1
+  all-without p (suc j) [] h = h
+  all-without p (suc j) (x ∷ xs) h =
+      let a = and-true (p x) (all p xs) h in
+      and-both (a .0) (all-without p j xs (a .1))
+
+  pub length-without : (j : ℕ) (xs : List A) → j < length xs → suc (length (take j xs ++ drop (suc j) xs)) ≡ length xs
+  length-without zero [] h = absurd (omega arith)
+  length-without zero (x ∷ xs) h = refl
+  length-without (suc j) [] h = absurd (omega arith)
+  length-without (suc j) (x ∷ xs) h = ap suc (length-without j xs (omega arith))
