@@ -32,12 +32,18 @@ use Rattle.definition.specs.Text.{
   assigned,
   resourceOf,
   Line,
+  skipped,
+  include,
+  entry,
+  includeOf,
+  directiveOf,
+  linesOf,
   lineAt,
 }
 use Rattle.definition.specs.Image.{storedPartAt}
 use Rattle.definition.specs.Query.{queryPartAt}
 use Rattle.definition.specs.Value.{Range, table, afterRow, firstRow, character, characterAt}
-use Rattle.laws.proofs.Lists.{not-both, and-true, dropWhile-le}
+use Rattle.laws.proofs.Lists.{not-both, and-true, and-both, all-takeWhile, dropWhile-le}
 use Rattle.laws.proofs.Parsing.{Shrinks}
 
 -- ---- Legal parts
@@ -247,3 +253,81 @@ line-shrinks = shrinks-from lineAt leaves
         λ e. if-either P (eqb c exclamation) (λ e. omega arith)
         λ k. if-either P (eqb c hash) (λ e. omega arith)
         λ k. resource-leaves c t e (assigned (c ∷ t)) (assigned-length (c ∷ t))
+
+-- ---- What a line and a key give is legal
+
+module _ {A : Type 0} (p : List ℕ → Parse A) (test : A → Bool) (passes : (t : List ℕ) → Finds (λ a u. test a ≡ true) (p t)) where
+  at-most-all : (n : ℕ) (t : List ℕ) → all test (atMost n p t .items) ≡ true
+  unfolding atMost continued all
+  at-most-all zero t = refl
+  at-most-all (suc n) t = at (p t) (passes t) (λ u. at-most-all n u)
+    where
+      at : (r : Parse A) → Finds (λ a u. test a ≡ true) r → ((u : List ℕ) → all test (atMost n p u .items) ≡ true)
+          → all test (continued r (atMost n p) t .items) ≡ true
+      at nothing h ih = refl
+      at (found a u) h ih = and-both h (ih u)
+
+  -- if whatever p finds passes a test, all do
+  pub many-all : (t : List ℕ) → all test (many p t .items) ≡ true
+  unfolding many
+  many-all t = at-most-all (length t) t
+
+component-legal : (b : Binding) (t : List ℕ) → Finds (λ a u. isLegal a ≡ true) (componentAt b t)
+unfolding componentAt isLegal isLegalComponent isEmpty all
+component-legal b [] = tt
+component-legal b (c ∷ t) =
+    let P = Finds {A = Part} (λ a u. isLegal a ≡ true) in
+    if-either P (eqb c question) (λ e. refl)
+    λ e. if-either P (isName c) (λ k. and-both k (all-takeWhile isName t)) λ k. tt
+
+pub parts-legal : (t : List ℕ) → all isLegal (many partAt t .items) ≡ true
+unfolding partAt
+parts-legal = many-all partAt isLegal (λ t. component-legal (bindingOf (takeWhile isBinding t)) (dropWhile isBinding t))
+
+pub stored-parts-legal : (t : List ℕ) → all isLegal (many storedPartAt t .items) ≡ true
+unfolding storedPartAt
+stored-parts-legal = many-all storedPartAt isLegal legal
+  where
+    legal : (t : List ℕ) → Finds (λ a u. isLegal a ≡ true) (storedPartAt t)
+    legal [] = tt
+    legal (c ∷ t) =
+        if-either (Finds {A = Part} (λ a u. isLegal a ≡ true)) (isBinding c) (λ e. component-legal (bindingOf (c ∷ [])) t) λ e. tt
+
+unfoldable pub isLegalLine : Line → Bool
+isLegalLine skipped = true
+isLegalLine (include n) = true
+isLegalLine (entry e) = all isLegal (e .parts) && endsInName (e .parts)
+
+assigned-named : (t : List ℕ) → Gives (λ u. endsInName (many partAt t .items) ≡ true) (assigned t)
+unfolding assigned
+assigned-named t =
+    if-either (Gives (λ (u : List ℕ). endsInName (many partAt t .items) ≡ true)) (endsInName (many partAt t .items))
+    (λ e. at (after (ascii ":") (dropWhile isSpace (many partAt t .rest))) e) λ e. tt
+  where
+    at : (o : Option (List ℕ)) → endsInName (many partAt t .items) ≡ true → Gives (λ u. endsInName (many partAt t .items) ≡ true) o
+    at none e = tt
+    at (some u) e = e
+
+resource-legal : (t : List ℕ) (o : Option (List ℕ)) → Gives (λ u. endsInName (many partAt t .items) ≡ true) o
+    → Finds (λ l u. isLegalLine l ≡ true) (resourceOf t o)
+unfolding resourceOf isLegalLine
+resource-legal t none h = refl
+resource-legal t (some u) h = and-both (parts-legal t) h
+
+directive-legal : (o : Option (List ℕ)) → isLegalLine (directiveOf o) ≡ true
+unfolding directiveOf isLegalLine
+directive-legal none = refl
+directive-legal (some n) = refl
+
+pub lines-legal : (t : List ℕ) → all isLegalLine (linesOf t) ≡ true
+unfolding linesOf lineAt isLegalLine
+lines-legal = many-all lineAt isLegalLine legal
+  where
+    legal : (t : List ℕ) → Finds (λ l u. isLegalLine l ≡ true) (lineAt t)
+    legal [] = tt
+    legal (c ∷ t) =
+        let P = Finds {A = Line} (λ l u. isLegalLine l ≡ true) in
+        if-either P (eqb c newline) (λ e. refl)
+        λ e. if-either P (eqb c exclamation) (λ e. refl)
+        λ e. if-either P (eqb c hash) (λ e. directive-legal (includeOf t))
+        λ e. resource-legal (c ∷ t) (assigned (c ∷ t)) (assigned-named (c ∷ t))
