@@ -6,13 +6,17 @@ use mathlib.Core.Path.{_≡_, refl, sym, ap, subst, _∙_}
 use Prim.Native.Nat.{ℕ, zero, suc, _+_, _≤_, _<_}
 use native.Mathlib.Nat.{le-refl}
 use native.Mathlib.Omega.{arith}
-use lib.Dec.{eqb}
+use lib.Dec.{eqb, leb}
 use lib.ListN.{length, take, drop, length-drop}
-use Rattle.definition.specs.Lists.{if_then_else_, ascii, all, takeWhile, dropWhile, isEmpty, orElse}
+use borrow.Author.Tests.{le-leb, ne-eqb}
+use Rattle.definition.specs.Lists.{if_then_else_, ascii, all, any, takeWhile, dropWhile, isEmpty, orElse}
 use Rattle.definition.specs.Parsing.{Parse, nothing, found, Parsed, parsed, continued, atMost, many, after}
-use Rattle.definition.specs.Bytes.{newline, exclamation, hash, question, backslash, letter-n, dot, isOctal, isName, isBlank, isSpace, isBinding, notNewline, within}
+use Rattle.definition.specs.Limits.{mostParts}
+use Rattle.definition.specs.Bytes.{newline, exclamation, hash, question, backslash, letter-n, dot, isDigit, isOctal, isName, isBlank, isSpace, isBinding, notNewline, within}
 use Rattle.definition.specs.Text.{
   Binding,
+  tight,
+  loose,
   Component,
   wildcard,
   name,
@@ -40,11 +44,11 @@ use Rattle.definition.specs.Text.{
   linesOf,
   lineAt,
 }
-use Rattle.definition.specs.Image.{storedPartAt}
+use Rattle.definition.specs.Image.{bindingByte, componentBytes, keyOf, storedPartAt, keyParts, isKey}
 use Rattle.definition.specs.Query.{queryPartAt}
 use Rattle.definition.specs.Value.{Range, table, afterRow, firstRow, character, characterAt}
-use Rattle.laws.proofs.Lists.{not-both, and-true, and-both, all-takeWhile, dropWhile-le}
-use Rattle.laws.proofs.Parsing.{Shrinks}
+use Rattle.laws.proofs.Lists.{not-both, and-true, and-both, all-takeWhile, dropWhile-le, takeWhile-append, dropWhile-append}
+use Rattle.laws.proofs.Parsing.{Shrinks, many-stop, many-more}
 
 -- ---- Legal parts
 
@@ -331,3 +335,60 @@ lines-legal = many-all lineAt isLegalLine legal
         λ e. if-either P (eqb c exclamation) (λ e. refl)
         λ e. if-either P (eqb c hash) (λ e. directive-legal (includeOf t))
         λ e. resource-legal (c ∷ t) (assigned (c ∷ t)) (assigned-named (c ∷ t))
+
+-- ---- A key reads back
+
+-- a byte that passes a test is none that does not
+passes-not : (test : ℕ → Bool) (c d : ℕ) → test c ≡ true → test d ≡ false → eqb c d ≡ false
+passes-not test c d p q = ne-eqb c d (λ e. not-both p (ap test e ∙ q))
+
+component-reads : (b : Binding) (c : Component) (t : List ℕ) → isLegalComponent c ≡ true → takeWhile isName t ≡ [] → dropWhile isName t ≡ t
+    → componentAt b (componentBytes c ++ t) ≡ found (record { binding = b; component = c }) t
+unfolding componentAt isLegalComponent isEmpty all
+component-reads b wildcard t h p q = refl
+component-reads b (name []) t h p q = absurd (not-both h refl)
+component-reads b (name (d ∷ ds)) t h p q =
+    let k = and-true (isName d) (all isName ds) h in
+    rw (passes-not isName d question (k .0) (unfold isName isDigit in refl), k .0, takeWhile-append isName ds t (k .1) p, dropWhile-append isName ds t (k .1), q) refl
+
+-- a name ends where a key goes on
+key-takes : (ps : List Part) → takeWhile isName (keyOf ps) ≡ []
+unfolding keyOf takeWhile isName isDigit
+key-takes [] = refl
+key-takes (p ∷ ps) = at (p .binding)
+  where
+    at : (b : Binding) → takeWhile isName (bindingByte b ∷ componentBytes (p .component) ++ keyOf ps) ≡ []
+    at tight = refl
+    at loose = refl
+
+key-drops : (ps : List Part) → dropWhile isName (keyOf ps) ≡ keyOf ps
+unfolding keyOf dropWhile isName isDigit
+key-drops [] = refl
+key-drops (p ∷ ps) = at (p .binding)
+  where
+    at : (b : Binding) → let t = bindingByte b ∷ componentBytes (p .component) ++ keyOf ps in dropWhile isName t ≡ t
+    at tight = refl
+    at loose = refl
+
+stored-part-reads : (p : Part) (ps : List Part) → isLegal p ≡ true → storedPartAt (keyOf (p ∷ ps)) ≡ found p (keyOf ps)
+unfolding storedPartAt keyOf isLegal bindingOf isBinding any
+stored-part-reads p ps h = at (p .binding)
+  where
+    at : (b : Binding) → storedPartAt (bindingByte b ∷ componentBytes (p .component) ++ keyOf ps) ≡ found (record { binding = b; component = p .component }) (keyOf ps)
+    at tight = component-reads tight (p .component) (keyOf ps) h (key-takes ps) (key-drops ps)
+    at loose = component-reads loose (p .component) (keyOf ps) h (key-takes ps) (key-drops ps)
+
+pub key-parts : (ps : List Part) → all isLegal ps ≡ true → many storedPartAt (keyOf ps) ≡ parsed ps []
+unfolding all
+key-parts [] h = unfold keyOf in many-stop storedPartAt stored-part-shrinks [] (unfold storedPartAt in refl)
+key-parts (p ∷ ps) h =
+    let k = and-true (isLegal p) (all isLegal ps) h in
+    let q : many storedPartAt (keyOf ps) ≡ parsed ps [] = key-parts ps (k .1) in
+    many-more storedPartAt stored-part-shrinks (keyOf (p ∷ ps)) p (keyOf ps) (stored-part-reads p ps (k .0))
+    ∙ (λ i. parsed (p ∷ q i .items) (q i .rest))
+
+pub is-key : (ps : List Part) → all isLegal ps ≡ true → length ps ≤ mostParts → endsInName ps ≡ true → isKey (keyOf ps) ≡ true
+unfolding isKey isEmpty
+is-key ps h k e =
+    ap (λ (r : Parsed Part). isEmpty (r .rest) && leb (length (r .items)) mostParts && endsInName (r .items)) (key-parts ps h)
+    ∙ and-both (le-leb (length ps) mostParts k) e
