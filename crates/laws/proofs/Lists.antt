@@ -7,6 +7,7 @@ use native.Mathlib.Omega.{arith}
 use native.Mathlib.Decide.{decLt}
 use lib.Dec.{eqb, ltb}
 use lib.ListN.{length, take, drop}
+use lib.Seq.{slice, take-append-add, take-append-seam, drop-append-seam}
 use borrow.Author.Tests.{eqb-true, eq-eqb, lt-ltb, le-ltb}
 use Rattle.definition.specs.Lists.{if_then_else_, all, any, takeWhile, dropWhile, filter, isEmpty, orElse, same, lower}
 
@@ -158,3 +159,10 @@ module _ {A : Type 0} (p : A → Bool) where
   dropWhile-append (x ∷ xs) ys h =
       let a = and-true (p x) (all p xs) h in
       rw (a .0) (dropWhile-append xs ys (a .1))
+
+-- ---- A part in the middle
+
+module _ {A : Type 0} where
+  pub slice-at : (xs ys zs : List A) (n m : ℕ) → length xs ≡ n → n + length ys ≡ m → slice n m (xs ++ (ys ++ zs)) ≡ ys
+  slice-at xs ys zs n m h k =
+      rw (← k, ← h, take-append-add xs (ys ++ zs) (length ys), take-append-seam ys zs) (drop-append-seam xs ys)
