@@ -1,42 +1,17 @@
 -- Laws of the image: written from entries, it is an image and gives the entries back. Assumes nothing.
 use mathlib.Core.Bool.{Bool, true, false, _&&_, _||_, not}
 use mathlib.Core.List.{List, [], _∷_, _++_, append-assoc}
-use mathlib.Core.Path.{_≡_, refl, sym, ap, _∙_}
-use Prim.Native.Nat.{ℕ, zero, suc, _+_, _*_, _-_, _≤_, _<_}
+use mathlib.Core.Path.{_≡_, refl, ap, _∙_}
+use Prim.Native.Nat.{ℕ, _+_, _*_, _-_, _≤_}
 use native.Mathlib.Omega.{arith}
-use lib.Dec.{eqb, leb, ltb}
-use lib.ListN.{length, take, drop, length-append, length-drop, length-replicate}
-use lib.Seq.{slice}
-use borrow.Author.Tests.{ltb-false, leb-true, le-leb, le-ltb, eq-eqb}
-use Rattle.definition.specs.Lists.{if_then_else_, all, zeroes, beyond}
-use Rattle.definition.specs.Parsing.{Parsed, many}
+use lib.Dec.{leb, ltb}
+use lib.ListN.{length, length-append, length-drop, length-replicate}
+use borrow.Author.Tests.{ltb-false, leb-true, le-leb, eq-eqb}
+use Rattle.definition.specs.Lists.{all, zeroes, beyond}
+use Rattle.definition.specs.Parsing.{Parsed}
 use Rattle.definition.specs.Limits.{contentsWords, bodyBytes, rowWords, mostEntries, mostParts}
 use Rattle.definition.specs.Text.{Part, Entry, endsInName}
-use Rattle.definition.specs.Image.{
-  keyOf,
-  rowsOf,
-  storeOf,
-  contentsOf,
-  writtenOver,
-  imageContents,
-  imageBodies,
-  Row,
-  rowsFrom,
-  usedOf,
-  countOf,
-  rowsIn,
-  valueEnd,
-  keyAt,
-  valueAt,
-  keyParts,
-  storedPartAt,
-  entryAt,
-  entriesIn,
-  isKey,
-  packed,
-  tooShort,
-  isImage,
-}
+use Rattle.definition.specs.Image.{keyOf, rowsOf, storeOf, contentsOf, writtenOver, imageContents, imageBodies, Row, rowsFrom, usedOf, countOf, rowsIn, keyAt, valueAt, keyParts, entriesIn, isKey, packed, tooShort, isImage}
 use Rattle.laws.proofs.Lists.{not-both, and-true, and-both, slice-at}
 use Rattle.laws.proofs.Keys.{isLegal, key-parts, is-key}
 
@@ -107,7 +82,8 @@ packed-rows at [] used h = eq-eqb at used (omega arith)
 packed-rows at (e ∷ es) used h =
     let k = keyOf (e .parts) in
     let v = e .value in
-    and-both (eq-eqb at at refl) (packed-rows (at + length k + length v) es used (omega (arith, length-append (k ++ v) (storeOf es), length-append k v)))
+    let on = packed-rows (at + length k + length v) es used (omega (arith, length-append (k ++ v) (storeOf es), length-append k v)) in
+    and-both (eq-eqb at at refl) on
 
 -- ---- The bodies
 
@@ -158,7 +134,8 @@ contents-fit es h = omega (arith, length-rows 0 es)
 pub long-enough : (contents bodies : List ℕ) → tooShort contents bodies ≡ false → (contentsWords ≤ length contents) × (bodyBytes ≤ length bodies)
 long-enough contents bodies e = at (ltb (length contents) contentsWords) (ltb (length bodies) bodyBytes) refl refl e
   where
-    at : (a b : Bool) → ltb (length contents) contentsWords ≡ a → ltb (length bodies) bodyBytes ≡ b → (a || b) ≡ false → (contentsWords ≤ length contents) × (bodyBytes ≤ length bodies)
+    at : (a b : Bool) → ltb (length contents) contentsWords ≡ a → ltb (length bodies) bodyBytes ≡ b → (a || b) ≡ false
+        → (contentsWords ≤ length contents) × (bodyBytes ≤ length bodies)
     at true b p q h = absurd (not-both refl h)
     at false true p q h = absurd (not-both refl h)
     at false false p q h = (ltb-false (length contents) contentsWords p, ltb-false (length bodies) bodyBytes q)

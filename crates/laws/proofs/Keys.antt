@@ -2,7 +2,7 @@
 use mathlib.Core.Bool.{Bool, true, false, _&&_, _||_, not}
 use mathlib.Core.List.{List, [], _∷_, _++_}
 use mathlib.Core.Option.{Option, some, none}
-use mathlib.Core.Path.{_≡_, refl, sym, ap, subst, _∙_}
+use mathlib.Core.Path.{_≡_, refl, ap, subst, _∙_}
 use Prim.Native.Nat.{ℕ, zero, suc, _+_, _≤_, _<_}
 use native.Mathlib.Nat.{le-refl}
 use native.Mathlib.Omega.{arith}
@@ -13,38 +13,8 @@ use Rattle.definition.specs.Lists.{if_then_else_, ascii, all, any, takeWhile, d
 use Rattle.definition.specs.Parsing.{Parse, nothing, found, Parsed, parsed, continued, atMost, many, after}
 use Rattle.definition.specs.Limits.{mostParts}
 use Rattle.definition.specs.Bytes.{newline, exclamation, hash, question, backslash, letter-n, dot, isDigit, isOctal, isName, isBlank, isSpace, isBinding, notNewline, within}
-use Rattle.definition.specs.Text.{
-  Binding,
-  tight,
-  loose,
-  Component,
-  wildcard,
-  name,
-  Part,
-  Entry,
-  bindingOf,
-  componentAt,
-  partAt,
-  endsInName,
-  lineEnds,
-  octalOf,
-  escapeAt,
-  pieceAt,
-  afterBlanks,
-  pieces,
-  lineEnd,
-  assigned,
-  resourceOf,
-  Line,
-  skipped,
-  include,
-  entry,
-  includeOf,
-  directiveOf,
-  linesOf,
-  lineAt,
-}
-use Rattle.definition.specs.Image.{bindingByte, componentBytes, keyOf, storedPartAt, keyParts, isKey}
+use Rattle.definition.specs.Text.{Binding, tight, loose, Component, wildcard, name, Part, bindingOf, componentAt, partAt, endsInName, lineEnds, octalOf, escapeAt, pieceAt, afterBlanks, pieces, lineEnd, assigned, resourceOf, Line, skipped, include, entry, includeOf, directiveOf, linesOf, lineAt}
+use Rattle.definition.specs.Image.{bindingByte, componentBytes, keyOf, storedPartAt, isKey}
 use Rattle.definition.specs.Query.{queryPartAt}
 use Rattle.definition.specs.Value.{Range, table, afterRow, firstRow, character, characterAt}
 use Rattle.laws.proofs.Lists.{not-both, and-true, and-both, all-takeWhile, dropWhile-le, takeWhile-append, dropWhile-append}
@@ -147,7 +117,8 @@ escape-leaves (c ∷ t) =
     if-either P (isBlank c || eqb c backslash) (λ e. omega arith)
     λ e. if-either P (eqb c letter-n) (λ e. omega arith)
     λ e. if-either P (eqb c newline) (λ e. omega arith)
-    λ e. if-either P (isOctal c) (λ e. leaves-more (suc (length u)) _ (octalOf ds u) (omega (arith, length-drop (length ds) (c ∷ t))) (octal-leaves ds u))
+    λ e. if-either P (isOctal c)
+    (λ e. leaves-more (suc (length u)) _ (octalOf ds u) (omega (arith, length-drop (length ds) (c ∷ t))) (octal-leaves ds u))
     λ e. omega arith
 
 pub piece-shrinks : Shrinks pieceAt
@@ -232,17 +203,23 @@ after-blanks-length (c ∷ d ∷ t) = at (isBlank c) (eqb c backslash && eqb d n
 assigned-length : (t : List ℕ) → Gives (λ u. length u < length t) (assigned t)
 unfolding assigned
 assigned-length t =
-    let u = dropWhile isSpace (many partAt t .rest) in
-    if-either (Gives (λ u. length u < length t)) (endsInName (many partAt t .items)) (λ e. at u (omega (arith, dropWhile-le isSpace (many partAt t .rest), many-rest partAt part-shrinks t)) (after (ascii ":") u) (after-length (ascii ":") u)) λ e. tt
+    let r = many partAt t .rest in
+    let u = dropWhile isSpace r in
+    let h : length u ≤ length t = omega (arith, dropWhile-le isSpace r, many-rest partAt part-shrinks t) in
+    if-either (Gives (λ v. length v < length t)) (endsInName (many partAt t .items))
+    (λ e. at u h (after (ascii ":") u) (after-length (ascii ":") u)) λ e. tt
   where
-    at : (u : List ℕ) → length u ≤ length t → (o : Option (List ℕ)) → Gives (λ v. 1 + length v ≡ length u) o → Gives (λ v. length v < length t) o
+    at : (u : List ℕ) → length u ≤ length t → (o : Option (List ℕ)) → Gives (λ v. 1 + length v ≡ length u) o
+        → Gives (λ v. length v < length t) o
     at u h none k = tt
     at u h (some v) k = omega arith
 
-resource-leaves : (c : ℕ) (t : List ℕ) → eqb c newline ≡ false → (o : Option (List ℕ)) → Gives (λ u. length u < suc (length t)) o → Leaves (suc (length t)) (resourceOf (c ∷ t) o)
+resource-leaves : (c : ℕ) (t : List ℕ) → eqb c newline ≡ false → (o : Option (List ℕ)) → Gives (λ u. length u < suc (length t)) o
+    → Leaves (suc (length t)) (resourceOf (c ∷ t) o)
 unfolding resourceOf lineEnd dropWhile notNewline
 resource-leaves c t e none h = rw e (omega (arith, dropWhile-le notNewline t))
-resource-leaves c t e (some u) h = omega (arith, length-drop 1 (pieces u .rest), many-rest pieceAt piece-shrinks (afterBlanks u), after-blanks-length u)
+resource-leaves c t e (some u) h =
+    omega (arith, length-drop 1 (pieces u .rest), many-rest pieceAt piece-shrinks (afterBlanks u), after-blanks-length u)
 
 pub line-shrinks : Shrinks lineAt
 unfolding lineAt lineEnd
@@ -349,7 +326,8 @@ component-reads b wildcard t h p q = refl
 component-reads b (name []) t h p q = absurd (not-both h refl)
 component-reads b (name (d ∷ ds)) t h p q =
     let k = and-true (isName d) (all isName ds) h in
-    rw (passes-not isName d question (k .0) (unfold isName isDigit in refl), k .0, takeWhile-append isName ds t (k .1) p, dropWhile-append isName ds t (k .1), q) refl
+    let wild : eqb d question ≡ false = passes-not isName d question (k .0) (unfold isName isDigit in refl) in
+    rw (wild, k .0, takeWhile-append isName ds t (k .1) p, dropWhile-append isName ds t (k .1), q) refl
 
 -- a name ends where a key goes on
 key-takes : (ps : List Part) → takeWhile isName (keyOf ps) ≡ []
@@ -374,7 +352,8 @@ stored-part-reads : (p : Part) (ps : List Part) → isLegal p ≡ true → store
 unfolding storedPartAt keyOf isLegal bindingOf isBinding any
 stored-part-reads p ps h = at (p .binding)
   where
-    at : (b : Binding) → storedPartAt (bindingByte b ∷ componentBytes (p .component) ++ keyOf ps) ≡ found (record { binding = b; component = p .component }) (keyOf ps)
+    at : (b : Binding) → storedPartAt (bindingByte b ∷ componentBytes (p .component) ++ keyOf ps)
+        ≡ found (record { binding = b; component = p .component }) (keyOf ps)
     at tight = component-reads tight (p .component) (keyOf ps) h (key-takes ps) (key-drops ps)
     at loose = component-reads loose (p .component) (keyOf ps) h (key-takes ps) (key-drops ps)
 
