@@ -11,7 +11,28 @@ use Rattle.definition.specs.Lists.{all, zeroes, beyond}
 use Rattle.definition.specs.Parsing.{Parsed}
 use Rattle.definition.specs.Limits.{contentsWords, bodyBytes, rowWords, mostEntries, mostParts}
 use Rattle.definition.specs.Text.{Part, Entry, endsInName}
-use Rattle.definition.specs.Image.{keyOf, rowsOf, storeOf, contentsOf, writtenOver, imageContents, imageBodies, Row, rowsFrom, usedOf, countOf, rowsIn, keyAt, valueAt, keyParts, entriesIn, isKey, packed, tooShort, isImage}
+use Rattle.definition.specs.Image.{
+  keyOf,
+  rowsOf,
+  storeOf,
+  contentsOf,
+  writtenOver,
+  imageContents,
+  imageBodies,
+  Row,
+  rowsFrom,
+  usedOf,
+  countOf,
+  rowsIn,
+  keyAt,
+  valueAt,
+  keyParts,
+  entriesIn,
+  isKey,
+  packed,
+  tooShort,
+  isImage,
+}
 use Rattle.laws.proofs.Lists.{not-both, and-true, and-both, slice-at}
 use Rattle.laws.proofs.Keys.{isLegal, key-parts, is-key}
 

@@ -12,8 +12,53 @@ use borrow.Author.Tests.{le-leb, ne-eqb}
 use Rattle.definition.specs.Lists.{if_then_else_, ascii, all, any, takeWhile, dropWhile, isEmpty, orElse}
 use Rattle.definition.specs.Parsing.{Parse, nothing, found, Parsed, parsed, continued, atMost, many, after}
 use Rattle.definition.specs.Limits.{mostParts}
-use Rattle.definition.specs.Bytes.{newline, exclamation, hash, question, backslash, letter-n, dot, isDigit, isOctal, isName, isBlank, isSpace, isBinding, notNewline, within}
-use Rattle.definition.specs.Text.{Binding, tight, loose, Component, wildcard, name, Part, bindingOf, componentAt, partAt, endsInName, lineEnds, octalOf, escapeAt, pieceAt, afterBlanks, pieces, lineEnd, assigned, resourceOf, Line, skipped, include, entry, includeOf, directiveOf, linesOf, lineAt}
+use Rattle.definition.specs.Bytes.{
+  newline,
+  exclamation,
+  hash,
+  question,
+  backslash,
+  letter-n,
+  dot,
+  isDigit,
+  isOctal,
+  isName,
+  isBlank,
+  isSpace,
+  isBinding,
+  notNewline,
+  within,
+}
+use Rattle.definition.specs.Text.{
+  Binding,
+  tight,
+  loose,
+  Component,
+  wildcard,
+  name,
+  Part,
+  bindingOf,
+  componentAt,
+  partAt,
+  endsInName,
+  lineEnds,
+  octalOf,
+  escapeAt,
+  pieceAt,
+  afterBlanks,
+  pieces,
+  lineEnd,
+  assigned,
+  resourceOf,
+  Line,
+  skipped,
+  include,
+  entry,
+  includeOf,
+  directiveOf,
+  linesOf,
+  lineAt,
+}
 use Rattle.definition.specs.Image.{bindingByte, componentBytes, keyOf, storedPartAt, isKey}
 use Rattle.definition.specs.Query.{queryPartAt}
 use Rattle.definition.specs.Value.{Range, table, afterRow, firstRow, character, characterAt}
