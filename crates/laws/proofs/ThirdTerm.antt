@@ -1,1 +1,221 @@
--- Laws: ThirdTerm.
+-- The third term, of the definition. Assumes nothing.
+use mathlib.Core.Bool.{Bool, true, false, _&&_, not}
+use mathlib.Core.List.{List, [], _∷_, _++_, map}
+use mathlib.Core.Logic.{_↔_, _⊎_, inl, inr}
+use mathlib.Core.Option.{Option, some, none}
+use mathlib.Core.Path.{_≡_, refl, sym, ap, _∙_}
+use Prim.Native.Nat.{ℕ, zero, suc, _+_, _≤_, _<_}
+use native.Mathlib.Omega.{arith}
+use lib.Dec.{leb}
+use lib.ListN.{length, getD, length-map, List·getD-map}
+use Rattle.definition.specs.Lists.{all, any, filter, same}
+use Rattle.definition.specs.Limits.{mostParts, mostEntries, bodyBytes, deepest}
+use Rattle.definition.specs.Archive.{File, filesOf, struckOff, removed, laidOut, rising, archiveOf}
+use Rattle.definition.specs.Text.{Part, Entry, Line, skipped, include, entry, linesOf}
+use Rattle.definition.specs.Including.{Entered, entriesOf, opensOf, events}
+use Rattle.definition.specs.Image.{storeOf, tooShort, imageContents, imageBodies}
+use Rattle.definition.specs.Reading.{Outcome, reading, readEntries, plain, met, start}
+use Rattle.definition.specs.Query.{Position, Query, positions, malformed, pastLimit, queryOf}
+use Rattle.definition.specs.Matching.{Aligned, Beats}
+use Rattle.definition.specs.Ranking.{Best, noEntry, best, bestOf}
+use Rattle.definition.specs.Lookup.{keysOf, valueOf, answerOf, getBytes, answerIn}
+use Rattle.definition.specs.ThirdTerm.{
+  cameThrough,
+  leftWithout,
+  BeatsRest,
+  entryNumber,
+  NoneThroughBeats,
+  SameBytesWithout,
+  isAccepted,
+  Case,
+  query,
+  fileName,
+  withFile,
+  withoutFile,
+  Given,
+  lookedUp,
+  defined,
+  ThirdTerm,
+}
+use Rattle.laws.proofs.Lists.{not-both, and-true, and-both}
+use Rattle.laws.proofs.Archive.{laidOut-says, files-struck, struck-laidOut, removed-gone, removed-other}
+use Rattle.laws.proofs.Struck.{Lacks, eventsWithout, apart, events-struck, entries-without}
+use Rattle.laws.proofs.Limits.{limits-fewer, used-store}
+use Rattle.laws.proofs.Reading.{Reads, accepted-reads, reads-outcome, events-good, few-parts}
+use Rattle.laws.proofs.Keys.{isLegal, isLegalLine, lines-legal}
+use Rattle.laws.proofs.Image.{isStorable}
+use Rattle.laws.proofs.Ranking.{best-beats, best-none, beats-one, beats-best, beats-kept, none-kept}
+use Rattle.laws.proofs.Lookup.{answer-image}
+
+-- ---- The answer is the value of the entry that beats the rest
+
+abbrev blank : Entry
+blank = record { parts = []; value = [] }
+
+some-none : {A : Type 0} {a : A} → some a ≡ none → ⊥
+some-none e = let z : _≡_ {A = ℕ} 0 1 = cc in omega arith
+
+pub answer-beats : (es : List Entry) (qs : List Position) (i : ℕ) → Beats (keysOf es) qs i → answerOf es (positions qs) ≡ some (getD es i blank .value)
+unfolding answerOf valueOf
+answer-beats es qs i b = rw (beats-best (keysOf es) qs i b .1) refl
+
+pub answer-none : (es : List Entry) (qs : List Position)
+    → ((j : ℕ) (row : List ℕ) → j < length (keysOf es) → Aligned (getD (keysOf es) j []) qs row → ⊥) → answerOf es (positions qs) ≡ none
+unfolding answerOf valueOf
+answer-none es qs none-aligns = at (bestOf (keysOf es) qs) refl
+  where
+    at : (b : Best) → bestOf (keysOf es) qs ≡ b → valueOf es b ≡ none
+    at noEntry e = refl
+    at (best i row) e =
+        let w = best-beats (keysOf es) qs i row e in
+        absurd (none-aligns i (w .row) (w .inside) (w .ranks .aligned))
+
+-- ---- When the two answers are equal
+
+keysIn : (xs : List Entered) → keysOf (plain xs) ≡ map (λ (x : Entered). x .entry .parts) xs
+keysIn [] = refl
+keysIn (x ∷ xs) = ap (λ (l : List (List Part)). x .entry .parts ∷ l) (keysIn xs)
+
+module _ (file : List ℕ) (xs : List Entered) (qs : List Position) where
+  abbrev ys : List Entered
+  ys = leftWithout file xs
+
+  abbrev Equal : Type 0
+  Equal = answerOf (plain xs) (positions qs) ≡ answerOf (plain ys) (positions qs)
+
+  abbrev Just : Type 0
+  Just = NoneThroughBeats file xs (positions qs) ⊎ SameBytesWithout file xs (positions qs)
+
+  numbered : (zs : List Entered) (i : ℕ) → getD (plain zs) i blank ≡ entryNumber zs i .entry
+  numbered zs i = List·getD-map (λ (x : Entered). x .entry) zs i (entryNumber [] 0)
+
+  answered : (zs : List Entered) (i : ℕ) → Beats (keysOf (plain zs)) qs i → answerOf (plain zs) (positions qs) ≡ some (entryNumber zs i .entry .value)
+  answered zs i b = answer-beats (plain zs) qs i b ∙ ap (λ (e : Entry). some (e .value)) (numbered zs i)
+
+  -- nothing aligns
+  when-none : bestOf (keysOf (plain xs)) qs ≡ noEntry → Equal ↔ Just
+  when-none e =
+      let nothing-aligns = best-none (keysOf (plain xs)) qs e in
+      let kept = none-kept (λ (x : Entered). x .entry .parts) (λ x. not (cameThrough file x)) (entryNumber [] 0) xs qs (rw (← keysIn xs) nothing-aligns) in (
+        λ _. inl (λ i b. absurd (nothing-aligns i (b .row) (b .inside) (b .ranks .aligned))),
+        λ _. answer-none (plain xs) qs nothing-aligns ∙ sym (answer-none (plain ys) qs (rw (keysIn ys) kept)),
+      )
+
+  module _ (i : ℕ) (b : Beats (keysOf (plain xs)) qs i) where
+    -- an entry that did not come through the file beats the rest in both lists
+    when-apart : cameThrough file (entryNumber xs i) ≡ false → Equal ↔ Just
+    when-apart h =
+        let k = beats-kept (λ (x : Entered). x .entry .parts) (λ x. not (cameThrough file x)) (entryNumber [] 0) xs qs i (rw (← keysIn xs) b) (rw h refl) in (
+          λ _. inl (λ j w. ap (λ (n : ℕ). cameThrough file (entryNumber xs n)) (beats-one (keysOf (plain xs)) qs j i w b) ∙ h),
+          λ _. answered xs i b ∙ ap (λ (x : Entered). some (x .entry .value)) (sym (k .2)) ∙ sym (answered ys (k .0) (rw (keysIn ys) (k .1))),
+        )
+
+    when-through : cameThrough file (entryNumber xs i) ≡ true → Equal ↔ Just
+    when-through h = (to, from)
+      where
+        found : (r : Best) → bestOf (keysOf (plain ys)) qs ≡ r → Equal → Just
+        found noEntry e q =
+            absurd (some-none (sym (answered xs i b) ∙ q ∙ answer-none (plain ys) qs (best-none (keysOf (plain ys)) qs e)))
+        found (best k row) e q =
+            let w = best-beats (keysOf (plain ys)) qs k row e in
+            let s : some (entryNumber xs i .entry .value) ≡ some (entryNumber ys k .entry .value) = sym (answered xs i b) ∙ q ∙ answered ys k w in
+            inr (record { winner = i; beats = b; through = h; other = k; beatsLeft = w; sameBytes = cc })
+
+        to : Equal → Just
+        to q = found (bestOf (keysOf (plain ys)) qs) refl q
+
+        from : Just → Equal
+        from (inl f) = absurd (not-both h (f i b))
+        from (inr s) =
+            answered xs (s .winner) (s .beats) ∙ ap (λ (v : List ℕ). some v) (s .sameBytes) ∙ sym (answered ys (s .other) (s .beatsLeft))
+
+  equal-positions : Equal ↔ Just
+  equal-positions = at (bestOf (keysOf (plain xs)) qs) refl
+    where
+      side : (i : ℕ) → Beats (keysOf (plain xs)) qs i → (t : Bool) → cameThrough file (entryNumber xs i) ≡ t → Equal ↔ Just
+      side i b true h = when-through i b h
+      side i b false h = when-apart i b h
+
+      at : (r : Best) → bestOf (keysOf (plain xs)) qs ≡ r → Equal ↔ Just
+      at noEntry e = when-none e
+      at (best i row) e = side i (best-beats (keysOf (plain xs)) qs i row e) (cameThrough file (entryNumber xs i)) refl
+
+pub equal-just-when : (file : List ℕ) (xs : List Entered) (q : Query) → ((k : ℕ) → q ≡ pastLimit k → ⊥)
+    → (answerOf (plain xs) q ≡ answerOf (plain (leftWithout file xs)) q) ↔ (NoneThroughBeats file xs q ⊎ SameBytesWithout file xs q)
+unfolding answerOf
+equal-just-when file xs (positions qs) h = equal-positions file xs qs
+equal-just-when file xs malformed h = (λ _. inl (λ i b. absurd b), λ _. refl)
+equal-just-when file xs (pastLimit k) h = absurd (h k refl)
+
+-- ---- What an accepted reading leaves, looked up
+
+all-both : {A : Type 0} (p q : A → Bool) (xs : List A) → all p xs ≡ true → all q xs ≡ true → all (λ x. p x && q x) xs ≡ true
+unfolding all
+all-both p q [] h k = refl
+all-both p q (x ∷ xs) h k =
+    let a = and-true (p x) (all p xs) h in
+    let b = and-true (q x) (all q xs) k in
+    and-both (and-both (a .0) (b .0)) (all-both p q xs (a .1) (b .1))
+
+module _ (text archive contents bodies : List ℕ) (r : Reads text archive contents bodies) where
+  abbrev es : List Entry
+  es = plain (readEntries text archive)
+
+  storable : all isStorable es ≡ true
+  unfolding isStorable isLegalLine
+  storable =
+      all-both _ (λ (e : Entry). leb (length (e .parts)) mostParts) es
+      (events-good _ isLegalLine (λ e. refl) lines-legal deepest (filesOf archive) text)
+      (few-parts (met text archive) (r .limits .parts-most))
+
+  pub reading-answers : (name class : List ℕ)
+      → answerIn (reading text archive contents bodies .bodies)
+      (getBytes (reading text archive contents bodies .contents) (reading text archive contents bodies .bodies) name class)
+      ≡ answerOf es (queryOf name class)
+  reading-answers name class =
+      rw (reads-outcome text archive contents bodies r)
+      (answer-image es contents bodies storable
+      (omega (arith, r .limits .entries-most, length-map (readEntries text archive) (λ (x : Entered). x .entry)))
+      (omega (arith, r .limits .used-most, used-store (met text archive)))
+      (r .long) name class)
+
+-- ---- The term
+
+module _ (c : Case) (g : Given c) where
+  abbrev struck : List ℕ
+  struck = struckOff (c .file) (c .archive)
+
+  first : Reads (c .text) (c .archive) (c .contents) (c .bodies)
+  first = accepted-reads (c .text) (c .archive) (c .contents) (c .bodies) (g .isRead)
+
+  lacks : Lacks (filesOf (c .archive)) (filesOf struck) (fileName c)
+  lacks =
+      rw (files-struck (c .file) (c .archive)) (record {
+        gone = removed-gone (c .file) (filesOf (c .archive)) (laidOut-says (c .archive) (first .isLaidOut) .rises) (g .fileOnIt);
+        others = λ n h. removed-other (c .file) (filesOf (c .archive)) n (g .fileOnIt) h;
+      })
+
+  met-struck : met (c .text) struck ≡ eventsWithout (fileName c) (met (c .text) (c .archive))
+  met-struck = events-struck (fileName c) (filesOf (c .archive)) (filesOf struck) lacks deepest (c .text)
+
+  second : Reads (c .text) struck (c .contents′) (c .bodies′)
+  second = record {
+    long = g .longEnough′;
+    fits = first .fits;
+    isLaidOut = struck-laidOut (c .file) (c .archive) (first .isLaidOut) (g .fileOnIt);
+    limits = rw met-struck (limits-fewer (apart (fileName c)) start (met (c .text) (c .archive)) (first .limits));
+  }
+
+  entries-struck : readEntries (c .text) struck ≡ leftWithout (fileName c) (readEntries (c .text) (c .archive))
+  entries-struck = ap entriesOf met-struck ∙ entries-without (fileName c) (met (c .text) (c .archive))
+
+  pub third-term : ThirdTerm c
+  third-term =
+      let a = reading-answers (c .text) (c .archive) (c .contents) (c .bodies) first (c .name) (c .class) in
+      let b = reading-answers (c .text) struck (c .contents′) (c .bodies′) second (c .name) (c .class) in
+      record {
+        isReadToo = rw (reads-outcome (c .text) struck (c .contents′) (c .bodies′) second) refl;
+        firstAnswer = a;
+        secondAnswer = b;
+        equalJustWhen = rw (a, b, entries-struck) (equal-just-when (fileName c) (readEntries (c .text) (c .archive)) (query c) (g .withinLimits));
+      }
