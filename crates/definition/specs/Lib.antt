@@ -15,4 +15,8 @@ pub mod Ranking
 pub mod Lookup
 pub mod Value
 pub mod ThirdTerm
-pub mod Examples
+pub mod Evaluation
+mod Examples
+mod NameBytes
+mod Manual
+mod Numbers
