@@ -1,0 +1,3 @@
+-- Laws of a reading as the code runs it.
+pub mod Runs
+pub mod Images
