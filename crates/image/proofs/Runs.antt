@@ -14,10 +14,24 @@ use Rattle.definition.specs.Text.{Entry}
 use Rattle.definition.specs.Including.{Event, opened, entered}
 use Rattle.definition.specs.Image.{keyOf}
 use Rattle.definition.specs.Reading.{sizeOf}
-use Rattle.reader.specs.Running.{
-  World, world, Room, Ran, went, stopped, rowOf, stored, put, counted, openOne, step, andThen, run, answered,
+use Rattle.image.specs.Running.{
+  World,
+  world,
+  Room,
+  Ran,
+  went,
+  stopped,
+  rowOf,
+  stored,
+  put,
+  counted,
+  openOne,
+  step,
+  andThen,
+  run,
+  answered,
 }
-use Rattle.reader.specs.declared.Totals.{Totals}
+use Rattle.image.specs.declared.Totals.{Totals}
 
 then-then : (r : Ran) (f g : World → Ran) → andThen (andThen r f) g ≡ andThen r (λ v. andThen (f v) g)
 unfolding andThen

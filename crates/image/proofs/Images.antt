@@ -5,20 +5,35 @@ use mathlib.Core.Path.{_≡_, refl, sym, ap, _∙_}
 use Prim.Native.Nat.{ℕ, zero, suc, _+_, _-_, _*_, _≤_, _<_}
 use native.Mathlib.Omega.{arith}
 use lib.Dec.{leb, ltb}
-use lib.ListN.{length, take, drop, set, length-append, length-drop, length-set}
-use lib.Seq.{paste, set-at, append-snoc, take-append-seam, take-length, drop-append-add, drop-drop, length-take-le}
-use Rattle.definition.specs.Lists.{if_then_else_}
+use native.Mathlib.Nat.{sub-zero}
+use lib.ListN.{length, take, drop, set, length-append, length-drop, length-set, take-append-drop, drop-of-length-le}
+use lib.Seq.{paste, set-at, append-snoc, take-append-seam, take-length, drop-append-add, drop-drop, take-at, length-take-le}
+use Rattle.definition.specs.Lists.{if_then_else_, zeroes, beyond}
 use Rattle.definition.specs.Limits.{mostOpens, mostEntries, mostParts, bodyBytes, contentsWords, rowWords}
 use Rattle.definition.specs.Text.{Entry}
 use Rattle.definition.specs.Including.{Event, opened, entered, Entered, entriesOf}
-use Rattle.definition.specs.Image.{keyOf, rowsOf, storeOf}
+use Rattle.definition.specs.Image.{keyOf, rowsOf, storeOf, contentsOf, writtenOver, imageContents, imageBodies}
 use Rattle.definition.specs.Reading as definition
-use Rattle.definition.specs.Reading.{Verdict, within, past, sizeOf, judge, plain}
-use Rattle.reader.specs.Running.{
-  World, world, Room, Ran, went, stopped, rowOf, stored, put, counted, openOne, step, andThen, run,
+use Rattle.definition.specs.Reading.{Verdict, within, past, sizeOf, judge, plain, start, accepted, refused, outcome, left}
+use Rattle.laws.proofs.Image.{length-rows}
+use Rattle.image.specs.Running.{
+  World,
+  world,
+  Room,
+  Ran,
+  went,
+  stopped,
+  rowOf,
+  stored,
+  put,
+  counted,
+  openOne,
+  step,
+  andThen,
+  run,
 }
-use Rattle.reader.specs.declared.Totals.{Totals}
-use Rattle.reader.proofs.Runs.{RoomIn, then-went, put-went, open-went, step-room, run-room, size-is}
+use Rattle.image.specs.declared.Totals.{Totals}
+use Rattle.image.proofs.Runs.{RoomIn, then-went, put-went, open-went, step-room, run-room, size-is}
 
 -- ---- The verdict
 
@@ -89,7 +104,7 @@ laid-put w e p q r s room few l =
 
 pub run-laid : (es : List Event) (w v : World) (p q r s : List ℕ) → RoomIn w → Laid w p q r s → run w es ≡ went v
     → Laid v (p ++ rowsOf (w .totals .used) (plain (entriesOf es))) (q ++ storeOf (plain (entriesOf es)))
-      (drop (rowWords * length (plain (entriesOf es))) r) (drop (length (storeOf (plain (entriesOf es)))) s)
+    (drop (rowWords * length (plain (entriesOf es))) r) (drop (length (storeOf (plain (entriesOf es)))) s)
 unfolding run entriesOf rowsOf storeOf
 run-laid [] w v p q r s room l h =
     let e : w ≡ v = cc in
@@ -118,3 +133,95 @@ run-laid (entered ch e ∷ es) w v p q r s room l h =
     (rw (← o .is) at (step-room w (entered ch e) (a .0) room (a .1)))
     (laid-put w e p q r s room (o .entries-less) l)
     (rw (← o .is) at (a .2)))
+
+-- ---- The end of a reading, in buffers that are just as long as an image
+
+none-beyond : (n : ℕ) (xs : List ℕ) → length xs ≡ n → beyond n xs ≡ []
+unfolding beyond
+none-beyond n xs e = let h : length xs ≤ n = omega arith in drop-of-length-le xs h
+
+-- k of n elements written, and the rest zeroed
+zeroed : (n k : ℕ) (lent xs rest : List ℕ) → length lent ≡ n → length xs ≡ k → take k (xs ++ rest) ++ zeroes (n - k) ≡ writtenOver n lent xs
+unfolding writtenOver
+zeroed n k lent xs rest e f =
+    rw (take-at xs rest k f, none-beyond n lent e, append-nil (xs ++ zeroes (n - length xs)), f) refl
+
+headed : (c r rest : List ℕ) (a b : ℕ) → 2 ≤ length c → set (set ((take 2 c ++ r) ++ rest) 0 a) 1 b ≡ (a ∷ b ∷ r) ++ rest
+headed [] r rest a b h = absurd (omega arith)
+headed (x ∷ []) r rest a b h = absurd (omega arith)
+headed (x ∷ y ∷ c) r rest a b h = refl
+
+two-zeroes : (n : ℕ) → 2 ≤ n → zeroes n ≡ 0 ∷ 0 ∷ zeroes (n - 2)
+unfolding zeroes
+two-zeroes zero h = absurd (omega arith)
+two-zeroes (suc zero) h = absurd (omega arith)
+two-zeroes (suc (suc n)) h = let e : suc (suc n) - 2 ≡ n = omega arith in rw e refl
+
+abbrev pub begun : Totals
+begun = record { opens = 0; entries = 0; used = 0 }
+
+module _ (c b : List ℕ) (hc : length c ≡ contentsWords) (hb : length b ≡ bodyBytes) where
+  pub room-first : RoomIn (world begun c b)
+  room-first = record { opens-most = omega arith; entries-most = omega arith; used-most = omega arith; words-long = hc; bytes-long = hb }
+
+  laid-first : Laid (world begun c b) (take 2 c) [] (drop 2 c) b
+  laid-first = record {
+    words-are = sym (take-append-drop 2 c);
+    bytes-are = refl;
+    p-long = length-take-le 2 c (omega arith);
+    q-long = refl;
+  }
+
+  module _ (es : List Event) (v : World) (e : run (world begun c b) es ≡ went v) where
+    abbrev xs : List Entry
+    xs = plain (entriesOf es)
+
+    laid : Laid v (take 2 c ++ rowsOf 0 xs) (storeOf xs) (drop (rowWords * length xs) (drop 2 c)) (drop (length (storeOf xs)) b)
+    laid = run-laid es (world begun c b) v (take 2 c) [] (drop 2 c) b room-first laid-first e
+
+    pub room-after : RoomIn v
+    room-after = run-room es (world begun c b) v room-first e
+
+    rows-long : length (take 2 c ++ rowsOf 0 xs) ≡ 2 + rowWords * length xs
+    rows-long = rw (length-append (take 2 c) (rowsOf 0 xs), length-take-le 2 c (omega arith), length-rows 0 xs) refl
+
+    pub entries-are : length xs ≡ v .totals .entries
+    entries-are = omega (arith, rows-long, laid .p-long)
+
+    pub used-is : length (storeOf xs) ≡ v .totals .used
+    used-is = laid .q-long
+
+    contents-long : length (contentsOf xs) ≡ rowOf (v .totals .entries)
+    unfolding contentsOf
+    contents-long = omega (arith, length-rows 0 xs, entries-are)
+
+    -- the count, the use and the rows, with zeroes behind
+    pub words-finished : take (rowOf (v .totals .entries)) (set (set (v .words) 0 (v .totals .entries)) 1 (v .totals .used)) ++ zeroes (contentsWords - rowOf (v .totals .entries))
+        ≡ imageContents xs c
+    unfolding contentsOf
+    words-finished =
+        rw (laid .words-are, headed c (rowsOf 0 xs) (drop (rowWords * length xs) (drop 2 c)) (v .totals .entries) (v .totals .used) (omega arith), ← entries-are, ← used-is)
+        (zeroed contentsWords (2 + rowWords * length xs) c (contentsOf xs) (drop (rowWords * length xs) (drop 2 c)) hc (omega (arith, length-rows 0 xs)))
+
+    pub bytes-finished : take (v .totals .used) (v .bytes) ++ zeroes (bodyBytes - v .totals .used) ≡ imageBodies xs b
+    bytes-finished =
+        rw (laid .bytes-are) (zeroed bodyBytes (v .totals .used) b (storeOf xs) (drop (length (storeOf xs)) b) hb used-is)
+
+    pub accepted-left : left (judge start es) xs c b
+        ≡ outcome (accepted (v .totals .entries) (v .totals .opens)) (imageContents xs c) (imageBodies xs b)
+    unfolding left verdictOf
+    accepted-left = rw (← run-judge es (world begun c b), e) refl
+
+  -- 4 to 7 leave the image of no entries
+  pub no-words : zeroes contentsWords ≡ imageContents [] c
+  unfolding writtenOver contentsOf rowsOf storeOf
+  no-words = rw (none-beyond contentsWords c hc, append-nil (0 ∷ 0 ∷ zeroes (contentsWords - 2))) (two-zeroes contentsWords (omega arith))
+
+  pub no-bytes : zeroes bodyBytes ≡ imageBodies [] b
+  unfolding writtenOver storeOf
+  no-bytes = rw (none-beyond bodyBytes b hb, append-nil (zeroes (bodyBytes - 0)), sub-zero bodyBytes) refl
+
+  pub refused-left : (es : List Event) (k : ℕ) → run (world begun c b) es ≡ stopped k
+      → left (judge start es) (plain (entriesOf es)) c b ≡ outcome (refused k) (imageContents [] c) (imageBodies [] b)
+  unfolding left verdictOf
+  refused-left es k e = rw (← run-judge es (world begun c b), e) refl

@@ -12,9 +12,9 @@ use Rattle.definition.specs.Text.{Entry}
 use Rattle.definition.specs.Including.{Event, opened, entered}
 use Rattle.definition.specs.Image.{keyOf}
 use Rattle.definition.specs.Reading.{sizeOf}
-use Rattle.reader.specs.declared.Totals.{Totals}
-use Rattle.reader.specs.declared.Step.{Step}
-use Rattle.reader.specs.declared.Step.the-variants.{Go, Stop}
+use Rattle.image.specs.declared.Totals.{Totals}
+use Rattle.image.specs.declared.Step.{Step}
+use Rattle.image.specs.declared.Step.the-variants.{Go, Stop}
 
 -- the totals and the buffers, whose lengths are just those of an image
 pub record World : Type 0 where
