@@ -1,0 +1,2 @@
+-- Laws of the reading.
+pub mod Lines

@@ -1,0 +1,2 @@
+-- What the contracts of the reading cite beside the definition.
+pub mod Texts
