@@ -1,1 +1,192 @@
--- Laws: Image.
+-- Laws of the image: written from entries, it is an image and gives the entries back. Assumes nothing.
+use mathlib.Core.Bool.{Bool, true, false, _&&_, _||_, not}
+use mathlib.Core.List.{List, [], _∷_, _++_, append-assoc}
+use mathlib.Core.Path.{_≡_, refl, ap, _∙_}
+use Prim.Native.Nat.{ℕ, _+_, _*_, _-_, _≤_}
+use native.Mathlib.Omega.{arith}
+use lib.Dec.{leb, ltb}
+use lib.ListN.{length, length-append, length-drop, length-replicate}
+use borrow.Author.Tests.{ltb-false, leb-true, le-leb, eq-eqb}
+use Rattle.definition.specs.Lists.{all, zeroes, beyond}
+use Rattle.definition.specs.Parsing.{Parsed}
+use Rattle.definition.specs.Limits.{contentsWords, bodyBytes, rowWords, mostEntries, mostParts}
+use Rattle.definition.specs.Text.{Part, Entry, endsInName}
+use Rattle.definition.specs.Image.{
+  keyOf,
+  rowsOf,
+  storeOf,
+  contentsOf,
+  writtenOver,
+  imageContents,
+  imageBodies,
+  Row,
+  rowsFrom,
+  usedOf,
+  countOf,
+  rowsIn,
+  keyAt,
+  valueAt,
+  keyParts,
+  entriesIn,
+  isKey,
+  packed,
+  tooShort,
+  isImage,
+}
+use Rattle.laws.proofs.Lists.{not-both, and-true, and-both, slice-at}
+use Rattle.laws.proofs.Keys.{isLegal, key-parts, is-key}
+
+-- what a reading may store
+unfoldable pub isStorable : Entry → Bool
+isStorable e = all isLegal (e .parts) && endsInName (e .parts) && leb (length (e .parts)) mostParts
+
+pub record Storable (e : Entry) : Type 0 where
+  pub legal : all isLegal (e .parts) ≡ true
+  pub named : endsInName (e .parts) ≡ true
+  pub few : length (e .parts) ≤ mostParts
+
+pub storable : {e : Entry} → isStorable e ≡ true → Storable e
+unfolding isStorable
+storable {e} h =
+    let p = and-true (all isLegal (e .parts) && endsInName (e .parts)) (leb (length (e .parts)) mostParts) h in
+    let q = and-true (all isLegal (e .parts)) (endsInName (e .parts)) (p .0) in
+    record { legal = q .0; named = q .1; few = leb-true (length (e .parts)) mostParts (p .1) }
+
+-- ---- The buffers
+
+pub length-zeroes : (n : ℕ) → length (zeroes n) ≡ n
+unfolding zeroes
+length-zeroes n = length-replicate n 0
+
+pub length-beyond : (n : ℕ) (xs : List ℕ) → length (beyond n xs) ≡ length xs - n
+unfolding beyond
+length-beyond n xs = length-drop n xs
+
+pub written-long : (n : ℕ) (lent xs : List ℕ) → length xs ≤ n → n ≤ length lent → length (writtenOver n lent xs) ≡ length lent
+unfolding writtenOver
+written-long n lent xs h k = simp (length-append, length-zeroes, length-beyond) (omega arith)
+
+pub length-rows : (at : ℕ) (es : List Entry) → length (rowsOf at es) ≡ rowWords * length es
+unfolding rowsOf
+length-rows at [] = refl
+length-rows at (e ∷ es) = omega (arith, length-rows (at + length (keyOf (e .parts)) + length (e .value)) es)
+
+-- ---- The rows
+
+-- the rows of entries packed from `at` on
+unfoldable pub rowsAt : ℕ → List Entry → List Row
+rowsAt at [] = []
+rowsAt at (e ∷ es) =
+    record { start = at; keyLength = length (keyOf (e .parts)); valueLength = length (e .value) }
+    ∷ rowsAt (at + length (keyOf (e .parts)) + length (e .value)) es
+
+rows-read : (at : ℕ) (es : List Entry) (rest : List ℕ) → rowsFrom (length es) (rowsOf at es ++ rest) ≡ rowsAt at es
+unfolding rowsFrom rowsOf rowsAt
+rows-read at [] rest = refl
+rows-read at (e ∷ es) rest = rw (rows-read (at + length (keyOf (e .parts)) + length (e .value)) es rest) refl
+
+pub image-rows : (es : List Entry) (lent : List ℕ) → rowsIn (imageContents es lent) ≡ rowsAt 0 es
+unfolding writtenOver contentsOf
+image-rows es lent = rw (append-assoc (rowsOf 0 es)) (rows-read 0 es _)
+
+pub image-count : (es : List Entry) (lent : List ℕ) → countOf (imageContents es lent) ≡ length es
+unfolding writtenOver contentsOf
+image-count es lent = refl
+
+pub image-used : (es : List Entry) (lent : List ℕ) → usedOf (imageContents es lent) ≡ length (storeOf es)
+unfolding writtenOver contentsOf
+image-used es lent = refl
+
+packed-rows : (at : ℕ) (es : List Entry) (used : ℕ) → at + length (storeOf es) ≡ used → packed at (rowsAt at es) used ≡ true
+unfolding packed rowsAt storeOf
+packed-rows at [] used h = eq-eqb at used (omega arith)
+packed-rows at (e ∷ es) used h =
+    let k = keyOf (e .parts) in
+    let v = e .value in
+    let on = packed-rows (at + length k + length v) es used (omega (arith, length-append (k ++ v) (storeOf es), length-append k v)) in
+    and-both (eq-eqb at at refl) on
+
+-- ---- The bodies
+
+-- the rows give the entries, and each row's key is one
+record Reads (rows : List Row) (bodies : List ℕ) (es : List Entry) : Type 0 where
+  entries : entriesIn rows bodies ≡ es
+  keys : all (λ r. isKey (keyAt bodies r)) rows ≡ true
+
+store-reads : (at : ℕ) (es : List Entry) (before rest bodies : List ℕ) → length before ≡ at → bodies ≡ before ++ (storeOf es ++ rest)
+    → all isStorable es ≡ true → Reads (rowsAt at es) bodies es
+unfolding storeOf rowsAt entriesIn all
+store-reads at [] before rest bodies h b s = record { entries = refl; keys = refl }
+store-reads at (e ∷ es) before rest bodies h b s =
+    let ps = e .parts in
+    let k = keyOf ps in
+    let v = e .value in
+    let more = storeOf es ++ rest in
+    let ok = and-true (isStorable e) (all isStorable es) s in
+    let fit = storable ok.0 in
+    let r : Row = record { start = at; keyLength = length k; valueLength = length v } in
+    let b₁ : bodies ≡ before ++ (k ++ (v ++ more)) = b ∙ simp append-assoc in
+    let b₂ : bodies ≡ (before ++ k) ++ (v ++ more) = b ∙ simp append-assoc in
+    let b₃ : bodies ≡ ((before ++ k) ++ v) ++ more = b ∙ simp append-assoc in
+    let long : length (before ++ k) ≡ at + length k = omega (arith, length-append before k) in
+    let key : keyAt bodies r ≡ k = rw b₁ (slice-at before k (v ++ more) at (at + length k) h refl) in
+    let value : valueAt bodies r ≡ v = rw b₂ (slice-at (before ++ k) v more (at + length k) (at + length k + length v) long refl) in
+    let parts : keyParts (keyAt bodies r) ≡ ps = ap keyParts key ∙ ap (λ (q : Parsed Part). q .items) (key-parts ps (fit .legal)) in
+    let ih = store-reads (at + length k + length v) es ((before ++ k) ++ v) rest bodies (omega (arith, length-append (before ++ k) v)) b₃ (ok .1) in
+    record {
+      entries = λ i. record { parts = parts i; value = value i } ∷ ih .entries i;
+      keys = and-both (ap isKey key ∙ is-key ps (fit .legal) (fit .few) (fit .named)) (ih .keys);
+    }
+
+-- ---- The image
+
+image-reads : (es : List Entry) (lent : List ℕ) → all isStorable es ≡ true → Reads (rowsAt 0 es) (imageBodies es lent) es
+unfolding writtenOver
+image-reads es lent s =
+    let pad = zeroes (bodyBytes - length (storeOf es)) in
+    store-reads 0 es [] (pad ++ beyond bodyBytes lent) (imageBodies es lent) refl
+    (append-assoc (storeOf es) pad (beyond bodyBytes lent)) s
+
+pub contents-fit : (es : List Entry) → length es ≤ mostEntries → length (contentsOf es) ≤ contentsWords
+unfolding contentsOf
+contents-fit es h = omega (arith, length-rows 0 es)
+
+-- lent buffers that are not too short have all that a reading writes
+pub long-enough : (contents bodies : List ℕ) → tooShort contents bodies ≡ false → (contentsWords ≤ length contents) × (bodyBytes ≤ length bodies)
+long-enough contents bodies e = at (ltb (length contents) contentsWords) (ltb (length bodies) bodyBytes) refl refl e
+  where
+    at : (a b : Bool) → ltb (length contents) contentsWords ≡ a → ltb (length bodies) bodyBytes ≡ b → (a || b) ≡ false
+        → (contentsWords ≤ length contents) × (bodyBytes ≤ length bodies)
+    at true b p q h = absurd (not-both refl h)
+    at false true p q h = absurd (not-both refl h)
+    at false false p q h = (ltb-false (length contents) contentsWords p, ltb-false (length bodies) bodyBytes q)
+
+module _ (es : List Entry) (lentC lentB : List ℕ) (fit : all isStorable es ≡ true) (few : length es ≤ mostEntries)
+    (small : length (storeOf es) ≤ bodyBytes) (long : tooShort lentC lentB ≡ false) where
+  pub contents-long : length (imageContents es lentC) ≡ length lentC
+  contents-long = written-long contentsWords lentC (contentsOf es) (contents-fit es few) (long-enough lentC lentB long .0)
+
+  pub bodies-long : length (imageBodies es lentB) ≡ length lentB
+  bodies-long = written-long bodyBytes lentB (storeOf es) small (long-enough lentC lentB long .1)
+
+  pub image-entries : entriesIn (rowsIn (imageContents es lentC)) (imageBodies es lentB) ≡ es
+  image-entries = ap (λ (rs : List Row). entriesIn rs (imageBodies es lentB)) (image-rows es lentC) ∙ image-reads es lentB fit .entries
+
+  pub image-long : tooShort (imageContents es lentC) (imageBodies es lentB) ≡ false
+  image-long =
+      ap (λ (n : ℕ). ltb n contentsWords || ltb (length (imageBodies es lentB)) bodyBytes) contents-long
+      ∙ ap (λ (n : ℕ). ltb (length lentC) contentsWords || ltb n bodyBytes) bodies-long ∙ long
+
+  pub image-is : isImage (imageContents es lentC) (imageBodies es lentB) ≡ true
+  unfolding isImage
+  image-is =
+      let c = imageContents es lentC in
+      let b = imageBodies es lentB in
+      let rows : rowsIn c ≡ rowsAt 0 es = image-rows es lentC in
+      let used : usedOf c ≡ length (storeOf es) = image-used es lentC in
+      let l : not (tooShort c b) ≡ true = rw image-long in
+      let n : leb (countOf c) mostEntries ≡ true = rw (image-count es lentC) (le-leb (length es) mostEntries few) in
+      let u : leb (usedOf c) bodyBytes ≡ true = rw used (le-leb (length (storeOf es)) bodyBytes small) in
+      let p : packed 0 (rowsIn c) (usedOf c) ≡ true = rw (rows, used) (packed-rows 0 es (length (storeOf es)) (omega arith)) in
+      let k : all (λ r. isKey (keyAt b r)) (rowsIn c) ≡ true = rw rows (image-reads es lentB fit .keys) in
+      and-both (and-both (and-both (and-both l n) u) p) k

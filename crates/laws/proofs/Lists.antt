@@ -7,8 +7,7 @@ use native.Mathlib.Omega.{arith}
 use native.Mathlib.Decide.{decLt}
 use lib.Dec.{eqb, ltb}
 use lib.ListN.{length, getD, take, drop}
-
-use lib.ListN.{length, take, drop, getD}
+use lib.Seq.{slice, take-append-add, take-append-seam, drop-append-seam}
 use borrow.Author.Tests.{eqb-true, eq-eqb, lt-ltb, le-ltb}
 use Rattle.definition.specs.Lists.{if_then_else_, all, any, takeWhile, dropWhile, filter, isEmpty, orElse, same, lower}
 
@@ -316,3 +315,10 @@ module _ {A : Type 0} where
   length-without zero (x ∷ xs) h = refl
   length-without (suc j) [] h = absurd (omega arith)
   length-without (suc j) (x ∷ xs) h = ap suc (length-without j xs (omega arith))
+
+-- ---- A part in the middle
+
+module _ {A : Type 0} where
+  pub slice-at : (xs ys zs : List A) (n m : ℕ) → length xs ≡ n → n + length ys ≡ m → slice n m (xs ++ (ys ++ zs)) ≡ ys
+  slice-at xs ys zs n m h k =
+      rw (← k, ← h, take-append-add xs (ys ++ zs) (length ys), take-append-seam ys zs) (drop-append-seam xs ys)

@@ -1,1 +1,48 @@
--- Laws: Lookup.
+-- Laws of lookups: the bytes that a lookup in an image answers are those that its entries give. Assumes nothing.
+use mathlib.Core.Bool.{true, false}
+use mathlib.Core.List.{List, [], _∷_}
+use mathlib.Core.Option.{some}
+use mathlib.Core.Path.{_≡_, refl, ap, _∙_}
+use Prim.Native.Nat.{ℕ, zero, suc, _≤_}
+use lib.ListN.{length, getD}
+use Rattle.definition.specs.Lists.{all}
+use Rattle.definition.specs.Limits.{bodyBytes, mostEntries}
+use Rattle.definition.specs.Text.{Entry}
+use Rattle.definition.specs.Image.{storeOf, imageContents, imageBodies, Row, rowsIn, valueAt, entriesIn, tooShort, isImage}
+use Rattle.definition.specs.Query.{Query, positions, malformed, pastLimit, queryOf}
+use Rattle.definition.specs.Ranking.{Best, noEntry, best, bestOf}
+use Rattle.definition.specs.Lookup.{keysOf, valueOf, answerOf, placeOf, lookup, getBytes, answerIn}
+use Rattle.laws.proofs.Image.{isStorable, image-entries, image-is}
+
+-- also past the last row, where both are empty
+value-there : (rows : List Row) (bodies : List ℕ) (i : ℕ)
+    → valueAt bodies (getD rows i (record { start = 0; keyLength = 0; valueLength = 0 }))
+    ≡ getD (entriesIn rows bodies) i (record { parts = []; value = [] }) .value
+unfolding entriesIn
+value-there [] bodies i = refl
+value-there (r ∷ rs) bodies zero = refl
+value-there (r ∷ rs) bodies (suc i) = value-there rs bodies i
+
+best-answer : (rows : List Row) (bodies : List ℕ) (b : Best) → answerIn bodies (placeOf rows b) ≡ valueOf (entriesIn rows bodies) b
+unfolding answerIn placeOf valueOf
+best-answer rows bodies noEntry = refl
+best-answer rows bodies (best i row) = ap (λ (v : List ℕ). some v) (value-there rows bodies i)
+
+lookup-answer : (contents bodies : List ℕ) (q : Query) → answerIn bodies (lookup contents bodies q) ≡ answerOf (entriesIn (rowsIn contents) bodies) q
+unfolding lookup answerOf answerIn
+lookup-answer contents bodies (positions qs) = best-answer (rowsIn contents) bodies (bestOf (keysOf (entriesIn (rowsIn contents) bodies)) qs)
+lookup-answer contents bodies malformed = refl
+lookup-answer contents bodies (pastLimit k) = refl
+
+pub answer-entries : (contents bodies name class : List ℕ) → isImage contents bodies ≡ true
+    → answerIn bodies (getBytes contents bodies name class) ≡ answerOf (entriesIn (rowsIn contents) bodies) (queryOf name class)
+unfolding getBytes
+answer-entries contents bodies name class h = rw h (lookup-answer contents bodies (queryOf name class))
+
+module _ (es : List Entry) (lentC lentB : List ℕ) (fit : all isStorable es ≡ true) (few : length es ≤ mostEntries)
+    (small : length (storeOf es) ≤ bodyBytes) (long : tooShort lentC lentB ≡ false) where
+  pub answer-image : (name class : List ℕ)
+      → answerIn (imageBodies es lentB) (getBytes (imageContents es lentC) (imageBodies es lentB) name class) ≡ answerOf es (queryOf name class)
+  answer-image name class =
+      answer-entries (imageContents es lentC) (imageBodies es lentB) name class (image-is es lentC lentB fit few small long)
+      ∙ ap (λ (xs : List Entry). answerOf xs (queryOf name class)) (image-entries es lentC lentB fit few small long)
