@@ -11,7 +11,6 @@ use lib.ListN.{length, getD, take, drop}
 use lib.ListN.{length, take, drop, getD}
 use lib.ListN.{length, take, drop}
 use lib.Seq.{slice, take-append-add, take-append-seam, drop-append-seam}
-
 use lib.ListN.{length, getD, take, drop, length-drop, drop-of-length-le}
 use lib.Seq.{slice, take-all, drop-cons, drop-drop, take-append-add, take-append-seam, drop-append-seam}
 use borrow.Author.Tests.{eqb-true, eq-eqb, lt-ltb, le-ltb}
@@ -328,7 +327,6 @@ module _ {A : Type 0} where
   pub slice-at : (xs ys zs : List A) (n m : ℕ) → length xs ≡ n → n + length ys ≡ m → slice n m (xs ++ (ys ++ zs)) ≡ ys
   slice-at xs ys zs n m h k =
       rw (← k, ← h, take-append-add xs (ys ++ zs) (length ys), take-append-seam ys zs) (drop-append-seam xs ys)
-
 
 -- ---- A run of elements that pass a test, as a loop goes through it
 

@@ -1,0 +1,2 @@
+-- Laws of the parser.
+pub mod Directives
