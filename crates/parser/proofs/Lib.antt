@@ -1,2 +1,3 @@
 -- Laws of the parser.
 pub mod Directives
+pub mod Resources
