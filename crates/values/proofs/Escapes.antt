@@ -8,7 +8,7 @@ use native.Mathlib.Numerals.{add-one, one-add}
 use native.Mathlib.Omega.{arith}
 use lib.Dec.{eqb, leb}
 use lib.ListN.{length, take, drop, getD, length-take, drop-of-length-le}
-use lib.Seq.{getD-take, take-take}
+use lib.Seq.{getD-take, take-take, drop-cons}
 use borrow.Author.Tests.{eq-eqb, ne-eqb, leb-true, eqb-true}
 use Rattle.definition.specs.Lists.{if_then_else_, all, takeWhile}
 use Rattle.definition.specs.Parsing.{found}
@@ -176,6 +176,21 @@ module _ (t : List ℕ) (n : ℕ) (e : n ≡ length (digits t)) where
           same = rw (escape-octals t n e h, ← e, ne-eqb n 3 k, l, one-add) (ap (λ (ds : List ℕ). found (backslash ∷ ds) (drop n t)) (rw e (sym (digits-take t))));
           inside = omega (arith, digits-inside t);
         }
+
+-- ---- A line's end
+
+pub line-over : (t : List ℕ) (n : ℕ) → n ≡ length t → lineEnds (drop n t) ≡ true
+unfolding lineEnds
+line-over t n e = rw (drop-of-length-le t {i = n} (omega arith)) refl
+
+module _ (t : List ℕ) (n : ℕ) (h : n < length t) where
+  pub line-newline : getD t n 0 ≡ newline → lineEnds (drop n t) ≡ true
+  unfolding lineEnds
+  line-newline e = rw (drop-cons t n 0 h) (eq-eqb (getD t n 0) newline e)
+
+  pub line-goes-on : (getD t n 0 ≡ newline → ⊥) → lineEnds (drop n t) ≡ false
+  unfolding lineEnds
+  line-goes-on e = rw (drop-cons t n 0 h) (ne-eqb (getD t n 0) newline e)
 
 -- ---- Pieces
 

@@ -1,3 +1,6 @@
+use Rattle.values.proofs.Escapes.{escape-end, escape-blank, escape-backslash, escape-newline, escape-joined, escape-other, escape-octal, escape-dropped, escape-kept, digits-few, digits-inside, three-octal, line-over, line-newline, line-goes-on}
+use mathlib.Core.Path.{sym, _∙_}
+use native.Mathlib.Omega.{arith}
 use borrow.Author.Needs.{needs}
 use Rattle.values.proofs.parse_escape.Statement.{statement}
 use Rattle.values.proofs.parse_escape.Tie as tie
@@ -9,7 +12,10 @@ use Rattle.values.proofs.octal_digits.Reads as octal-digits-reads
 
 -- src/lib.rt:111:9
 returns : tie.Need-returns
-returns c = ?
+returns c =
+    let start-here = c .before .before in
+    let t = start-here .args .text .now in
+    escape-end t (c .if1 .taken)
 
 -- src/lib.rt:113:13
 shared-slice-read-c : tie.Need-shared-slice-read-c
@@ -21,19 +27,33 @@ is-blank-requires c κs = search needs
 
 -- src/lib.rt:115:9
 returns-2 : tie.Need-returns-2
-returns-2 c = ?
+returns-2 c =
+    let start-here = c .before .before .before .before .before in
+    let t = start-here .args .text .now in
+    let is-blank-here = c .before in
+    let if1-here = c .before .before .before in
+    escape-blank t (omega (arith, if1-here .if1)) (sym (is-blank-here .is-blank .ensures) ∙ c .if2 .taken)
 
 -- src/lib.rt:118:9
 returns-3 : tie.Need-returns-3
-returns-3 c = ?
+returns-3 c =
+    let start-here = c .before .before .before .before .before .before in
+    let t = start-here .args .text .now in
+    escape-backslash t (omega arith) (c .if3 .taken)
 
 -- src/lib.rt:121:9
 returns-4 : tie.Need-returns-4
-returns-4 c = ?
+returns-4 c =
+    let start-here = c .before .before .before .before .before .before .before in
+    let t = start-here .args .text .now in
+    escape-newline t (omega arith) (c .if4 .taken)
 
 -- src/lib.rt:124:9
 returns-5 : tie.Need-returns-5
-returns-5 c = ?
+returns-5 c =
+    let start-here = c .before .before .before .before .before .before .before .before in
+    let t = start-here .args .text .now in
+    escape-joined t (omega arith) (c .if5 .taken)
 
 -- src/lib.rt:126:9
 octal-digits-requires : tie.Need-octal-digits-requires
@@ -41,23 +61,65 @@ octal-digits-requires c κs = search needs
 
 -- src/lib.rt:128:9
 returns-6 : tie.Need-returns-6
-returns-6 c = ?
+returns-6 c =
+    let start-here = c .before .before .before .before .before .before .before .before .before .before in
+    let t = start-here .args .text .now in
+    let octal-digits-here = c .before in
+    let n = octal-digits-here .octal-digits .result in
+    let e = octal-digits-here .octal-digits .ensures in
+    let is-blank-here = c .before .before .before .before .before .before in
+    let if1-here = c .before .before .before .before .before .before .before .before in
+    let if2-here = c .before .before .before .before .before in
+    let if3-here = c .before .before .before .before in
+    let if4-here = c .before .before .before in
+    let if5-here = c .before .before in
+    let b = sym (is-blank-here .is-blank .ensures) ∙ if2-here .if2 .left in
+    escape-other t n (omega (arith, if1-here .if1)) b (if3-here .if3 .left) (if4-here .if4 .left) (if5-here .if5 .left) e (c .if6 .taken)
 
 -- src/lib.rt:131:37
 shared-slice-read-octal : tie.Need-shared-slice-read-octal
-shared-slice-read-octal c = ?
+shared-slice-read-octal c =
+    let start-here = c .before .before .before .before .before .before .before .before .before .before .before .before in
+    let t = start-here .args .text .now in
+    let octal-digits-here = c .before .before .before in
+    let n = octal-digits-here .octal-digits .result in
+    let e = octal-digits-here .octal-digits .ensures in
+    let if7-here = c .before in
+    omega (arith, e, if7-here .if7 .taken, digits-inside t)
 
 -- src/lib.rt:131:46
 shared-slice-read-octal-2 : tie.Need-shared-slice-read-octal-2
-shared-slice-read-octal-2 c = ?
+shared-slice-read-octal-2 c =
+    let start-here = c .before .before .before .before .before .before .before .before .before .before .before .before .before in
+    let t = start-here .args .text .now in
+    let octal-digits-here = c .before .before .before .before in
+    let n = octal-digits-here .octal-digits .result in
+    let e = octal-digits-here .octal-digits .ensures in
+    let if7-here = c .before .before in
+    omega (arith, e, if7-here .if7 .taken, digits-inside t)
 
 -- src/lib.rt:131:28
 octal-requires : tie.Need-octal-requires
-octal-requires c κs = ?
+octal-requires c κs =
+    let start-here = c .before .before .before .before .before .before .before .before .before .before .before .before .before in
+    let t = start-here .args .text .now in
+    let octal-digits-here = c .before .before .before .before in
+    let n = octal-digits-here .octal-digits .result in
+    let e = octal-digits-here .octal-digits .ensures in
+    let if7-here = c .before .before in
+    three-octal t n e (if7-here .if7 .taken)
 
 -- src/lib.rt:131:9
 returns-7 : tie.Need-returns-7
-returns-7 c = ?
+returns-7 c =
+    let start-here = c .before .before .before .before .before .before .before .before .before .before .before .before .before .before in
+    let t = start-here .args .text .now in
+    let octal-digits-here = c .before .before .before .before .before in
+    let n = octal-digits-here .octal-digits .result in
+    let e = octal-digits-here .octal-digits .ensures in
+    let if7-here = c .before .before .before in
+    let octal-here = c in
+    escape-octal t n e _ (if7-here .if7 .taken) (octal-here .octal .ensures)
 
 -- src/lib.rt:134:28
 add-t14 : tie.Need-add-t14
@@ -65,27 +127,81 @@ add-t14 c = search needs
 
 -- src/lib.rt:134:9
 returns-8 : tie.Need-returns-8
-returns-8 c = ?
+returns-8 c =
+    let start-here = c .before .before .before .before .before .before .before .before .before .before .before .before in
+    let t = start-here .args .text .now in
+    let octal-digits-here = c .before .before .before in
+    let n = octal-digits-here .octal-digits .result in
+    let e = octal-digits-here .octal-digits .ensures in
+    let if6-here = c .before .before in
+    let if7-here = c .before in
+    let z = if6-here .if6 .left in
+    let k = if7-here .if7 .left in
+    escape-dropped t n e z k (line-over t n (c .if8 .taken))
 
 -- src/lib.rt:136:8
 shared-slice-read-if9 : tie.Need-shared-slice-read-if9
-shared-slice-read-if9 c = ?
+shared-slice-read-if9 c =
+    let start-here = c .before .before .before .before .before .before .before .before .before .before .before .before .before in
+    let t = start-here .args .text .now in
+    let octal-digits-here = c .before .before .before .before in
+    let n = octal-digits-here .octal-digits .result in
+    let e = octal-digits-here .octal-digits .ensures in
+    let if8-here = c .before in
+    let l = digits-inside t in
+    omega (arith, e, if8-here .if8 .left)
 
 -- src/lib.rt:137:28
 add-t16 : tie.Need-add-t16
-add-t16 c = ?
+add-t16 c =
+    let start-here = c .before .before .before .before .before .before .before .before .before .before .before .before .before .before in
+    let t = start-here .args .text .now in
+    let octal-digits-here = c .before .before .before .before .before in
+    let n = octal-digits-here .octal-digits .result in
+    let e = octal-digits-here .octal-digits .ensures in
+    omega (arith, e, digits-few t)
 
 -- src/lib.rt:137:9
 returns-9 : tie.Need-returns-9
-returns-9 c = ?
+returns-9 c =
+    let start-here = c .before .before .before .before .before .before .before .before .before .before .before .before .before .before in
+    let t = start-here .args .text .now in
+    let octal-digits-here = c .before .before .before .before .before in
+    let n = octal-digits-here .octal-digits .result in
+    let e = octal-digits-here .octal-digits .ensures in
+    let if6-here = c .before .before .before .before in
+    let if7-here = c .before .before .before in
+    let z = if6-here .if6 .left in
+    let k = if7-here .if7 .left in
+    let if8-here = c .before .before in
+    let l = digits-inside t in
+    escape-dropped t n e z k (line-newline t n (omega (arith, e, if8-here .if8 .left)) (c .if9 .taken))
 
 -- src/lib.rt:139:17
 add-t4 : tie.Need-add-t4
-add-t4 c = ?
+add-t4 c =
+    let start-here = c .before .before .before .before .before .before .before .before .before .before .before .before .before .before in
+    let t = start-here .args .text .now in
+    let octal-digits-here = c .before .before .before .before .before in
+    let n = octal-digits-here .octal-digits .result in
+    let e = octal-digits-here .octal-digits .ensures in
+    omega (arith, e, digits-few t)
 
 -- src/lib.rt:107:1
 returns-10 : tie.Need-returns-10
-returns-10 c = ?
+returns-10 c =
+    let start-here = c .before .before .before .before .before .before .before .before .before .before .before .before .before .before in
+    let t = start-here .args .text .now in
+    let octal-digits-here = c .before .before .before .before .before in
+    let n = octal-digits-here .octal-digits .result in
+    let e = octal-digits-here .octal-digits .ensures in
+    let if6-here = c .before .before .before .before in
+    let if7-here = c .before .before .before in
+    let z = if6-here .if6 .left in
+    let k = if7-here .if7 .left in
+    let if8-here = c .before .before in
+    let l = digits-inside t in
+    escape-kept t n e z k (line-goes-on t n (omega (arith, e, if8-here .if8 .left)) (c .if9 .left))
 
 pub parse-escape-spec : {M : Type 1} → statement M
 parse-escape-spec =
