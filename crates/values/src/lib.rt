@@ -30,13 +30,13 @@ pub enum Value {
     Full,
 }
 
-pub fn is_blank(c: u8) -> bool
+fn is_blank(c: u8) -> bool
     ensures { λ r. ⌜ r ≡ isBlank c ⌝ }
 {
     c == b' ' || c == b'\t'
 }
 
-pub fn is_octal_digit(c: u8) -> bool
+fn is_octal_digit(c: u8) -> bool
     ensures { λ r. ⌜ r ≡ isOctal c ⌝ }
 {
     b'0' <= c && c <= b'7'
@@ -53,13 +53,7 @@ pub fn skip_blanks(text: &[u8]) -> &[u8]
             rest = &rest[1..];
             continue;
         }
-        if c != b'\\' {
-            return rest;
-        }
-        if rest.len() < 2 {
-            return rest;
-        }
-        if rest[1] != b'\n' {
+        if c != b'\\' || rest.len() < 2 || rest[1] != b'\n' {
             return rest;
         }
         rest = &rest[2..];
@@ -111,10 +105,7 @@ fn parse_escape(text: &[u8]) -> Piece
         return Piece::Keep(1);
     }
     let c = text[0];
-    if is_blank(c) {
-        return Piece::Byte(c, 2);
-    }
-    if c == b'\\' {
+    if is_blank(c) || c == b'\\' {
         return Piece::Byte(c, 2);
     }
     if c == b'n' {
@@ -130,10 +121,7 @@ fn parse_escape(text: &[u8]) -> Piece
     if n == 3 {
         return Piece::Byte(octal(c, text[1], text[2]), 4);
     }
-    if n == text.len() {
-        return Piece::Drop(1 + n);
-    }
-    if text[n] == b'\n' {
+    if n == text.len() || text[n] == b'\n' {
         return Piece::Drop(1 + n);
     }
     Piece::Keep(1 + n)

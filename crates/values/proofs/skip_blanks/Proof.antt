@@ -1,9 +1,10 @@
+use borrow.Author.Tests.{eqb-true, eqb-false, ltb-true, ltb-false, not-true, not-false}
 use Rattle.values.proofs.Blanks.{blanks-drop, blanks-other, blanks-alone, blanks-kept, blanks-joined, blanks-end}
-use mathlib.Core.Path.{sym, _∙_}
-use native.Mathlib.Omega.{arith}
-use mathlib.Core.Path.{_≡_}
-use lib.ListN.{length}
 use Rattle.definition.specs.Text.{afterBlanks}
+use lib.ListN.{length}
+use mathlib.Core.Logic.{⊎-elim}
+use mathlib.Core.Path.{_≡_, sym, _∙_}
+use native.Mathlib.Omega.{arith}
 use borrow.Author.Needs.{needs}
 use Rattle.values.proofs.skip_blanks.Statement.{statement}
 use Rattle.values.proofs.skip_blanks.Tie as tie
@@ -51,9 +52,13 @@ loop-again c =
     let loop-here = c .before .before .before .before .before in
     let is-blank-here = c .before .before in
     let if1-here = c .before in
-    let w = loop-here .loop in
+    let v = loop-here .loop in
     let b = sym (is-blank-here .is-blank .ensures) ∙ if1-here .if1 .taken in
-    w .inv ∙ blanks-drop (w .rest .now) (omega arith) b
+    v .inv ∙ blanks-drop (v .rest .now) (omega arith) b
+
+-- src/lib.rt:56:44
+shared-slice-read-if4 : tie.Need-shared-slice-read-if4 Inv-loop μ-loop
+shared-slice-read-if4 c = search needs
 
 -- src/lib.rt:57:13
 returns : tie.Need-returns Inv-loop μ-loop
@@ -61,44 +66,22 @@ returns c =
     let loop-here = c .before .before .before .before .before in
     let is-blank-here = c .before .before in
     let if1-here = c .before in
-    let w = loop-here .loop in
+    let v = loop-here .loop in
     let b = sym (is-blank-here .is-blank .ensures) ∙ if1-here .if1 .left in
-    blanks-other (w .rest .now) b (c .if2 .taken) ∙ sym (w .inv)
+    ⊎-elim (λ w. blanks-other (v .rest .now) b (w .taken))
+    (⊎-elim (λ w. blanks-alone (v .rest .now) b (ltb-true _ 2 (w .1 .taken))) (λ w. blanks-kept (v .rest .now) b (w .0 .left) (eqb-false _ 10 (not-true _ (w .3 .taken)))))
+    (c .if2 .came)
+    ∙ sym (v .inv)
 
--- src/lib.rt:60:13
-returns-2 : tie.Need-returns-2 Inv-loop μ-loop
-returns-2 c =
-    let loop-here = c .before .before .before .before .before .before in
-    let is-blank-here = c .before .before .before in
-    let if1-here = c .before .before in
-    let w = loop-here .loop in
-    let b = sym (is-blank-here .is-blank .ensures) ∙ if1-here .if1 .left in
-    blanks-alone (w .rest .now) b (c .if3 .taken) ∙ sym (w .inv)
-
--- src/lib.rt:62:12
-shared-slice-read-if4 : tie.Need-shared-slice-read-if4 Inv-loop μ-loop
-shared-slice-read-if4 c = search needs
-
--- src/lib.rt:63:13
-returns-3 : tie.Need-returns-3 Inv-loop μ-loop
-returns-3 c =
-    let loop-here = c .before .before .before .before .before .before .before .before in
-    let is-blank-here = c .before .before .before .before .before in
-    let if1-here = c .before .before .before .before in
-    let w = loop-here .loop in
-    let b = sym (is-blank-here .is-blank .ensures) ∙ if1-here .if1 .left in
-    let if2-here = c .before .before .before in
-    blanks-kept (w .rest .now) b (if2-here .if2 .left) (c .if4 .taken) ∙ sym (w .inv)
-
--- src/lib.rt:65:16
+-- src/lib.rt:59:16
 sub-rest-2 : tie.Need-sub-rest-2 Inv-loop μ-loop
 sub-rest-2 c = search needs
 
--- src/lib.rt:65:16
+-- src/lib.rt:59:16
 part-rest-start-2 : tie.Need-part-rest-start-2 Inv-loop μ-loop
 part-rest-start-2 c = search needs
 
--- src/lib.rt:65:16
+-- src/lib.rt:59:16
 part-rest-end-2 : tie.Need-part-rest-end-2 Inv-loop μ-loop
 part-rest-end-2 c = search needs
 
@@ -112,18 +95,19 @@ loop-again-2 c =
     let loop-here = c .before .before .before .before .before .before .before .before .before in
     let is-blank-here = c .before .before .before .before .before .before in
     let if1-here = c .before .before .before .before .before in
-    let w = loop-here .loop in
+    let v = loop-here .loop in
     let b = sym (is-blank-here .is-blank .ensures) ∙ if1-here .if1 .left in
     let if2-here = c .before .before .before .before in
+    let if3-here = c .before .before .before in
     let if4-here = c .before in
-    w .inv ∙ blanks-joined (w .rest .now) (omega arith) b (if2-here .if2 .left) (if4-here .if4 .left)
+    v .inv ∙ blanks-joined (v .rest .now) (ltb-false _ 2 (if3-here .if3 .left)) b (if2-here .if2 .left) (eqb-true _ 10 (not-false _ (if4-here .if4 .left)))
 
 -- src/lib.rt:46:1
-returns-4 : tie.Need-returns-4 Inv-loop μ-loop
-returns-4 c =
+returns-2 : tie.Need-returns-2 Inv-loop μ-loop
+returns-2 c =
     let loop-here = c .before in
-    let w = loop-here .loop in
-    blanks-end (w .rest .now) (omega arith) ∙ sym (w .inv)
+    let v = loop-here .loop in
+    blanks-end (v .rest .now) (omega arith) ∙ sym (v .inv)
 
 pub skip-blanks-spec : {M : Type 1} → statement M
 skip-blanks-spec =
@@ -139,13 +123,11 @@ skip-blanks-spec =
     part-rest-end
     loop-less
     loop-again
-    returns
-    returns-2
     shared-slice-read-if4
-    returns-3
+    returns
     sub-rest-2
     part-rest-start-2
     part-rest-end-2
     loop-less-2
     loop-again-2
-    returns-4)
+    returns-2)
