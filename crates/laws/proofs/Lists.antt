@@ -1,6 +1,6 @@
 -- Laws of the words for lists. Assumes nothing.
 use mathlib.Core.Bool.{Bool, true, false, _&&_, _||_, not, or-assoc}
-use mathlib.Core.List.{List, [], _∷_, _++_, map}
+use mathlib.Core.List.{List, [], _∷_, _++_, map, append-assoc}
 use mathlib.Core.Path.{_≡_, refl, sym, ap, _∙_}
 use Prim.Native.Nat.{ℕ, zero, suc, _+_, _-_, _≤_, _<_}
 use native.Mathlib.Numerals.{add-one, one-add}
@@ -13,6 +13,27 @@ use lib.ListN.{length, take, drop}
 use lib.Seq.{slice, take-append-add, take-append-seam, drop-append-seam}
 use lib.ListN.{length, getD, take, drop, length-drop, drop-of-length-le}
 use lib.Seq.{slice, take-all, drop-cons, drop-drop, take-append-add, take-append-seam, drop-append-seam}
+
+use native.Mathlib.Nat.{le-refl}
+use native.Mathlib.Omega.{arith}
+use native.Mathlib.Decide.{decLt}
+use lib.Dec.{eqb, ltb}
+use lib.ListN.{length, getD, take, drop, set, length-append, length-drop}
+use lib.Seq.{
+  slice,
+  paste,
+  take-all,
+  take-length,
+  length-take-le,
+  take-append-add,
+  take-append-seam,
+  drop-append-seam,
+  drop-cons,
+  drop-drop,
+  sets-eq,
+  take-paste,
+  drop-paste,
+}
 use borrow.Author.Tests.{eqb-true, eq-eqb, lt-ltb, le-ltb}
 use Rattle.definition.specs.Lists.{if_then_else_, all, any, takeWhile, dropWhile, filter, isEmpty, orElse, same, lower}
 
@@ -421,3 +442,29 @@ module _ {A : Type 0} where
 
     pub suffix-run : (p : A → Bool) → Suffix (dropWhile p u) t
     suffix-run p = rw (← drop-run p u) (suffix-drop (length (takeWhile p u)) (length-takeWhile-le p u))
+
+-- ---- Parts of a slice, and lists stored into a list
+
+module _ {A : Type 0} where
+  -- one element stored
+  pub paste-one : (d : List A) (at : ℕ) (x : A) → at < length d → set d at x ≡ paste d at (x ∷ []) 1
+  paste-one d at x h = sets-eq (x ∷ []) d at (omega arith)
+
+  -- of a list only the beginning is stored
+  pub paste-take : (d : List A) (at : ℕ) (s : List A) (n : ℕ) → n ≤ length s → paste d at s n ≡ paste d at (take n s) (length (take n s))
+  paste-take d at s n h = rw (take-length (take n s), length-take-le n s h) refl
+
+  -- two lists stored one after the other
+  pub paste-append : (d : List A) (at : ℕ) (xs ys : List A) → at + length xs ≤ length d
+      → paste d at (xs ++ ys) (length (xs ++ ys)) ≡ paste (paste d at xs (length xs)) (at + length xs) ys (length ys)
+  paste-append d at xs ys h =
+      let n = at + length xs in
+      let e : at + (length xs + length ys) ≡ n + length ys = omega arith in
+      let f : at ≤ length d = omega arith in
+      let g : take n (paste d at xs (length xs)) ≡ take at d ++ xs =
+      take-paste d at xs (length xs) f (le-refl (length xs)) ∙ ap (λ (l : List A). take at d ++ l) (take-length xs) in
+      let k : drop (n + length ys) (paste d at xs (length xs)) ≡ drop (n + length ys) d =
+      sym (drop-drop (length ys) n (paste d at xs (length xs)))
+      ∙ ap (drop (length ys)) (drop-paste d at xs (length xs) f (le-refl (length xs)))
+      ∙ drop-drop (length ys) n d in
+      rw (take-length (xs ++ ys), length-append xs ys, e, g, k, take-length ys, append-assoc (take at d) xs ys) refl
