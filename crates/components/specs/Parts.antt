@@ -49,10 +49,16 @@ pub record Parted (t : List ℕ) (r : Next) : Type 0 where
   pub bytes : r .start < r .end → componentBytes (partOf t r .component) ≡ bytesOf t r
   pub inside : r .end ≤ length t
 
--- the parts at the front of t
+-- the parts at the front of a text, and the key that writes them
+abbrev pub partsFirst : List ℕ → List Part
+partsFirst t = many partAt t .items
+
+abbrev pub keyFirst : List ℕ → List ℕ
+keyFirst t = keyOf (partsFirst t)
+
 pub record Counted (t : List ℕ) (r : Components) : Type 0 where
-  pub count : r .count ≡ length (many partAt t .items)
-  pub size : r .size ≡ length (keyOf (many partAt t .items))
-  pub named : r .named ≡ endsInName (many partAt t .items)
+  pub count : r .count ≡ length (partsFirst t)
+  pub size : r .size ≡ length (keyFirst t)
+  pub named : r .named ≡ endsInName (partsFirst t)
   pub rest : drop (r .end) t ≡ many partAt t .rest
   pub inside : r .end ≤ length t

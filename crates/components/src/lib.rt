@@ -4,10 +4,8 @@ ghost use mathlib.Core.Path.{_≡_};
 ghost use Prim.Native.Nat.{_+_, _≤_};
 ghost use lib.ListN.{length};
 ghost use lib.Seq.{paste};
-ghost use Rattle.definition.specs.Parsing.{many};
-ghost use Rattle.definition.specs.Text.{partAt};
-ghost use Rattle.definition.specs.Image.{bindingByte, keyOf};
-ghost use Rattle.components.specs.Parts.{bindingIf, Bound, Begun, Parted, Counted};
+ghost use Rattle.definition.specs.Image.{bindingByte};
+ghost use Rattle.components.specs.Parts.{bindingIf, keyFirst, Bound, Begun, Parted, Counted};
 
 // Bindings, one after another: is one a `*`, and how many are there?
 struct Run {
@@ -145,8 +143,8 @@ fn copy_in(source: &[u8], store: &mut [u8], at: usize)
 
 // Writes the key of the parts at the front of `text` into `store` from `at` on.
 pub fn write_key(text: &[u8], store: &mut [u8], at: usize)
-    requires { ⌜ at + length (keyOf (many partAt (now text) .items)) ≤ length (now store) ⌝ }
-    ensures { λ _. ⌜ now (store .exit) ≡ paste (now (store .entry)) at (keyOf (many partAt (now (text .entry)) .items)) (length (keyOf (many partAt (now (text .entry)) .items))) ⌝ }
+    requires { ⌜ at + length (keyFirst (now text)) ≤ length (now store) ⌝ }
+    ensures { λ _. ⌜ now (store .exit) ≡ paste (now (store .entry)) at (keyFirst (now (text .entry))) (length (keyFirst (now (text .entry)))) ⌝ }
 {
     let mut rest = text;
     let mut place = at;

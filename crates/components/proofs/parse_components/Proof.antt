@@ -31,42 +31,22 @@ returns c =
     counting-done (loop-here .loop .inv) (next-part-here .next-part .ensures) (if1-here .if1 .taken)
 
 add-count : tie.Need-add-count Inv-loop μ-loop
-add-count c =
-    let start-here = c .before .before .before .before in
-    let loop-here = c .before .before in
-    let next-part-here = c .before in
-    omega (arith, start-here .good .0 .1, loop-here .loop .inv .count-most, loop-here .loop .inv .size-most, next-part-here .next-part .ensures .inside)
+add-count c = omega arith
 
 sub-size : tie.Need-sub-size Inv-loop μ-loop
 sub-size c = search needs
 
 add-size : tie.Need-add-size Inv-loop μ-loop
-add-size c =
-    let start-here = c .before .before .before .before in
-    let loop-here = c .before .before in
-    let next-part-here = c .before in
-    omega (arith, start-here .good .0 .1, loop-here .loop .inv .count-most, loop-here .loop .inv .size-most, next-part-here .next-part .ensures .inside)
+add-size c = omega arith
 
 add-size-2 : tie.Need-add-size-2 Inv-loop μ-loop
-add-size-2 c =
-    let start-here = c .before .before .before .before in
-    let loop-here = c .before .before in
-    let next-part-here = c .before in
-    omega (arith, start-here .good .0 .1, loop-here .loop .inv .count-most, loop-here .loop .inv .size-most, next-part-here .next-part .ensures .inside)
+add-size-2 c = omega arith
 
 sub-rest : tie.Need-sub-rest Inv-loop μ-loop
-sub-rest c =
-    let start-here = c .before .before .before .before in
-    let loop-here = c .before .before in
-    let next-part-here = c .before in
-    omega (arith, start-here .good .0 .1, loop-here .loop .inv .count-most, loop-here .loop .inv .size-most, next-part-here .next-part .ensures .inside)
+sub-rest c = omega arith
 
 part-rest-start : tie.Need-part-rest-start Inv-loop μ-loop
-part-rest-start c =
-    let start-here = c .before .before .before .before in
-    let loop-here = c .before .before in
-    let next-part-here = c .before in
-    omega (arith, start-here .good .0 .1, loop-here .loop .inv .count-most, loop-here .loop .inv .size-most, next-part-here .next-part .ensures .inside)
+part-rest-start c = omega arith
 
 part-rest-end : tie.Need-part-rest-end Inv-loop μ-loop
 part-rest-end c = search needs

@@ -45,43 +45,20 @@ binding-byte-requires c κs = search needs
 
 slice-write-store : tie.Need-slice-write-store Inv-loop μ-loop
 slice-write-store c =
-    let start-here = c .before .before .before .before .before .before in
-    let loop-here = c .before .before .before in
-    let next-part-here = c .before .before in
     let if1-here = c .before in
-    omega (arith, room if1-here, if1-here .if1 .left, next-part-here .next-part .ensures .inside, loop-here .loop .inv .long, start-here .good .1 .0)
+    omega (arith, room if1-here)
 
 sub-copy-in : tie.Need-sub-copy-in Inv-loop μ-loop
-sub-copy-in c =
-    let start-here = c .before .before .before .before .before .before in
-    let loop-here = c .before .before .before in
-    let next-part-here = c .before .before in
-    let if1-here = c .before in
-    omega (arith, room if1-here, if1-here .if1 .left, next-part-here .next-part .ensures .inside, loop-here .loop .inv .long, start-here .good .1 .0)
+sub-copy-in c = omega arith
 
 part-copy-in-start : tie.Need-part-copy-in-start Inv-loop μ-loop
-part-copy-in-start c =
-    let start-here = c .before .before .before .before .before .before in
-    let loop-here = c .before .before .before in
-    let next-part-here = c .before .before in
-    let if1-here = c .before in
-    omega (arith, room if1-here, if1-here .if1 .left, next-part-here .next-part .ensures .inside, loop-here .loop .inv .long, start-here .good .1 .0)
+part-copy-in-start c = omega arith
 
 part-copy-in-end : tie.Need-part-copy-in-end Inv-loop μ-loop
-part-copy-in-end c =
-    let start-here = c .before .before .before .before .before .before in
-    let loop-here = c .before .before .before in
-    let next-part-here = c .before .before in
-    let if1-here = c .before in
-    omega (arith, room if1-here, if1-here .if1 .left, next-part-here .next-part .ensures .inside, loop-here .loop .inv .long, start-here .good .1 .0)
+part-copy-in-end c = omega arith
 
 add-copy-in : tie.Need-add-copy-in Inv-loop μ-loop
-add-copy-in c =
-    let start-here = c .before .before .before .before .before .before .before .before in
-    let loop-here = c .before .before .before .before .before in
-    let next-part-here = c .before .before .before .before in
-    let if1-here = c .before .before .before in
-    omega (arith, room if1-here, if1-here .if1 .left, next-part-here .next-part .ensures .inside, loop-here .loop .inv .long, start-here .good .1 .0)
+add-copy-in c = omega arith
 
 copy-in-requires : tie.Need-copy-in-requires Inv-loop μ-loop
 copy-in-requires c κs =
@@ -92,44 +69,23 @@ copy-in-requires c κs =
     copy-room (loop-here .loop .inv) (next-part-here .next-part .ensures) (if1-here .if1 .left) (binding-byte-here .binding-byte .result)
 
 sub-place : tie.Need-sub-place Inv-loop μ-loop
-sub-place c =
-    let start-here = c .before .before .before .before .before .before .before .before .before .before .before in
-    let loop-here = c .before .before .before .before .before .before .before .before in
-    let next-part-here = c .before .before .before .before .before .before .before in
-    let if1-here = c .before .before .before .before .before .before in
-    omega (arith, room if1-here, if1-here .if1 .left, next-part-here .next-part .ensures .inside, loop-here .loop .inv .long, start-here .good .1 .0)
+sub-place c = omega arith
 
 add-place : tie.Need-add-place Inv-loop μ-loop
 add-place c =
-    let start-here = c .before .before .before .before .before .before .before .before .before .before .before in
-    let loop-here = c .before .before .before .before .before .before .before .before in
-    let next-part-here = c .before .before .before .before .before .before .before in
     let if1-here = c .before .before .before .before .before .before in
-    omega (arith, room if1-here, if1-here .if1 .left, next-part-here .next-part .ensures .inside, loop-here .loop .inv .long, start-here .good .1 .0)
+    omega (arith, room if1-here)
 
 add-place-2 : tie.Need-add-place-2 Inv-loop μ-loop
 add-place-2 c =
-    let start-here = c .before .before .before .before .before .before .before .before .before .before .before in
-    let loop-here = c .before .before .before .before .before .before .before .before in
-    let next-part-here = c .before .before .before .before .before .before .before in
     let if1-here = c .before .before .before .before .before .before in
-    omega (arith, room if1-here, if1-here .if1 .left, next-part-here .next-part .ensures .inside, loop-here .loop .inv .long, start-here .good .1 .0)
+    omega (arith, room if1-here)
 
 sub-rest : tie.Need-sub-rest Inv-loop μ-loop
-sub-rest c =
-    let start-here = c .before .before .before .before .before .before .before .before .before .before .before in
-    let loop-here = c .before .before .before .before .before .before .before .before in
-    let next-part-here = c .before .before .before .before .before .before .before in
-    let if1-here = c .before .before .before .before .before .before in
-    omega (arith, room if1-here, if1-here .if1 .left, next-part-here .next-part .ensures .inside, loop-here .loop .inv .long, start-here .good .1 .0)
+sub-rest c = omega arith
 
 part-rest-start : tie.Need-part-rest-start Inv-loop μ-loop
-part-rest-start c =
-    let start-here = c .before .before .before .before .before .before .before .before .before .before .before in
-    let loop-here = c .before .before .before .before .before .before .before .before in
-    let next-part-here = c .before .before .before .before .before .before .before in
-    let if1-here = c .before .before .before .before .before .before in
-    omega (arith, room if1-here, if1-here .if1 .left, next-part-here .next-part .ensures .inside, loop-here .loop .inv .long, start-here .good .1 .0)
+part-rest-start c = omega arith
 
 part-rest-end : tie.Need-part-rest-end Inv-loop μ-loop
 part-rest-end c = search needs
