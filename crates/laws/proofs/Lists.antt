@@ -34,6 +34,9 @@ use lib.Seq.{
   take-paste,
   drop-paste,
 }
+
+use lib.ListN.{length, getD, take, drop, set, length-append, length-drop, length-set, drop-of-length-le}
+use lib.Seq.{slice, paste, take-all, take-length, take-paste, drop-paste, set-split, append-snoc, drop-cons, drop-drop, take-append-add, take-append-seam, drop-append-seam}
 use borrow.Author.Tests.{eqb-true, eq-eqb, lt-ltb, le-ltb}
 use Rattle.definition.specs.Lists.{if_then_else_, all, any, takeWhile, dropWhile, filter, isEmpty, orElse, same, lower}
 
@@ -468,3 +471,39 @@ module _ {A : Type 0} where
       ∙ ap (drop (length ys)) (drop-paste d at xs (length xs) f (le-refl (length xs)))
       ∙ drop-drop (length ys) n d in
       rw (take-length (xs ++ ys), length-append xs ys, e, g, k, take-length ys, append-assoc (take at d) xs ys) refl
+
+-- ---- Copies, one after another
+
+module _ {A : Type 0} (d : List A) (at : ℕ) where
+  pub set-paste : (x : A) → at < length d → set d at x ≡ paste d at (x ∷ []) 1
+  set-paste x h = set-split d at x h ∙ rw (← add-one at) (sym (append-snoc (take at d) x (drop (at + 1) d)))
+
+  pub paste-append : (xs ys : List A) → at + (length xs + length ys) ≤ length d
+      → paste (paste d at xs (length xs)) (at + length xs) ys (length ys) ≡ paste d at (xs ++ ys) (length (xs ++ ys))
+  paste-append xs ys h =
+      let p = paste d at xs (length xs) in
+      let sum : at + length xs + length ys ≡ at + (length xs + length ys) = omega arith in
+      let front : take (at + length xs) p ≡ take at d ++ xs =
+      take-paste d at xs (length xs) (omega arith) (omega arith) ∙ ap (λ (l : List A). take at d ++ l) (take-length xs) in
+      let back : drop (at + length xs + length ys) p ≡ drop (at + (length xs + length ys)) d =
+      sym (drop-drop (length ys) (at + length xs) p)
+      ∙ ap (drop (length ys)) (drop-paste d at xs (length xs) (omega arith) (omega arith))
+      ∙ drop-drop (length ys) (at + length xs) d
+      ∙ ap (λ (n : ℕ). drop n d) sum in
+      ap (λ (l : List A). l ++ take (length ys) ys ++ drop (at + length xs + length ys) p) front
+      ∙ ap (λ (l : List A). take at d ++ xs ++ l ++ drop (at + length xs + length ys) p) (take-length ys)
+      ∙ ap (λ (l : List A). take at d ++ xs ++ ys ++ l) back
+      ∙ ap (λ (l : List A). l ++ drop (at + (length xs + length ys)) d) (append-assoc (take at d) xs ys)
+      ∙ sym (rw (take-length (xs ++ ys), length-append xs ys) refl)
+
+-- an element, and others after it
+pub paste-cons : {A : Type 0} (d : List A) (at : ℕ) (x : A) (xs ys : List A) → at + (1 + length xs + length ys) ≤ length d
+    → paste (paste (set d at x) (at + 1) xs (length xs)) (at + (1 + length xs)) ys (length ys)
+    ≡ paste d at (x ∷ xs ++ ys) (length (x ∷ xs ++ ys))
+paste-cons {A} d at x xs ys h =
+    let e : at + (1 + length xs) ≡ at + 1 + length xs = omega arith in
+    let k : at + 1 + (length xs + length ys) ≤ length (set d at x) = rw (length-set d at x) (omega arith) in
+    let m : at + (1 + length (xs ++ ys)) ≤ length d = rw (length-append xs ys) (omega arith) in
+    rw e (paste-append (set d at x) (at + 1) xs ys k)
+    ∙ ap (λ (l : List A). paste l (at + 1) (xs ++ ys) (length (xs ++ ys))) (set-paste d at x (omega arith))
+    ∙ paste-append d at (x ∷ []) (xs ++ ys) m
