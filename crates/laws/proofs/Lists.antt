@@ -3,13 +3,13 @@ use mathlib.Core.Bool.{Bool, true, false, _&&_, _||_, not, or-assoc}
 use mathlib.Core.List.{List, [], _∷_, _++_, map}
 use mathlib.Core.Path.{_≡_, refl, sym, ap, _∙_}
 use Prim.Native.Nat.{ℕ, zero, suc, _+_, _≤_, _<_}
+use native.Mathlib.Numerals.{add-one}
 use native.Mathlib.Omega.{arith}
 use native.Mathlib.Decide.{decLt}
 use lib.Dec.{eqb, ltb}
-use lib.ListN.{length, getD, take, drop}
-
-use lib.ListN.{length, take, drop, getD}
-use borrow.Author.Tests.{eqb-true, eq-eqb, lt-ltb, le-ltb}
+use lib.ListN.{length, getD, take, drop, drop-of-length-le}
+use lib.Seq.{drop-cons}
+use borrow.Author.Tests.{eqb-true, eq-eqb, ne-eqb, lt-ltb, le-ltb}
 use Rattle.definition.specs.Lists.{if_then_else_, all, any, takeWhile, dropWhile, filter, isEmpty, orElse, same, lower}
 
 -- ---- Tests
@@ -316,3 +316,55 @@ module _ {A : Type 0} where
   length-without zero (x ∷ xs) h = refl
   length-without (suc j) [] h = absurd (omega arith)
   length-without (suc j) (x ∷ xs) h = ap suc (length-without j xs (omega arith))
+
+-- ---- Two lists compared from a place on
+
+module _ (xs ys : List ℕ) (i : ℕ) (hx : i < length xs) (hy : i < length ys) where
+  pub same-from-equal : getD xs i 0 ≡ getD ys i 0 → same (drop i xs) (drop i ys) ≡ same (drop (i + 1) xs) (drop (i + 1) ys)
+  unfolding same
+  same-from-equal e = rw (add-one, drop-cons xs i 0 hx, drop-cons ys i 0 hy, eq-eqb (getD xs i 0) (getD ys i 0) e) refl
+
+  pub same-from-other : (getD xs i 0 ≡ getD ys i 0 → ⊥) → same (drop i xs) (drop i ys) ≡ false
+  unfolding same
+  same-from-other e = rw (drop-cons xs i 0 hx, drop-cons ys i 0 hy, ne-eqb (getD xs i 0) (getD ys i 0) e) refl
+
+  pub lower-from-below : getD xs i 0 < getD ys i 0 → lower (drop i xs) (drop i ys) ≡ true
+  lower-from-below e = rw (drop-cons xs i 0 hx, drop-cons ys i 0 hy) (lower-below (getD xs i 0) (getD ys i 0) (drop (suc i) xs) (drop (suc i) ys) e)
+
+  pub lower-from-above : getD ys i 0 < getD xs i 0 → lower (drop i xs) (drop i ys) ≡ false
+  lower-from-above e = rw (drop-cons xs i 0 hx, drop-cons ys i 0 hy) (lower-above (getD xs i 0) (getD ys i 0) (drop (suc i) xs) (drop (suc i) ys) e)
+
+  pub lower-from-equal : getD xs i 0 ≡ getD ys i 0 → lower (drop i xs) (drop i ys) ≡ lower (drop (i + 1) xs) (drop (i + 1) ys)
+  lower-from-equal e = rw (add-one, drop-cons xs i 0 hx, drop-cons ys i 0 hy) (lower-equal (getD xs i 0) (getD ys i 0) (drop (suc i) xs) (drop (suc i) ys) e)
+
+pub same-from-end : (xs ys : List ℕ) (i : ℕ) → length xs ≤ i → length ys ≤ i → same (drop i xs) (drop i ys) ≡ true
+unfolding same
+same-from-end xs ys i hx hy = rw (drop-of-length-le xs hx, drop-of-length-le ys hy) refl
+
+-- where the second ends first
+pub lower-from-short : (xs ys : List ℕ) (i : ℕ) → i < length xs → length ys ≤ i → lower (drop i xs) (drop i ys) ≡ false
+unfolding lower
+lower-from-short xs ys i hx hy = rw (drop-cons xs i 0 hx, drop-of-length-le ys hy) refl
+
+-- where the first ends
+pub lower-from-end : (xs ys : List ℕ) (i : ℕ) → length xs ≤ i → lower (drop i xs) (drop i ys) ≡ ltb i (length ys)
+unfolding lower
+lower-from-end xs ys i hx = at (decLt i (length ys))
+  where
+    at : Dec (i < length ys) → lower (drop i xs) (drop i ys) ≡ ltb i (length ys)
+    at (yes h) = rw (drop-of-length-le xs hx, drop-cons ys i 0 h, lt-ltb i (length ys) h) refl
+    at (no h) = let k : length ys ≤ i = omega arith in rw (drop-of-length-le xs hx, drop-of-length-le ys k, le-ltb i (length ys) k) refl
+
+-- lists of different lengths differ
+pub same-lengths : (xs ys : List ℕ) → (length xs ≡ length ys → ⊥) → same xs ys ≡ false
+same-lengths xs ys h = at (same xs ys) refl
+  where
+    at : (b : Bool) → same xs ys ≡ b → b ≡ false
+    at true e = absurd (h (ap length (same-eq xs ys e)))
+    at false e = refl
+
+-- what passes at every place passes as a whole
+pub getD-all : {A : Type 0} (p : A → Bool) (xs : List A) (d : A) → ((i : ℕ) → i < length xs → p (getD xs i d) ≡ true) → all p xs ≡ true
+unfolding all
+getD-all p [] d f = refl
+getD-all p (x ∷ xs) d f = and-both (f 0 (omega arith)) (getD-all p xs d (λ i h. f (suc i) (omega arith)))

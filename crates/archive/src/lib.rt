@@ -1,0 +1,152 @@
+// Document 01's shelf: judged, searched, and one file removed.
+ghost use mathlib.Core.Path.{_≡_};
+ghost use mathlib.Core.Bool.{true};
+ghost use Prim.Native.Nat.{_+_, _<_};
+ghost use lib.ListN.{length};
+ghost use Rattle.definition.specs.Bytes.{isName};
+ghost use Rattle.definition.specs.Bytes as bytes;
+ghost use Rattle.definition.specs.Lists.{lower};
+ghost use Rattle.definition.specs.Archive.{numberAt, isFileName};
+ghost use Rattle.archive.specs.Names.{ended, dotted, lettered, next, passes};
+
+// What a name has since its last `/`.
+enum Part {
+    Empty,
+    Dot,
+    DotDot,
+    // anything else that a part may be
+    Good,
+    // the name has a part or a byte that it may not have
+    Bad,
+}
+
+// The number in two bytes, low byte first.
+pub fn word_at(archive: &[u8], i: usize) -> usize
+    requires { ⌜ i + 1 < length (now archive) ⌝ }
+    ensures { λ r. ⌜ (r ≡ numberAt (now (archive .entry)) i) × (r < 65536) ⌝ }
+{
+    archive[i] as usize + 256 * (archive[i + 1] as usize)
+}
+
+// Does a stand below b? The first difference decides, and a beginning stands below the whole.
+pub fn lower(a: &[u8], b: &[u8]) -> bool
+    ensures { λ r. ⌜ r ≡ lower (now (a .entry)) (now (b .entry)) ⌝ }
+{
+    let mut i = 0;
+    while i < a.len() {
+        if b.len() <= i {
+            return false;
+        }
+        if a[i] < b[i] {
+            return true;
+        }
+        if b[i] < a[i] {
+            return false;
+        }
+        i += 1;
+    }
+    i < b.len()
+}
+
+fn within(a: u8, b: u8, c: u8) -> bool
+    ensures { λ r. ⌜ r ≡ bytes.within a b c ⌝ }
+{
+    if a <= c { c <= b } else { false }
+}
+
+fn is_name(c: u8) -> bool
+    ensures { λ r. ⌜ r ≡ isName c ⌝ }
+{
+    if within(b'A', b'Z', c) {
+        return true;
+    }
+    if within(b'a', b'z', c) {
+        return true;
+    }
+    if within(b'0', b'9', c) {
+        return true;
+    }
+    if c == b'_' {
+        return true;
+    }
+    c == b'-'
+}
+
+fn ended(part: Part) -> Part
+    ensures { λ r. ⌜ r ≡ ended part ⌝ }
+{
+    match part {
+        Part::Good => Part::Empty,
+        Part::Empty => Part::Bad,
+        Part::Dot => Part::Bad,
+        Part::DotDot => Part::Bad,
+        Part::Bad => Part::Bad,
+    }
+}
+
+fn dotted(part: Part) -> Part
+    ensures { λ r. ⌜ r ≡ dotted part ⌝ }
+{
+    match part {
+        Part::Empty => Part::Dot,
+        Part::Dot => Part::DotDot,
+        Part::DotDot => Part::Good,
+        Part::Good => Part::Good,
+        Part::Bad => Part::Bad,
+    }
+}
+
+fn lettered(part: Part) -> Part
+    ensures { λ r. ⌜ r ≡ lettered part ⌝ }
+{
+    match part {
+        Part::Empty => Part::Good,
+        Part::Dot => Part::Good,
+        Part::DotDot => Part::Good,
+        Part::Good => Part::Good,
+        Part::Bad => Part::Bad,
+    }
+}
+
+fn next(part: Part, c: u8) -> Part
+    ensures { λ r. ⌜ r ≡ next part c ⌝ }
+{
+    if c == b'/' {
+        return ended(part);
+    }
+    if c == b'.' {
+        return dotted(part);
+    }
+    if is_name(c) {
+        return lettered(part);
+    }
+    Part::Bad
+}
+
+fn passes(part: Part) -> bool
+    ensures { λ r. ⌜ r ≡ passes part ⌝ }
+{
+    match part {
+        Part::Good => true,
+        Part::Empty => false,
+        Part::Dot => false,
+        Part::DotDot => false,
+        Part::Bad => false,
+    }
+}
+
+// One to 96 bytes, parts joined by single `/`.
+pub fn is_file_name(name: &[u8]) -> bool
+    ensures { λ r. ⌜ r ≡ isFileName (now (name .entry)) ⌝ }
+{
+    if 96 < name.len() {
+        return false;
+    }
+    let mut part = Part::Empty;
+    let mut i = 0;
+    while i < name.len() {
+        part = next(part, name[i]);
+        i += 1;
+    }
+    passes(part)
+}
