@@ -1,12 +1,15 @@
 // Document 01's shelf: judged, searched, and one file removed.
 ghost use mathlib.Core.Path.{_≡_};
 ghost use mathlib.Core.Bool.{true};
+ghost use mathlib.Core.List.{[]};
 ghost use Prim.Native.Nat.{_+_, _<_};
 ghost use lib.ListN.{length};
 ghost use Rattle.definition.specs.Bytes.{isName};
 ghost use Rattle.definition.specs.Bytes as bytes;
 ghost use Rattle.definition.specs.Lists.{lower};
-ghost use Rattle.definition.specs.Archive.{numberAt, isFileName};
+ghost use Rattle.definition.specs.Archive.{numberAt, filesOf, isFileName, laidOut};
+ghost use Rattle.laws.proofs.Walked.{fits};
+ghost use Rattle.archive.specs.Walk.{risingFrom};
 ghost use Rattle.archive.specs.Names.{ended, dotted, lettered, next, passes};
 
 // What a name has since its last `/`.
@@ -149,4 +152,72 @@ pub fn is_file_name(name: &[u8]) -> bool
         i += 1;
     }
     passes(part)
+}
+
+// Do the lengths sum to the bytes that follow them, and to nothing less?
+fn fits(archive: &[u8]) -> bool
+    ensures { λ r. ⌜ r ≡ fits (now (archive .entry)) ⌝ }
+{
+    if archive.len() < 2 {
+        return false;
+    }
+    let count = word_at(archive, 0);
+    let mut at = 2 + 4 * count;
+    if archive.len() < at {
+        return false;
+    }
+    let mut j = 0;
+    while j < count {
+        let n = word_at(archive, 2 + 4 * j);
+        let m = word_at(archive, 4 + 4 * j);
+        if archive.len() - at < n + m {
+            return false;
+        }
+        at += n + m;
+        j += 1;
+    }
+    at == archive.len()
+}
+
+// Are the names file names, each above the one before it?
+fn names_rise(archive: &[u8]) -> bool
+    requires { ⌜ fits (now archive) ≡ true ⌝ }
+    ensures { λ r. ⌜ r ≡ risingFrom [] (filesOf (now (archive .entry))) ⌝ }
+{
+    let count = word_at(archive, 0);
+    let mut at = 2 + 4 * count;
+    let mut last = &archive[..0];
+    let mut j = 0;
+    while j < count {
+        let n = word_at(archive, 2 + 4 * j);
+        let m = word_at(archive, 4 + 4 * j);
+        let end = at + n;
+        let name = &archive[at..end];
+        if !is_file_name(name) {
+            return false;
+        }
+        if !lower(last, name) {
+            return false;
+        }
+        last = name;
+        at += n + m;
+        j += 1;
+    }
+    true
+}
+
+// Is it laid out as document 01's shelf? (Otherwise a reading is refused with 3.)
+pub fn is_archive(archive: &[u8]) -> bool
+    ensures { λ r. ⌜ r ≡ laidOut (now (archive .entry)) ⌝ }
+{
+    if 65536 < archive.len() {
+        return false;
+    }
+    if !fits(archive) {
+        return false;
+    }
+    if 64 < word_at(archive, 0) {
+        return false;
+    }
+    names_rise(archive)
 }

@@ -30,7 +30,7 @@ low-half a b h = omega arith
 high-half : (a b : ℕ) → a < 256 → (a + 256 * b) / 256 ≡ b
 high-half a b h = omega arith
 
-number-from : (n : ℕ) (lengths bodies : List ℕ) → length (filesFrom n lengths bodies) ≡ n
+pub number-from : (n : ℕ) (lengths bodies : List ℕ) → length (filesFrom n lengths bodies) ≡ n
 unfolding filesFrom
 number-from zero lengths bodies = refl
 number-from (suc n) lengths bodies = ap suc (number-from n (drop 4 lengths) (drop (numberAt lengths 0 + numberAt lengths 2) bodies))
