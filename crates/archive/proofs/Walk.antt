@@ -16,7 +16,8 @@ use Rattle.definition.specs.Lists.{all, isEmpty, same, lower}
 use Rattle.definition.specs.Limits.{archiveBytes, archiveFiles}
 use Rattle.definition.specs.Archive.{File, numberAt, archiveOf, filesFrom, filesOf, split, isNamePart, isFileName, rising, areFiles, laidOut}
 use Rattle.laws.proofs.Lists.{not-both, and-true, getD-all}
-use Rattle.laws.proofs.Walked.{fits, fitsFrom, fits-archive, number-from}
+use Rattle.laws.proofs.Archive.{laidOut-archive}
+use Rattle.laws.proofs.Walked.{fits, fitsFrom, fits-archive, files-fit, number-from}
 use Rattle.archive.specs.Walk.{risingFrom}
 
 -- ---- What is left of the walk
@@ -131,6 +132,9 @@ fits-room s h =
     let p = and-true (leb 2 (length s) && leb (2 + 4 * numberAt s 0) (length s)) (fitsFrom (numberAt s 0) (drop 2 s) (drop (2 + 4 * numberAt s 0) s)) h in
     let q = and-true (leb 2 (length s)) (leb (2 + 4 * numberAt s 0) (length s)) (p .0) in
     (leb-true 2 (length s) (q .0), leb-true (2 + 4 * numberAt s 0) (length s) (q .1))
+
+pub laid-fits : (s : List ℕ) → laidOut s ≡ true → fits s ≡ true
+laid-fits s h = ap fits (sym (laidOut-archive s h)) ∙ files-fit (filesOf s)
 
 pub fits-left : (s : List ℕ) (count : ℕ) → count ≡ numberAt s 0 → fits s ≡ true → fitsLeft s count (2 + 4 * count) 0 ≡ true
 fits-left s count ec h =

@@ -1,5 +1,5 @@
 -- Laws of the words for lists. Assumes nothing.
-use mathlib.Core.Bool.{Bool, true, false, _&&_, _||_, not, or-assoc}
+use mathlib.Core.Bool.{Bool, true, false, _&&_, _||_, not, or-assoc, or-true, and-assoc}
 use mathlib.Core.List.{List, [], _∷_, _++_, map}
 use mathlib.Core.Path.{_≡_, refl, sym, ap, _∙_}
 use Prim.Native.Nat.{ℕ, zero, suc, _+_, _≤_, _<_}
@@ -368,3 +368,16 @@ pub getD-all : {A : Type 0} (p : A → Bool) (xs : List A) (d : A) → ((i : ℕ
 unfolding all
 getD-all p [] d f = refl
 getD-all p (x ∷ xs) d f = and-both (f 0 (omega arith)) (getD-all p xs d (λ i h. f (suc i) (omega arith)))
+
+pub any-getD : {A : Type 0} (p : A → Bool) (xs : List A) (i : ℕ) (d : A) → i < length xs → p (getD xs i d) ≡ true → any p xs ≡ true
+unfolding any
+any-getD p [] i d h e = absurd (omega arith)
+any-getD p (x ∷ xs) zero d h e = rw e refl
+any-getD p (x ∷ xs) (suc i) d h e = rw (any-getD p xs i d (omega arith) e) (or-true (p x))
+
+pub same-append : (xs ys us vs : List ℕ) → length xs ≡ length ys → same (xs ++ us) (ys ++ vs) ≡ (same xs ys && same us vs)
+unfolding same
+same-append [] [] us vs h = refl
+same-append [] (y ∷ ys) us vs h = absurd (omega arith)
+same-append (x ∷ xs) [] us vs h = absurd (omega arith)
+same-append (x ∷ xs) (y ∷ ys) us vs h = rw (same-append xs ys us vs (omega arith)) (sym (and-assoc (eqb x y) (same xs ys) (same us vs)))

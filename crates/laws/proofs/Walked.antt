@@ -106,7 +106,7 @@ files-fitFrom (f ∷ fs) xs =
     rw (halves (length (f .name)), halves (length (f .body)), drop-at (f .name ++ f .body) (bodiesOf fs) (length (f .name) + length (f .body)) (length-append (f .name) (f .body)))
     (and-both (le-leb (length (f .name) + length (f .body)) (length (f .name ++ f .body ++ bodiesOf fs)) (simp length-append (omega arith))) (files-fitFrom fs xs))
 
-files-fit : (fs : List File) → fits (archiveOf fs) ≡ true
+pub files-fit : (fs : List File) → fits (archiveOf fs) ≡ true
 unfolding fits archiveOf
 files-fit fs =
     let long = length-archive fs in
