@@ -6,14 +6,26 @@ use Prim.Native.Nat.{ℕ, _+_, _-_, _≤_, _<_}
 use native.Mathlib.Omega.{arith}
 use lib.ListN.{length, take, drop, getD, length-drop}
 use lib.Seq.{drop-cons, drop-drop}
+use borrow.Author.Tests.{ne-eqb, eqb-false}
 use Rattle.definition.specs.Lists.{dropWhile}
 use Rattle.definition.specs.Parsing.{Parse, found}
 use Rattle.definition.specs.Bytes.{newline, exclamation, hash, notNewline}
 use Rattle.definition.specs.Text.{lineAt, lineEnd, includeOf, directiveOf, skipped, include}
-use Rattle.laws.proofs.Lists.{part-rest, Suffix, suffix-whole, suffix-drop, suffix-run}
+use Rattle.laws.proofs.Lists.{part-rest, dropWhile-more, suffix-whole, suffix-run}
 use Rattle.scan.specs.Scanned.{includedName, Included}
 use Rattle.scan.specs.declared.Include.the-variants.{Named, Other}
-use Rattle.parser.specs.Lined.{Skips, Includes}
+use Rattle.parser.specs.Lined.{EndsAt, Skips, Includes}
+
+-- where a text's first line ends
+pub ends-at : (t r : List ℕ) → r ≡ lineEnd t → EndsAt t (length t - length r)
+unfolding lineEnd
+ends-at t r e =
+    let s = suffix-run (suffix-whole t) notNewline in
+    record { is = rw e (s .same); inside = omega arith }
+
+pub end-inside : (t r : List ℕ) → r ≡ lineEnd t → length r ≤ length t
+unfolding lineEnd
+end-inside t r e = rw e (suffix-run (suffix-whole t) notNewline .most)
 
 module _ (t : List ℕ) (full : 0 < length t) where
   abbrev tail : List ℕ
@@ -28,43 +40,36 @@ module _ (t : List ℕ) (full : 0 < length t) where
   pub tail-long : length tail + 1 ≡ length t
   tail-long = omega (arith, ap length tail-is, length-drop 1 t)
 
-  -- the line's newline, or the end
-  ends : Suffix (lineEnd (drop 1 t)) t
-  unfolding lineEnd
-  ends = suffix-run (suffix-drop (suffix-whole t) 1 full) notNewline
+  pub newline-line : getD t 0 0 ≡ newline → Skips t (lineAt t) 1
+  unfolding lineAt
+  newline-line e = record { is = ap lineAt split-first ∙ rw e refl; inside = full }
 
-  module _ (r : List ℕ) (is : r ≡ lineEnd tail) where
-    line-ends : Suffix r t
-    line-ends = rw (is, tail-is) ends
+  -- a line that is not empty goes on after its first byte
+  goes-on : (getD t 0 0 ≡ newline → ⊥) → lineEnd t ≡ lineEnd (drop 1 t)
+  unfolding lineEnd notNewline
+  goes-on h = dropWhile-more notNewline t 0 full (rw (ne-eqb (getD t 0 0) newline h) refl)
 
-    pub next-inside : length r ≤ length t
-    next-inside = line-ends .most
-
-    next-is : drop (length t - length r) t ≡ lineEnd (drop 1 t)
-    next-is = line-ends .same ∙ is ∙ ap lineEnd tail-is
-
-    pub newline-line : getD t 0 0 ≡ newline → Skips t (lineAt t) 1
+  module _ (n : ℕ) (ends : EndsAt t n) where
+    pub comment-line : getD t 0 0 ≡ exclamation → Skips t (lineAt t) n
     unfolding lineAt
-    newline-line e = record { is = rw (split-first, e) refl; inside = full }
-
-    pub comment-line : getD t 0 0 ≡ exclamation → Skips t (lineAt t) (length t - length r)
-    unfolding lineAt
-    comment-line e = record { is = ap lineAt split-first ∙ rw (e, next-is) refl; inside = omega arith }
+    comment-line e = record {
+      is = ap lineAt split-first ∙ rw (e, ends .is, goes-on (λ q. eqb-false exclamation newline refl (sym e ∙ q))) refl;
+      inside = ends .inside;
+    }
 
     module _ (e : getD t 0 0 ≡ hash) where
-      directive : lineAt t ≡ found (directiveOf (includeOf tail)) (drop (length t - length r) t)
+      directive : lineAt t ≡ found (directiveOf (includeOf tail)) (drop n t)
       unfolding lineAt
-      directive = ap lineAt split-first ∙ rw (e, next-is, tail-is) refl
+      directive = ap lineAt split-first ∙ rw (e, ends .is, goes-on (λ q. eqb-false hash newline refl (sym e ∙ q)), tail-is) refl
 
-      pub other-line : Included tail Other → Skips t (lineAt t) (length t - length r)
+      pub other-line : Included tail Other → Skips t (lineAt t) n
       unfolding includedName directiveOf
-      other-line i = record { is = directive ∙ rw (← i .name) refl; inside = omega arith }
+      other-line i = record { is = directive ∙ rw (← i .name) refl; inside = ends .inside }
 
-      pub include-line : (a l : ℕ) → Included tail (Named a l) → Includes t (lineAt t) (1 + a) l (length t - length r)
+      pub include-line : (a l : ℕ) → Included tail (Named a l) → Includes t (lineAt t) (1 + a) l n
       unfolding includedName directiveOf
-      include-line a l i =
-          record {
-            is = directive ∙ rw (← i .name, tail-is, drop-drop a 1 t) refl;
-            named = omega (arith, i .inside, tail-long);
-            inside = omega arith;
-          }
+      include-line a l i = record {
+        is = directive ∙ rw (← i .name, tail-is, drop-drop a 1 t) refl;
+        named = omega (arith, i .inside, tail-long);
+        inside = ends .inside;
+      }

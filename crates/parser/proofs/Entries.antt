@@ -23,6 +23,7 @@ use Rattle.image.proofs.Runs.{size-is}
 use Rattle.image.specs.declared.Totals.{Totals}
 use Rattle.values.specs.Decoded.{valueAt, Stored}
 use Rattle.parser.specs.Lined.{partsOf}
+use Rattle.parser.specs.Putting.{entryFrom, Puts}
 
 -- ---- Blanks after `:`
 
@@ -50,10 +51,7 @@ blanks-suffix (c ∷ d ∷ t) = at (isBlank c) (eqb c backslash && eqb d newline
     at false true s u = suffix-cons c _ (d ∷ t) (suffix-cons d _ t u)
     at false false s u = suffix-whole (c ∷ d ∷ t)
 
--- ---- The entry of a line t whose value's text begins at v
-
-abbrev pub entryFrom : List ℕ → ℕ → Entry
-entryFrom t v = record { parts = partsOf t; value = flatten (pieces (drop v t) .items) }
+-- ---- The limits on an entry
 
 -- 5, 6, 7
 module _ (s : Totals) (c b : List ℕ) (e : Entry) where
@@ -117,3 +115,69 @@ module _ (t : List ℕ) (v : ℕ) (inside : v ≤ length t) (u : List ℕ) (is :
     last-line h =
         let k : length t ≤ passed + 1 = omega arith in
         drop-of-length-le t h ∙ sym (drop-of-length-le t k) ∙ next-line
+
+-- ---- The answers of parse_entry
+
+module _ (t : List ℕ) (v count size : ℕ) (s : Totals) (c b : List ℕ)
+    (inside : v ≤ length t) (parts : count ≡ length (partsOf t)) (key : size ≡ length (keyOf (partsOf t))) (room : Room s c b) where
+  abbrev e : Entry
+  e = entryFrom t v
+
+  pub many-parts : mostParts < count → put (world s c b) e ≡ stopped 5
+  many-parts h = put-parts s c b e (omega arith)
+
+  module _ (few : count ≤ mostParts) where
+    pub many-entries : mostEntries ≤ s .entries → put (world s c b) e ≡ stopped 6
+    many-entries h = put-count s c b e (omega arith) h
+
+    module _ (less : s .entries < mostEntries) where
+      pub long-key : length b - s .used < size → put (world s c b) e ≡ stopped 7
+      long-key h = put-full s c b e (omega arith) less (omega (arith, room .used-most, room .bytes-long))
+
+      module _ (fits : size ≤ length b - s .used) (b₁ : List ℕ) (keyed : b₁ ≡ paste b (s .used) (keyOf (partsOf t)) (length (keyOf (partsOf t)))) (long : length b₁ ≡ length b)
+          (u : List ℕ) (is : u ≡ afterBlanks (take (length t - v) (drop v t))) where
+        value-long : length (valueAt u) ≡ length (e .value)
+        value-long = ap length (value-is t v inside u is)
+
+        pub long-value : length b₁ < s .used + size + length (valueAt u) → put (world s c b) e ≡ stopped 7
+        long-value h = put-full s c b e (omega arith) less (omega (arith, value-long, room .bytes-long))
+
+        module _ (b₂ : List ℕ) (end taken : ℕ) (st : Stored u b₁ (s .used + size) b₂ end taken) where
+          pub value-after : s .used + size ≤ end
+          value-after = omega (arith, st .ends)
+
+          pub ends-inside : end ≤ bodyBytes
+          ends-inside = omega (arith, st .ends, st .room, room .bytes-long)
+
+          pub passed-inside : length t - length u + taken ≤ length t
+          passed-inside = omega (arith, st .inside, value-inside t v inside u is)
+
+          bytes-are : paste b (s .used) (keyOf (partsOf t) ++ e .value) (sizeOf e) ≡ b₂
+          bytes-are =
+              sym (both-stored b (keyOf (partsOf t)) (e .value) (s .used) (omega (arith, st .room, value-long)))
+              ∙ sym (st .stored ∙ rw (keyed, key, value-is t v inside u is) refl)
+
+          module _ (c₂ : List ℕ) (rowed : c₂ ≡ set (set (set c (rowOf (s .entries)) (s .used)) (rowOf (s .entries) + 1) size) (rowOf (s .entries) + 2) (end - (s .used + size))) where
+            abbrev next : Totals
+            next = record { opens = s .opens; entries = s .entries + 1; used = end }
+
+            words-are : set (set (set c (rowOf (s .entries)) (s .used)) (rowOf (s .entries) + 1) (length (keyOf (partsOf t)))) (rowOf (s .entries) + 2) (length (e .value)) ≡ c₂
+            words-are =
+                let n : end - (s .used + size) ≡ length (e .value) = omega (arith, st .ends, value-long) in
+                sym (rowed ∙ rw (n, key) refl)
+
+            stored-is : put (world s c b) e ≡ went (world next c₂ b₂)
+            stored-is =
+                let used : s .used + sizeOf e ≡ end = omega (arith, st .ends, value-long) in
+                put-fits s c b e (omega arith) less (omega (arith, ends-inside))
+                ∙ (λ i. went (record {
+                  totals = record { opens = s .opens; entries = s .entries + 1; used = used i };
+                  words = words-are i;
+                  bytes = bytes-are i;
+                }))
+
+            pub done-next : length t - length u + taken < length t → Puts t v (world s c b) c₂ b₂ (length t - length u + taken + 1) next
+            done-next h = record { is = stored-is; next = next-line t v inside u is taken (st .rest) (st .inside); inside = omega arith }
+
+            pub done-last : length t ≤ length t - length u + taken → Puts t v (world s c b) c₂ b₂ (length t - length u + taken) next
+            done-last h = record { is = stored-is; next = last-line t v inside u is taken (st .rest) (st .inside) h; inside = passed-inside }

@@ -15,7 +15,7 @@ use Rattle.definition.specs.Bytes.{newline, exclamation, hash, isSpace, notNewl
 use Rattle.definition.specs.Text.{partAt, endsInName, assigned, resourceOf, lineAt, lineEnd, skipped}
 use Rattle.definition.specs.Image.{keyOf}
 use Rattle.laws.proofs.Lists.{part-rest, Suffix, suffix-whole, suffix-drop, suffix-run}
-use Rattle.parser.specs.Lined.{partsOf, Skips, Enters, Lined}
+use Rattle.parser.specs.Lined.{partsOf, EndsAt, Skips, Enters, Lined}
 use Rattle.parser.specs.declared.Line.{Line}
 use Rattle.parser.proofs.Directives.{split-first}
 
@@ -29,16 +29,9 @@ module _ (t : List ℕ) where
       (ap (λ (s : List ℕ). resourceOf s (assigned s)) (sym (split-first t full)))
 
   -- a line that is no resource is skipped to its newline
-  ended : Suffix (lineEnd t) t
-  unfolding lineEnd
-  ended = suffix-run (suffix-whole t) notNewline
-
-  pub end-inside : (r : List ℕ) → r ≡ lineEnd t → length r ≤ length t
-  end-inside r e = rw e (ended .most)
-
-  pub skipped-line : (r : List ℕ) → r ≡ lineEnd t → assigned t ≡ none → Skips t (resourceOf t (assigned t)) (length t - length r)
+  pub skipped-line : (n : ℕ) → EndsAt t n → assigned t ≡ none → Skips t (resourceOf t (assigned t)) n
   unfolding resourceOf
-  skipped-line r e n = record { is = rw (n, e, ended .same) refl; inside = omega arith }
+  skipped-line n ends e = record { is = rw (e, ends .is) refl; inside = ends .inside }
 
   pub unnamed : (b : Bool) → b ≡ endsInName (partsOf t) → b ≡ false → assigned t ≡ none
   unfolding assigned

@@ -5,7 +5,7 @@ use mathlib.Core.Path.{_≡_}
 use Prim.Native.Nat.{ℕ, _+_, _≤_}
 use lib.ListN.{length, take, drop}
 use Rattle.definition.specs.Parsing.{Parse, found, many}
-use Rattle.definition.specs.Text.{Part, partAt, skipped, include, resourceOf}
+use Rattle.definition.specs.Text.{Part, partAt, skipped, include, resourceOf, lineEnd}
 use Rattle.definition.specs.Text as text
 use Rattle.definition.specs.Image.{keyOf}
 use Rattle.parser.specs.declared.Line.{Line}
@@ -14,6 +14,11 @@ use Rattle.parser.specs.declared.Line.the-variants.{Skip, Include, Entry
 -- the parts that a line begins with
 abbrev pub partsOf : List ℕ → List Part
 partsOf t = many partAt t .items
+
+-- the first line of t ends at n
+pub record EndsAt (t : List ℕ) (n : ℕ) : Type 0 where
+  pub is : drop n t ≡ lineEnd t
+  pub inside : n ≤ length t
 
 -- p is what stands at the front of t: a line that is passed over, in n bytes
 pub record Skips (t : List ℕ) (p : Parse text.Line) (n : ℕ) : Type 0 where
