@@ -1,2 +1,4 @@
 -- Laws of the reading.
 pub mod Lines
+pub mod Opening
+pub mod Loop
