@@ -1,7 +1,8 @@
 // The two lent buffers of a database image, as a reading writes them.
 ghost use mathlib.Core.Path.{_≡_};
-ghost use Prim.Native.Nat.{_+_, _≤_, _<_};
-ghost use lib.ListN.{length, set};
+ghost use mathlib.Core.List.{_++_};
+ghost use Prim.Native.Nat.{_+_, _-_, _≤_, _<_};
+ghost use lib.ListN.{length, take, set};
 ghost use Rattle.definition.specs.Lists.{zeroes};
 
 // What a reading has met so far: document 01's limits are laid over these.
@@ -17,20 +18,24 @@ pub enum Step {
     Stop(u8),
 }
 
-pub fn clear_words(words: &mut [u16])
-    ensures { λ _. ⌜ now (words .exit) ≡ zeroes (length (now (words .entry))) ⌝ }
+// Zeroes the words from `from` on.
+pub fn clear_words(words: &mut [u16], from: usize)
+    requires { ⌜ from ≤ length (now words) ⌝ }
+    ensures { λ _. ⌜ now (words .exit) ≡ take from (now (words .entry)) ++ zeroes (length (now (words .entry)) - from) ⌝ }
 {
-    let mut i = 0;
+    let mut i = from;
     while i < words.len() {
         words[i] = 0;
         i += 1;
     }
 }
 
-pub fn clear_bytes(bytes: &mut [u8])
-    ensures { λ _. ⌜ now (bytes .exit) ≡ zeroes (length (now (bytes .entry))) ⌝ }
+// Zeroes the bytes from `from` on.
+pub fn clear_bytes(bytes: &mut [u8], from: usize)
+    requires { ⌜ from ≤ length (now bytes) ⌝ }
+    ensures { λ _. ⌜ now (bytes .exit) ≡ take from (now (bytes .entry)) ++ zeroes (length (now (bytes .entry)) - from) ⌝ }
 {
-    let mut i = 0;
+    let mut i = from;
     while i < bytes.len() {
         bytes[i] = 0;
         i += 1;

@@ -2,3 +2,4 @@
 pub mod Lines
 pub mod Opening
 pub mod Loop
+pub mod Finish

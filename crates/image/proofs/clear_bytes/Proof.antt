@@ -1,4 +1,4 @@
--- `image::clear_bytes` meets its contract: the elements below i are cleared, and the rest is as it was. Assumes nothing.
+-- `image::clear_bytes` meets its contract. Assumes nothing.
 use Prim.Native.Nat.{_-_}
 use borrow.Author.Needs.{needs}
 use lib.ListN.{length}
@@ -9,14 +9,14 @@ use Rattle.image.proofs.clear_bytes.Reads as reads
 use Rattle.image.proofs.clear_bytes.Lts as lts
 
 abbrev Inv-loop : tie.InvT-loop
-Inv-loop bytes₀ i₀ bytes i = Cleared bytes₀ bytes i
+Inv-loop bytes₀ «from» i₀ bytes i = Cleared bytes₀ «from» bytes i
 
 abbrev μ-loop : tie.MeasureT-loop
-μ-loop bytes₀ i₀ bytes i = length bytes₀ - i
+μ-loop bytes₀ «from» i₀ bytes i = length bytes₀ - i
 
 -- src/lib.rt:34:5
 loop-holds : tie.Need-loop-holds Inv-loop μ-loop
-loop-holds c = cleared-first _
+loop-holds c = cleared-first _ _ (c .pre)
 
 -- src/lib.rt:35:9
 slice-write-bytes : tie.Need-slice-write-bytes Inv-loop μ-loop

@@ -1,4 +1,4 @@
--- `image::clear_words` meets its contract: the elements below i are cleared, and the rest is as it was. Assumes nothing.
+-- `image::clear_words` meets its contract. Assumes nothing.
 use Prim.Native.Nat.{_-_}
 use borrow.Author.Needs.{needs}
 use lib.ListN.{length}
@@ -9,14 +9,14 @@ use Rattle.image.proofs.clear_words.Reads as reads
 use Rattle.image.proofs.clear_words.Lts as lts
 
 abbrev Inv-loop : tie.InvT-loop
-Inv-loop words₀ i₀ words i = Cleared words₀ words i
+Inv-loop words₀ «from» i₀ words i = Cleared words₀ «from» words i
 
 abbrev μ-loop : tie.MeasureT-loop
-μ-loop words₀ i₀ words i = length words₀ - i
+μ-loop words₀ «from» i₀ words i = length words₀ - i
 
 -- src/lib.rt:24:5
 loop-holds : tie.Need-loop-holds Inv-loop μ-loop
-loop-holds c = cleared-first _
+loop-holds c = cleared-first _ _ (c .pre)
 
 -- src/lib.rt:25:9
 mul-words : tie.Need-mul-words Inv-loop μ-loop
