@@ -8,7 +8,21 @@ use native.Mathlib.Omega.{arith}
 use native.Mathlib.Decide.{decLt}
 use lib.Dec.{eqb, ltb}
 use lib.ListN.{length, getD, take, drop, set, length-append, length-drop, length-set, drop-of-length-le}
-use lib.Seq.{slice, paste, take-all, take-length, take-paste, drop-paste, set-split, append-snoc, drop-cons, drop-drop, take-append-add, take-append-seam, drop-append-seam}
+use lib.Seq.{
+  slice,
+  paste,
+  take-all,
+  take-length,
+  take-paste,
+  drop-paste,
+  set-split,
+  append-snoc,
+  drop-cons,
+  drop-drop,
+  take-append-add,
+  take-append-seam,
+  drop-append-seam,
+}
 use borrow.Author.Tests.{eqb-true, eq-eqb, lt-ltb, le-ltb}
 use Rattle.definition.specs.Lists.{if_then_else_, all, any, takeWhile, dropWhile, filter, isEmpty, orElse, same, lower}
 
