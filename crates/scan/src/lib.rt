@@ -23,13 +23,23 @@ pub fn is_octal_digit(c: u8) -> bool
     }
 }
 
+// The commonest bytes are tested first.
 pub fn allowed_in_quark_name(c: u8) -> bool
     ensures { λ r. ⌜ r ≡ isName c ⌝ }
 {
-    match c {
-        b'A'..=b'Z' | b'a'..=b'z' | b'0'..=b'9' | b'_' | b'-' => true,
-        _ => false,
+    if c >= b'a' {
+        return c <= b'z';
     }
+    if c >= b'A' {
+        if c <= b'Z' {
+            return true;
+        }
+        return c == b'_';
+    }
+    if c >= b'0' {
+        return c <= b'9';
+    }
+    c == b'-'
 }
 
 pub fn is_blank(c: u8) -> bool
