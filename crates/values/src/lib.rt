@@ -85,13 +85,7 @@ fn octal_digits(text: &[u8]) -> usize
     ensures { λ r. ⌜ r ≡ length (takeWhile isOctal (take 3 (now (text .entry)))) ⌝ }
 {
     let mut n = 0;
-    while n < 3 {
-        if n >= text.len() {
-            return n;
-        }
-        if !is_octal_digit(text[n]) {
-            return n;
-        }
+    while n < 3 && n < text.len() && is_octal_digit(text[n]) {
         n += 1;
     }
     n
