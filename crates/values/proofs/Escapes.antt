@@ -1,20 +1,20 @@
 -- Octal digits, escapes and pieces, as the code tells them apart. Assumes nothing.
-use mathlib.Core.Bool.{Bool, true, false, _&&_, _||_}
-use mathlib.Core.List.{List, [], _∷_, _++_}
+use mathlib.Core.Bool.{Bool, true, false}
+use mathlib.Core.List.{List, [], _∷_}
 use mathlib.Core.Path.{_≡_, refl, sym, ap, _∙_}
-use Prim.Native.Nat.{ℕ, zero, suc, _+_, _-_, _*_, _%_, _≤_, _<_}
+use Prim.Native.Nat.{ℕ, suc, _+_, _-_, _*_, _%_, _≤_, _<_}
 use native.Mathlib.Nat.{zero-add, add-mod, mod-add-mod, mod-eq-of-lt}
 use native.Mathlib.Numerals.{add-one, one-add}
 use native.Mathlib.Omega.{arith}
-use lib.Dec.{eqb, leb}
+use lib.Dec.{leb}
 use lib.ListN.{length, take, drop, getD, length-take, drop-of-length-le}
 use lib.Seq.{getD-take, take-take, drop-cons}
-use borrow.Author.Tests.{eq-eqb, ne-eqb, leb-true, eqb-true}
-use Rattle.definition.specs.Lists.{if_then_else_, all, takeWhile}
+use borrow.Author.Tests.{eq-eqb, ne-eqb, leb-true}
+use Rattle.definition.specs.Lists.{all, takeWhile}
 use Rattle.definition.specs.Parsing.{found}
 use Rattle.definition.specs.Bytes.{newline, backslash, letter-n, isBlank, isOctal}
 use Rattle.definition.specs.Text.{positional, lineEnds, octalOf, escapeAt, pieceAt}
-use Rattle.laws.proofs.Lists.{not-both, and-true, all-takeWhile, part-rest, takeWhile-take, takeWhile-le, takeWhile-stop, takeWhile-more}
+use Rattle.laws.proofs.Lists.{and-true, all-takeWhile, part-rest, takeWhile-take, takeWhile-le, takeWhile-stop, takeWhile-more}
 use Rattle.values.specs.declared.Piece.{Piece}
 use Rattle.values.specs.declared.Piece.the-variants.{End, Byte, Keep, Drop}
 use Rattle.values.specs.Pieces.{pieceOf, sizeOf, IsPiece}

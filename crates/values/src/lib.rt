@@ -42,7 +42,7 @@ fn is_octal_digit(c: u8) -> bool
     b'0' <= c && c <= b'7'
 }
 
-// Drops blanks and joined lines after a `:`.
+// The text after a `:` without the blanks and backslash-newline pairs at its front.
 pub fn skip_blanks(text: &[u8]) -> &[u8]
     ensures { λ r. ⌜ now r ≡ afterBlanks (now (text .entry)) ⌝ }
 {
@@ -70,7 +70,8 @@ pub fn times_eight(x: u8) -> u8
     std::num::wrapping_add_u8(four, four)
 }
 
-// The low eight bits of the number of three octal digits.
+// The low eight bits of the number of three octal digits, as the Rust's release build has them.
+// Only the second product can wrap: it is a multiple of eight, so the last digit fits on top.
 pub fn octal(a: u8, b: u8, c: u8) -> u8
     requires { ⌜ (isOctal a ≡ true) × (isOctal b ≡ true) × (isOctal c ≡ true) ⌝ }
     ensures { λ r. ⌜ r ≡ positional 8 0 (a ∷ b ∷ c ∷ []) % 256 ⌝ }

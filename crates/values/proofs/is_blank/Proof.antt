@@ -1,18 +1,14 @@
+-- `values::is_blank` meets its contract. Assumes nothing.
 use mathlib.Core.Path.{refl}
 use borrow.Author.Tests.{eq-eqb, ne-eqb}
 use Rattle.definition.specs.Bytes.{isBlank}
-use borrow.Author.Needs.{needs}
 use Rattle.values.proofs.is_blank.Statement.{statement}
 use Rattle.values.proofs.is_blank.Tie as tie
-use Rattle.values.proofs.is_blank.Reads as reads
-use Rattle.values.proofs.is_blank.Lts as lts
 
--- src/lib.rt:33:1
 returns : tie.Need-returns
 unfolding isBlank
 returns c = rw (eq-eqb _ 32 (c .if1 .taken)) refl
 
--- src/lib.rt:33:1
 returns-2 : tie.Need-returns-2
 unfolding isBlank
 returns-2 c = rw (ne-eqb _ 32 (c .if1 .left)) refl

@@ -1,18 +1,14 @@
+-- `values::is_octal_digit` meets its contract. Assumes nothing.
 use mathlib.Core.Path.{refl}
 use borrow.Author.Tests.{le-leb, lt-leb}
 use Rattle.definition.specs.Bytes.{isOctal}
-use borrow.Author.Needs.{needs}
 use Rattle.values.proofs.is_octal_digit.Statement.{statement}
 use Rattle.values.proofs.is_octal_digit.Tie as tie
-use Rattle.values.proofs.is_octal_digit.Reads as reads
-use Rattle.values.proofs.is_octal_digit.Lts as lts
 
--- src/lib.rt:39:1
 returns : tie.Need-returns
 unfolding isOctal
 returns c = rw (le-leb 48 _ (c .if1 .taken)) refl
 
--- src/lib.rt:39:1
 returns-2 : tie.Need-returns-2
 unfolding isOctal
 returns-2 c = rw (lt-leb 48 _ (c .if1 .left)) refl

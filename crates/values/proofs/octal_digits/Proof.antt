@@ -1,17 +1,15 @@
-use Rattle.values.proofs.Escapes.{digits, digits-short, digits-stop, digits-more, digits-end}
+-- `values::octal_digits` meets its contract: the digits from n on are left to count. Assumes nothing.
+use mathlib.Core.Path.{_≡_, sym, _∙_}
+use Prim.Native.Nat.{_≤_, _+_, _-_}
+use native.Mathlib.Omega.{arith}
+use lib.ListN.{length, take, drop}
 use borrow.Author.Tests.{ltb-true, ltb-false}
+use borrow.Author.Needs.{needs}
 use Rattle.definition.specs.Lists.{takeWhile}
 use Rattle.definition.specs.Bytes.{isOctal}
-use lib.ListN.{length, take, drop}
-use Prim.Native.Nat.{_≤_, _+_, _-_}
-use mathlib.Core.Path.{_≡_, sym, _∙_}
-use native.Mathlib.Omega.{arith}
-use borrow.Author.Needs.{needs}
+use Rattle.values.proofs.Escapes.{digits, digits-short, digits-stop, digits-more, digits-end}
 use Rattle.values.proofs.octal_digits.Statement.{statement}
 use Rattle.values.proofs.octal_digits.Tie as tie
-use Rattle.values.proofs.octal_digits.Reads as reads
-use Rattle.values.proofs.octal_digits.Lts as lts
-use Rattle.values.proofs.is_octal_digit.Reads as is-octal-digit-reads
 
 abbrev Inv-loop : tie.InvT-loop
 Inv-loop text n₀ n = (n ≤ 3) × (length (digits text) ≡ n + length (takeWhile isOctal (drop n (take 3 text))))
@@ -19,27 +17,21 @@ Inv-loop text n₀ n = (n ≤ 3) × (length (digits text) ≡ n + length (takeWh
 abbrev μ-loop : tie.MeasureT-loop
 μ-loop text n₀ n = 3 - n
 
--- src/lib.rt:88:5
 loop-holds : tie.Need-loop-holds Inv-loop μ-loop
 loop-holds c = (omega arith, omega arith)
 
--- src/lib.rt:88:53
 shared-slice-read-is-octal-digit : tie.Need-shared-slice-read-is-octal-digit Inv-loop μ-loop
 shared-slice-read-is-octal-digit c = search needs
 
--- src/lib.rt:88:38
 is-octal-digit-requires : tie.Need-is-octal-digit-requires Inv-loop μ-loop
 is-octal-digit-requires c κs = search needs
 
--- src/lib.rt:89:9
 add-n : tie.Need-add-n Inv-loop μ-loop
 add-n c = omega arith
 
--- src/lib.rt:88:5
 loop-less : tie.Need-loop-less Inv-loop μ-loop
 loop-less c = omega arith
 
--- src/lib.rt:88:5
 loop-again : tie.Need-loop-again Inv-loop μ-loop
 loop-again c =
     let start-here = c .before .before .before .before .before .before .before in
@@ -55,7 +47,6 @@ loop-again c =
     let e = sym (is-octal-digit-here .is-octal-digit .ensures) ∙ c .if2 .taken in
     omega (arith, w .1, digits-more t n h k e)
 
--- src/lib.rt:84:1
 returns : tie.Need-returns Inv-loop μ-loop
 returns c =
     let start-here = c .before .before .before .before .before .before .before in
@@ -71,7 +62,6 @@ returns c =
     let e = sym (is-octal-digit-here .is-octal-digit .ensures) ∙ c .if2 .left in
     omega (arith, w .1, digits-stop t n h k e)
 
--- src/lib.rt:84:1
 returns-2 : tie.Need-returns-2 Inv-loop μ-loop
 returns-2 c =
     let start-here = c .before .before .before .before in
@@ -81,7 +71,6 @@ returns-2 c =
     let w = loop-here .loop .inv in
     omega (arith, w .1, digits-short t n (ltb-false n (length t) (c .if1 .left)))
 
--- src/lib.rt:84:1
 returns-3 : tie.Need-returns-3 Inv-loop μ-loop
 returns-3 c =
     let start-here = c .before .before .before in
