@@ -3,26 +3,13 @@ use mathlib.Core.Bool.{Bool, true, false, _&&_, _||_, not, or-assoc}
 use mathlib.Core.List.{List, [], _∷_, _++_, map, append-assoc}
 use mathlib.Core.Path.{_≡_, refl, sym, ap, _∙_}
 use Prim.Native.Nat.{ℕ, zero, suc, _+_, _-_, _≤_, _<_}
-use native.Mathlib.Nat.{le-refl}
+use native.Mathlib.Numerals.{add-one, one-add}
 use native.Mathlib.Omega.{arith}
 use native.Mathlib.Decide.{decLt}
 use lib.Dec.{eqb, ltb}
-use lib.ListN.{length, getD, take, drop, set, length-append, length-drop}
-use lib.Seq.{
-  slice,
-  paste,
-  take-all,
-  take-length,
-  length-take-le,
-  take-append-add,
-  take-append-seam,
-  drop-append-seam,
-  drop-cons,
-  drop-drop,
-  sets-eq,
-  take-paste,
-  drop-paste,
-}
+use lib.ListN.{length, getD, take, drop, length-drop, drop-of-length-le, set, length-append, length-set}
+use lib.Seq.{slice, take-append-add, take-append-seam, drop-append-seam, take-all, drop-cons, drop-drop, paste, take-length, length-take-le, sets-eq, take-paste, drop-paste}
+use native.Mathlib.Nat.{le-refl}
 use borrow.Author.Tests.{eqb-true, eq-eqb, lt-ltb, le-ltb}
 use Rattle.definition.specs.Lists.{if_then_else_, all, any, takeWhile, dropWhile, filter, isEmpty, orElse, same, lower}
 
@@ -338,13 +325,103 @@ module _ {A : Type 0} where
   slice-at xs ys zs n m h k =
       rw (← k, ← h, take-append-add xs (ys ++ zs) (length ys), take-append-seam ys zs) (drop-append-seam xs ys)
 
+-- ---- A run of elements that pass a test, as a loop goes through it
+
+module _ {A : Type 0} (p : A → Bool) where
+  pub length-takeWhile-le : (xs : List A) → length (takeWhile p xs) ≤ length xs
+  unfolding takeWhile
+  length-takeWhile-le [] = omega arith
+  length-takeWhile-le (x ∷ xs) = at (p x) (length-takeWhile-le xs)
+    where
+      at : (b : Bool) → length (takeWhile p xs) ≤ length xs → length (if b then x ∷ takeWhile p xs else []) ≤ suc (length xs)
+      at true ih = omega arith
+      at false ih = omega arith
+
+  pub take-run : (xs : List A) → take (length (takeWhile p xs)) xs ≡ takeWhile p xs
+  unfolding takeWhile
+  take-run [] = refl
+  take-run (x ∷ xs) = at (p x) (take-run xs)
+    where
+      at : (b : Bool) → take (length (takeWhile p xs)) xs ≡ takeWhile p xs
+          → take (length (if b then x ∷ takeWhile p xs else [])) (x ∷ xs) ≡ (if b then x ∷ takeWhile p xs else [])
+      at true ih = ap (λ (l : List A). x ∷ l) ih
+      at false ih = refl
+
+  pub drop-run : (xs : List A) → drop (length (takeWhile p xs)) xs ≡ dropWhile p xs
+  unfolding takeWhile dropWhile
+  drop-run [] = refl
+  drop-run (x ∷ xs) = at (p x) (drop-run xs)
+    where
+      at : (b : Bool) → drop (length (takeWhile p xs)) xs ≡ dropWhile p xs
+          → drop (length (if b then x ∷ takeWhile p xs else [])) (x ∷ xs) ≡ (if b then dropWhile p xs else x ∷ xs)
+      at true ih = ih
+      at false ih = refl
+
+  module _ (xs : List A) (i : ℕ) (d : A) (h : i < length xs) where
+    pub run-more : p (getD xs i d) ≡ true → length (takeWhile p (drop i xs)) ≡ 1 + length (takeWhile p (drop (i + 1) xs))
+    unfolding takeWhile
+    run-more e = rw (add-one, drop-cons xs i d h, e, one-add) refl
+
+    pub run-stop : p (getD xs i d) ≡ false → length (takeWhile p (drop i xs)) ≡ 0
+    unfolding takeWhile
+    run-stop e = rw (drop-cons xs i d h, e) refl
+
+  pub run-end : (xs : List A) (i : ℕ) → length xs ≤ i → length (takeWhile p (drop i xs)) ≡ 0
+  unfolding takeWhile
+  run-end xs i h = rw (drop-of-length-le xs h) refl
+
+  pub dropWhile-more : (xs : List A) (d : A) → 0 < length xs → p (getD xs 0 d) ≡ true → dropWhile p xs ≡ dropWhile p (drop 1 xs)
+  unfolding dropWhile
+  dropWhile-more [] d h e = absurd (omega arith)
+  dropWhile-more (x ∷ xs) d h e = rw e refl
+
+  pub dropWhile-stop : (xs : List A) (d : A) → p (getD xs 0 d) ≡ false → dropWhile p xs ≡ xs
+  unfolding dropWhile
+  dropWhile-stop [] d e = refl
+  dropWhile-stop (x ∷ xs) d e = rw e refl
+
+  pub dropWhile-end : (xs : List A) → length xs ≡ 0 → dropWhile p xs ≡ xs
+  unfolding dropWhile
+  dropWhile-end [] e = refl
+  dropWhile-end (x ∷ xs) e = absurd (omega arith)
+
+-- ---- A list from a place on
+
+module _ {A : Type 0} where
+  -- a part from n on, as the borrow checker gives it
+  pub part-rest : (xs : List A) (n : ℕ) → take (length xs - n) (drop n xs) ≡ drop n xs
+  part-rest xs n = take-all (length xs - n) (drop n xs) (simp length-drop (omega arith))
+
+  pub length-part-rest : (xs : List A) (n : ℕ) → length (take (length xs - n) (drop n xs)) ≡ length xs - n
+  length-part-rest xs n = ap length (part-rest xs n) ∙ length-drop n xs
+
+-- what is left of a text: u is t from some place on
+pub record Suffix {A : Type 0} (u t : List A) : Type 0 where
+  pub most : length u ≤ length t
+  pub same : drop (length t - length u) t ≡ u
+
+module _ {A : Type 0} where
+  pub suffix-whole : (t : List A) → Suffix t t
+  suffix-whole t = record { most = omega arith; same = let e : length t - length t ≡ 0 = omega arith in rw e refl }
+
+  module _ {u t : List A} (s : Suffix u t) where
+    pub suffix-drop : (n : ℕ) → n ≤ length u → Suffix (drop n u) t
+    suffix-drop n h =
+        let e : length t - (length u - n) ≡ length t - length u + n = omega (arith, s .most) in
+        record {
+          most = omega (arith, length-drop n u, s .most);
+          same = rw (length-drop n u, e, ← drop-drop n (length t - length u) t, s .same) refl;
+        }
+
+    pub suffix-part : (n : ℕ) → n ≤ length u → Suffix (take (length u - n) (drop n u)) t
+    suffix-part n h = rw (part-rest u n) (suffix-drop n h)
+
+    pub suffix-run : (p : A → Bool) → Suffix (dropWhile p u) t
+    suffix-run p = rw (← drop-run p u) (suffix-drop (length (takeWhile p u)) (length-takeWhile-le p u))
+
 -- ---- Parts of a slice, and lists stored into a list
 
 module _ {A : Type 0} where
-  -- a part from a on, as the borrow checker gives it
-  pub part-rest : (t : List A) (a : ℕ) → take (length t - a) (drop a t) ≡ drop a t
-  part-rest t a = take-all (length t - a) (drop a t) (simp length-drop (omega arith))
-
   -- one element stored
   pub paste-one : (d : List A) (at : ℕ) (x : A) → at < length d → set d at x ≡ paste d at (x ∷ []) 1
   paste-one d at x h = sets-eq (x ∷ []) d at (omega arith)
@@ -368,22 +445,13 @@ module _ {A : Type 0} where
       ∙ drop-drop (length ys) n d in
       rw (take-length (xs ++ ys), length-append xs ys, e, g, k, take-length ys, append-assoc (take at d) xs ys) refl
 
-module _ {A : Type 0} (p : A → Bool) where
-  pub takeWhile-take : (xs : List A) → takeWhile p xs ≡ take (length (takeWhile p xs)) xs
-  takeWhile-take xs =
-      sym (take-append-seam (takeWhile p xs) (dropWhile p xs))
-      ∙ ap (take (length (takeWhile p xs))) (takeWhile-dropWhile p xs)
-
-  pub takeWhile-le : (xs : List A) → length (takeWhile p xs) ≤ length xs
-  takeWhile-le xs =
-      omega (arith, length-append (takeWhile p xs) (dropWhile p xs), ap length (takeWhile-dropWhile p xs))
-
-  -- the element at n ends the beginning, or is one more of it
-  pub takeWhile-stop : (xs : List A) (n : ℕ) (d : A) → n < length xs → p (getD xs n d) ≡ false → takeWhile p (drop n xs) ≡ []
-  unfolding takeWhile
-  takeWhile-stop xs n d h e = rw (drop-cons xs n d h, e) refl
-
-  pub takeWhile-more : (xs : List A) (n : ℕ) (d : A) → n < length xs → p (getD xs n d) ≡ true
-      → takeWhile p (drop n xs) ≡ getD xs n d ∷ takeWhile p (drop (suc n) xs)
-  unfolding takeWhile
-  takeWhile-more xs n d h e = rw (drop-cons xs n d h, e) refl
+-- an element, and others after it
+pub paste-cons : {A : Type 0} (d : List A) (at : ℕ) (x : A) (xs ys : List A) → at + (1 + length xs + length ys) ≤ length d
+    → paste (paste (set d at x) (at + 1) xs (length xs)) (at + (1 + length xs)) ys (length ys)
+    ≡ paste d at (x ∷ xs ++ ys) (length (x ∷ xs ++ ys))
+paste-cons {A} d at x xs ys h =
+    let e : at + (1 + length xs) ≡ at + 1 + length xs = omega arith in
+    let k : at + 1 + length xs ≤ length (set d at x) = rw (length-set d at x) (omega arith) in
+    rw e (sym (paste-append (set d at x) (at + 1) xs ys k))
+    ∙ ap (λ (l : List A). paste l (at + 1) (xs ++ ys) (length (xs ++ ys))) (paste-one d at x (omega arith))
+    ∙ sym (paste-append d at (x ∷ []) (xs ++ ys) (omega arith))

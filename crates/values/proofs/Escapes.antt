@@ -4,7 +4,7 @@ use mathlib.Core.List.{List, [], _∷_}
 use mathlib.Core.Path.{_≡_, refl, sym, ap, _∙_}
 use Prim.Native.Nat.{ℕ, suc, _+_, _-_, _*_, _%_, _≤_, _<_}
 use native.Mathlib.Nat.{zero-add, add-mod, mod-add-mod, mod-eq-of-lt}
-use native.Mathlib.Numerals.{add-one, one-add}
+use native.Mathlib.Numerals.{one-add}
 use native.Mathlib.Omega.{arith}
 use lib.Dec.{leb}
 use lib.ListN.{length, take, drop, getD, length-take, drop-of-length-le}
@@ -14,7 +14,7 @@ use Rattle.definition.specs.Lists.{all, takeWhile}
 use Rattle.definition.specs.Parsing.{found}
 use Rattle.definition.specs.Bytes.{newline, backslash, letter-n, isBlank, isOctal}
 use Rattle.definition.specs.Text.{positional, lineEnds, octalOf, escapeAt, pieceAt}
-use Rattle.laws.proofs.Lists.{and-true, all-takeWhile, part-rest, takeWhile-take, takeWhile-le, takeWhile-stop, takeWhile-more}
+use Rattle.laws.proofs.Lists.{and-true, all-takeWhile, part-rest, take-run, length-takeWhile-le, run-end, run-stop, run-more}
 use Rattle.values.specs.declared.Piece.{Piece}
 use Rattle.values.specs.declared.Piece.the-variants.{End, Byte, Keep, Drop}
 use Rattle.values.specs.Pieces.{pieceOf, sizeOf, IsPiece}
@@ -59,32 +59,28 @@ digits t = takeWhile isOctal (take 3 t)
 
 module _ (t : List ℕ) (n : ℕ) where
   pub digits-end : 3 ≤ n → length (takeWhile isOctal (drop n (take 3 t))) ≡ 0
-  unfolding takeWhile
-  digits-end h = rw (drop-of-length-le (take 3 t) {i = n} (simp length-take (omega arith))) refl
+  digits-end h = run-end isOctal (take 3 t) n (simp length-take (omega arith))
 
   pub digits-short : length t ≤ n → length (takeWhile isOctal (drop n (take 3 t))) ≡ 0
-  unfolding takeWhile
-  digits-short h = rw (drop-of-length-le (take 3 t) {i = n} (simp length-take (omega arith))) refl
+  digits-short h = run-end isOctal (take 3 t) n (simp length-take (omega arith))
 
   module _ (h : n < 3) (k : n < length t) where
     pub digits-stop : isOctal (getD t n 0) ≡ false → length (takeWhile isOctal (drop n (take 3 t))) ≡ 0
-    digits-stop e = ap length (takeWhile-stop isOctal (take 3 t) n 0 (simp length-take (omega arith)) (rw (getD-take 3 t n 0 h) e))
+    digits-stop e = run-stop isOctal (take 3 t) n 0 (simp length-take (omega arith)) (rw (getD-take 3 t n 0 h) e)
 
     pub digits-more : isOctal (getD t n 0) ≡ true
         → length (takeWhile isOctal (drop n (take 3 t))) ≡ 1 + length (takeWhile isOctal (drop (n + 1) (take 3 t)))
-    digits-more e =
-        rw (add-one, one-add)
-        (ap length (takeWhile-more isOctal (take 3 t) n 0 (simp length-take (omega arith)) (rw (getD-take 3 t n 0 h) e)))
+    digits-more e = run-more isOctal (take 3 t) n 0 (simp length-take (omega arith)) (rw (getD-take 3 t n 0 h) e)
 
 module _ (t : List ℕ) where
   pub digits-few : length (digits t) ≤ 3
-  digits-few = omega (arith, takeWhile-le isOctal (take 3 t), length-take 3 t)
+  digits-few = omega (arith, length-takeWhile-le isOctal (take 3 t), length-take 3 t)
 
   pub digits-inside : length (digits t) ≤ length t
-  digits-inside = omega (arith, takeWhile-le isOctal (take 3 t), length-take 3 t)
+  digits-inside = omega (arith, length-takeWhile-le isOctal (take 3 t), length-take 3 t)
 
   digits-take : digits t ≡ take (length (digits t)) t
-  digits-take = takeWhile-take isOctal (take 3 t) ∙ take-take (length (digits t)) 3 t digits-few
+  digits-take = sym (take-run isOctal (take 3 t)) ∙ take-take (length (digits t)) 3 t digits-few
 
 pub three-digits : (t : List ℕ) (n : ℕ) → n ≡ length (digits t) → n ≡ 3 → digits t ≡ getD t 0 0 ∷ getD t 1 0 ∷ getD t 2 0 ∷ []
 three-digits [] n e f = absurd (omega (arith, digits-inside []))
