@@ -1,15 +1,13 @@
 -- `values::parse_escape` meets its contract: each way out is one law of escapes. Assumes nothing.
 use mathlib.Core.Logic.{⊎-elim}
-use mathlib.Core.Path.{sym, _∙_}
-use Prim.Native.Nat.{_<_, _≤_}
+use Prim.Native.Nat.{_≤_}
 use native.Mathlib.Omega.{arith}
 use lib.ListN.{length}
 use borrow.Author.Tests.{eqb-true, eqb-false}
 use borrow.Author.Needs.{needs}
 use Rattle.values.proofs.Escapes.{
   escape-end,
-  escape-blank,
-  escape-backslash,
+  escape-itself,
   escape-newline,
   escape-joined,
   escape-other,
@@ -28,9 +26,9 @@ use Rattle.values.proofs.parse_escape.Tie as tie
 
 -- how many digits there can be
 few : (c : tie.After-octal-digits)
-    → (c .octal-digits .result ≤ 3) × (c .octal-digits .result ≤ length (c .before .before .before .before .before .before .before .before .before .args .text .now))
+    → (c .octal-digits .result ≤ 3) × (c .octal-digits .result ≤ length (c .before .before .before .before .before .args .text .now))
 few c =
-    let start-here = c .before .before .before .before .before .before .before .before .before in
+    let start-here = c .before .before .before .before .before in
     let t = start-here .args .text .now in
     (omega (arith, c .octal-digits .ensures, digits-few t), omega (arith, c .octal-digits .ensures, digits-inside t))
 
@@ -43,107 +41,97 @@ returns c =
 shared-slice-read-c : tie.Need-shared-slice-read-c
 shared-slice-read-c c = search needs
 
-is-blank-requires : tie.Need-is-blank-requires
-is-blank-requires c κs = search needs
-
 returns-2 : tie.Need-returns-2
 returns-2 c =
-    let start-here = c .before .before .before .before .before in
+    let start-here = c .before .before .before .before in
     let t = start-here .args .text .now in
-    let is-blank-here = c .before in
-    let if1-here = c .before .before .before in
-    let h : 0 < length t = omega (arith, if1-here .if1) in
-    ⊎-elim (λ w. escape-blank t h (sym (is-blank-here .is-blank .ensures) ∙ w .taken)) (λ w. escape-backslash t h (eqb-true _ 92 (w .1 .taken))) (c .if2 .came)
+    escape-itself t (omega arith) (c .match .keys1)
 
 returns-3 : tie.Need-returns-3
 returns-3 c =
-    let start-here = c .before .before .before .before .before .before .before in
+    let start-here = c .before .before .before .before in
     let t = start-here .args .text .now in
-    escape-newline t (omega arith) (c .if4 .taken)
+    escape-newline t (omega arith) (c .match .keys2)
 
 returns-4 : tie.Need-returns-4
 returns-4 c =
-    let start-here = c .before .before .before .before .before .before .before .before in
+    let start-here = c .before .before .before .before in
     let t = start-here .args .text .now in
-    escape-joined t (omega arith) (c .if5 .taken)
+    escape-joined t (omega arith) (c .match .keys3)
 
 octal-digits-requires : tie.Need-octal-digits-requires
 octal-digits-requires c κs = search needs
 
 returns-5 : tie.Need-returns-5
 returns-5 c =
-    let start-here = c .before .before .before .before .before .before .before .before .before .before in
+    let start-here = c .before .before .before .before .before .before in
     let t = start-here .args .text .now in
     let octal-digits-here = c .before in
     let n = octal-digits-here .octal-digits .result in
     let e = octal-digits-here .octal-digits .ensures in
-    let is-blank-here = c .before .before .before .before .before .before in
-    let if1-here = c .before .before .before .before .before .before .before .before in
-    let if2-here = c .before .before .before .before .before in
-    let if3-here = c .before .before .before .before in
-    let if4-here = c .before .before .before in
-    let if5-here = c .before .before in
-    let b = sym (is-blank-here .is-blank .ensures) ∙ if2-here .if2 .left in
-    escape-other t n (omega (arith, if1-here .if1)) b (eqb-false _ 92 (if3-here .if3 .left)) (if4-here .if4 .left) (if5-here .if5 .left) e (c .if6 .taken)
+    let if1-here = c .before .before .before .before in
+    let match-here = c .before .before in
+    let r = match-here .match .rest in
+    escape-other t n (omega (arith, if1-here .if1)) (r .0 .0 .1) (r .0 .1) (r .1) e (c .if2 .taken)
 
 shared-slice-read-octal : tie.Need-shared-slice-read-octal
 shared-slice-read-octal c =
     let octal-digits-here = c .before .before .before in
-    let if7-here = c .before in
-    omega (arith, few octal-digits-here, if7-here .if7 .taken)
+    let if3-here = c .before in
+    omega (arith, few octal-digits-here, if3-here .if3 .taken)
 
 shared-slice-read-octal-2 : tie.Need-shared-slice-read-octal-2
 shared-slice-read-octal-2 c =
     let octal-digits-here = c .before .before .before .before in
-    let if7-here = c .before .before in
-    omega (arith, few octal-digits-here, if7-here .if7 .taken)
+    let if3-here = c .before .before in
+    omega (arith, few octal-digits-here, if3-here .if3 .taken)
 
 octal-requires : tie.Need-octal-requires
 octal-requires c κs =
-    let start-here = c .before .before .before .before .before .before .before .before .before .before .before .before .before in
+    let start-here = c .before .before .before .before .before .before .before .before .before in
     let t = start-here .args .text .now in
     let octal-digits-here = c .before .before .before .before in
     let n = octal-digits-here .octal-digits .result in
     let e = octal-digits-here .octal-digits .ensures in
-    let if7-here = c .before .before in
-    three-octal t n e (if7-here .if7 .taken)
+    let if3-here = c .before .before in
+    three-octal t n e (if3-here .if3 .taken)
 
 returns-6 : tie.Need-returns-6
 returns-6 c =
-    let start-here = c .before .before .before .before .before .before .before .before .before .before .before .before .before .before in
+    let start-here = c .before .before .before .before .before .before .before .before .before .before in
     let t = start-here .args .text .now in
     let octal-digits-here = c .before .before .before .before .before in
     let n = octal-digits-here .octal-digits .result in
     let e = octal-digits-here .octal-digits .ensures in
-    let if7-here = c .before .before .before in
-    escape-octal t n e _ (if7-here .if7 .taken) (c .octal .ensures)
+    let if3-here = c .before .before .before in
+    escape-octal t n e _ (if3-here .if3 .taken) (c .octal .ensures)
 
-shared-slice-read-if9 : tie.Need-shared-slice-read-if9
-shared-slice-read-if9 c =
+shared-slice-read-if5 : tie.Need-shared-slice-read-if5
+shared-slice-read-if5 c =
     let octal-digits-here = c .before .before .before .before in
-    let if8-here = c .before in
+    let if4-here = c .before in
     let h = few octal-digits-here .1 in
-    omega (arith, if8-here .if8 .left)
+    omega (arith, if4-here .if4 .left)
 
-add-t19 : tie.Need-add-t19
-add-t19 c =
+add-t17 : tie.Need-add-t17
+add-t17 c =
     let octal-digits-here = c .before .before .before in
     omega (arith, few octal-digits-here)
 
 returns-7 : tie.Need-returns-7
 returns-7 c =
-    let start-here = c .before .before .before .before .before .before .before .before .before .before .before .before in
+    let start-here = c .before .before .before .before .before .before .before .before in
     let t = start-here .args .text .now in
     let octal-digits-here = c .before .before .before in
     let n = octal-digits-here .octal-digits .result in
     let e = octal-digits-here .octal-digits .ensures in
-    let if6-here = c .before .before in
-    let if7-here = c .before in
-    let z = if6-here .if6 .left in
-    let k = if7-here .if7 .left in
+    let if2-here = c .before .before in
+    let if3-here = c .before in
+    let z = if2-here .if2 .left in
+    let k = if3-here .if3 .left in
     let h = few octal-digits-here .1 in
     escape-dropped t n e z k
-    (⊎-elim (λ w. line-over t n (w .taken)) (λ w. line-newline t n (omega (arith, w .0)) (eqb-true _ 10 (w .2 .taken))) (c .if8 .came))
+    (⊎-elim (λ w. line-over t n (w .taken)) (λ w. line-newline t n (omega (arith, w .0)) (eqb-true _ 10 (w .2 .taken))) (c .if4 .came))
 
 add-t4 : tie.Need-add-t4
 add-t4 c =
@@ -152,18 +140,18 @@ add-t4 c =
 
 returns-8 : tie.Need-returns-8
 returns-8 c =
-    let start-here = c .before .before .before .before .before .before .before .before .before .before .before .before .before .before in
+    let start-here = c .before .before .before .before .before .before .before .before .before .before in
     let t = start-here .args .text .now in
     let octal-digits-here = c .before .before .before .before .before in
     let n = octal-digits-here .octal-digits .result in
     let e = octal-digits-here .octal-digits .ensures in
-    let if6-here = c .before .before .before .before in
-    let if7-here = c .before .before .before in
-    let z = if6-here .if6 .left in
-    let k = if7-here .if7 .left in
-    let if8-here = c .before .before in
+    let if2-here = c .before .before .before .before in
+    let if3-here = c .before .before .before in
+    let z = if2-here .if2 .left in
+    let k = if3-here .if3 .left in
+    let if4-here = c .before .before in
     let h = few octal-digits-here .1 in
-    escape-kept t n e z k (line-goes-on t n (omega (arith, if8-here .if8 .left)) (eqb-false _ 10 (c .if9 .left)))
+    escape-kept t n e z k (line-goes-on t n (omega (arith, if4-here .if4 .left)) (eqb-false _ 10 (c .if5 .left)))
 
 pub parse-escape-spec : {M : Type 1} → statement M
 parse-escape-spec =
@@ -171,7 +159,6 @@ parse-escape-spec =
     (tie.spec
     returns
     shared-slice-read-c
-    is-blank-requires
     returns-2
     returns-3
     returns-4
@@ -181,8 +168,8 @@ parse-escape-spec =
     shared-slice-read-octal-2
     octal-requires
     returns-6
-    shared-slice-read-if9
-    add-t19
+    shared-slice-read-if5
+    add-t17
     returns-7
     add-t4
     returns-8)
