@@ -1,20 +1,21 @@
 -- Octal digits, escapes and pieces, as the code tells them apart. Assumes nothing.
-use mathlib.Core.Bool.{Bool, true, false, _&&_, _||_}
-use mathlib.Core.List.{List, [], _∷_, _++_}
+use mathlib.Core.Bool.{Bool, true, false, _||_}
+use mathlib.Core.Logic.{_⊎_, inl, inr, ⊎-elim}
+use mathlib.Core.List.{List, [], _∷_}
 use mathlib.Core.Path.{_≡_, refl, sym, ap, _∙_}
-use Prim.Native.Nat.{ℕ, zero, suc, _+_, _-_, _*_, _%_, _≤_, _<_}
+use Prim.Native.Nat.{ℕ, suc, _+_, _-_, _*_, _%_, _≤_, _<_}
 use native.Mathlib.Nat.{zero-add, add-mod, mod-add-mod, mod-eq-of-lt}
-use native.Mathlib.Numerals.{add-one, one-add}
+use native.Mathlib.Numerals.{one-add}
 use native.Mathlib.Omega.{arith}
 use lib.Dec.{eqb, leb}
 use lib.ListN.{length, take, drop, getD, length-take, drop-of-length-le}
 use lib.Seq.{getD-take, take-take, drop-cons}
-use borrow.Author.Tests.{eq-eqb, ne-eqb, leb-true, eqb-true}
-use Rattle.definition.specs.Lists.{if_then_else_, all, takeWhile}
+use borrow.Author.Tests.{eq-eqb, ne-eqb, leb-true}
+use Rattle.definition.specs.Lists.{all, takeWhile}
 use Rattle.definition.specs.Parsing.{found}
-use Rattle.definition.specs.Bytes.{newline, backslash, letter-n, isBlank, isOctal}
+use Rattle.definition.specs.Bytes.{tab, space, newline, backslash, letter-n, isBlank, isOctal}
 use Rattle.definition.specs.Text.{positional, lineEnds, octalOf, escapeAt, pieceAt}
-use Rattle.laws.proofs.Lists.{not-both, and-true, all-takeWhile, part-rest, take-run, length-takeWhile-le, run-end, run-stop, run-more}
+use Rattle.laws.proofs.Lists.{and-true, all-takeWhile, part-rest, take-run, length-takeWhile-le, run-end, run-stop, run-more}
 use Rattle.values.specs.declared.Piece.{Piece}
 use Rattle.values.specs.declared.Piece.the-variants.{End, Byte, Keep, Drop}
 use Rattle.values.specs.Pieces.{pieceOf, sizeOf, IsPiece}
@@ -105,15 +106,25 @@ unfolding pieceOf sizeOf pieceAt escapeAt
 escape-end [] h = record { same = refl; inside = omega arith }
 escape-end (c ∷ t) h = absurd (omega arith)
 
-pub escape-blank : (t : List ℕ) → 0 < length t → isBlank (getD t 0 0) ≡ true → IsPiece (backslash ∷ t) (Byte (getD t 0 0) 2)
-unfolding pieceOf sizeOf pieceAt escapeAt
-escape-blank [] h e = absurd (omega arith)
-escape-blank (c ∷ t) h e = record { same = rw e refl; inside = omega arith }
+-- what a backslash keeps from being special
+abbrev pub Escaped : ℕ → Type 0
+Escaped c = (c ≡ tab) ⊎ ((c ≡ space) ⊎ (c ≡ backslash))
 
-pub escape-backslash : (t : List ℕ) → 0 < length t → getD t 0 0 ≡ backslash → IsPiece (backslash ∷ t) (Byte (getD t 0 0) 2)
-unfolding pieceOf sizeOf pieceAt escapeAt isBlank
-escape-backslash [] h e = absurd (omega arith)
-escape-backslash (c ∷ t) h e = record { same = rw e refl; inside = omega arith }
+escaped-test : (c : ℕ) → Escaped c → (isBlank c || eqb c backslash) ≡ true
+unfolding isBlank
+escaped-test c (inl e) = rw e refl
+escaped-test c (inr (inl e)) = rw e refl
+escaped-test c (inr (inr e)) = rw e refl
+
+not-escaped-test : (c : ℕ) → (Escaped c → ⊥) → (isBlank c || eqb c backslash) ≡ false
+unfolding isBlank
+not-escaped-test c h =
+    rw (ne-eqb c space (λ e. h (inr (inl e))), ne-eqb c tab (λ e. h (inl e)), ne-eqb c backslash (λ e. h (inr (inr e)))) refl
+
+pub escape-itself : (t : List ℕ) → 0 < length t → Escaped (getD t 0 0) → IsPiece (backslash ∷ t) (Byte (getD t 0 0) 2)
+unfolding pieceOf sizeOf pieceAt escapeAt
+escape-itself [] h e = absurd (omega arith)
+escape-itself (c ∷ t) h e = record { same = rw (escaped-test c e) refl; inside = omega arith }
 
 pub escape-newline : (t : List ℕ) → 0 < length t → getD t 0 0 ≡ letter-n → IsPiece (backslash ∷ t) (Byte newline 2)
 unfolding pieceOf sizeOf pieceAt escapeAt isBlank
@@ -125,26 +136,27 @@ unfolding pieceOf sizeOf pieceAt escapeAt isBlank
 escape-joined [] h e = absurd (omega arith)
 escape-joined (c ∷ t) h e = record { same = rw e refl; inside = omega arith }
 
-pub escape-other : (t : List ℕ) (n : ℕ) → 0 < length t → isBlank (getD t 0 0) ≡ false → (getD t 0 0 ≡ backslash → ⊥)
-    → (getD t 0 0 ≡ letter-n → ⊥) → (getD t 0 0 ≡ newline → ⊥) → n ≡ length (digits t) → n ≡ 0 → IsPiece (backslash ∷ t) (Keep 1)
+pub escape-other : (t : List ℕ) (n : ℕ) → 0 < length t → (Escaped (getD t 0 0) → ⊥) → (getD t 0 0 ≡ letter-n → ⊥)
+    → (getD t 0 0 ≡ newline → ⊥) → n ≡ length (digits t) → n ≡ 0 → IsPiece (backslash ∷ t) (Keep 1)
 unfolding pieceOf sizeOf pieceAt escapeAt takeWhile
-escape-other [] n h b e f g d z = absurd (omega arith)
-escape-other (c ∷ t) n h b e f g d z = at (isOctal c) refl
+escape-other [] n h e f g d z = absurd (omega arith)
+escape-other (c ∷ t) n h e f g d z = at (isOctal c) refl
   where
     at : (o : Bool) → isOctal c ≡ o → IsPiece (backslash ∷ c ∷ t) (Keep 1)
     at true k = absurd (let m : n ≡ suc (length (takeWhile isOctal (take 2 t))) = d ∙ rw k refl in omega arith)
-    at false k = record { same = rw (b, ne-eqb c backslash e, ne-eqb c letter-n f, ne-eqb c newline g, k) refl; inside = omega arith }
+    at false k = record { same = rw (not-escaped-test c e, ne-eqb c letter-n f, ne-eqb c newline g, k) refl; inside = omega arith }
 
 -- one digit or more: it is what octalOf says
 escape-octals : (t : List ℕ) (n : ℕ) → n ≡ length (digits t) → (n ≡ 0 → ⊥) → escapeAt t ≡ octalOf (digits t) (drop n t)
-unfolding escapeAt takeWhile isBlank
+unfolding escapeAt takeWhile
 escape-octals [] n e h = absurd (h e)
 escape-octals (c ∷ t) n e h = at (isOctal c) refl
   where
     at : (o : Bool) → isOctal c ≡ o → escapeAt (c ∷ t) ≡ octalOf (digits (c ∷ t)) (drop n (c ∷ t))
     at true k =
         let r = octal-range c k in
-        rw (e, ne-eqb c 32 (omega arith), ne-eqb c 9 (omega arith), ne-eqb c backslash (omega arith), ne-eqb c letter-n (omega arith), ne-eqb c newline (omega arith), k) refl
+        let x : Escaped c → ⊥ = ⊎-elim (λ e. omega arith) (⊎-elim (λ e. omega arith) (λ e. omega arith)) in
+        rw (e, not-escaped-test c x, ne-eqb c letter-n (omega arith), ne-eqb c newline (omega arith), k) refl
     at false k = absurd (h (e ∙ rw k refl))
 
 module _ (t : List ℕ) (n : ℕ) (e : n ≡ length (digits t)) where

@@ -6,7 +6,7 @@ ghost use Prim.Native.Nat.{_+_, _*_, _%_, _≤_};
 ghost use lib.ListN.{length, take};
 ghost use lib.Seq.{paste};
 ghost use Rattle.definition.specs.Lists.{takeWhile};
-ghost use Rattle.definition.specs.Bytes.{backslash, isBlank, isOctal};
+ghost use Rattle.definition.specs.Bytes.{backslash, isOctal};
 ghost use Rattle.definition.specs.Text.{positional, afterBlanks};
 ghost use Rattle.values.specs.Pieces.{IsPiece};
 ghost use Rattle.values.specs.Decoded.{Decoded};
@@ -30,26 +30,14 @@ pub enum Value {
     Full,
 }
 
-fn is_blank(c: u8) -> bool
-    ensures { λ r. ⌜ r ≡ isBlank c ⌝ }
-{
-    c == b' ' || c == b'\t'
-}
-
-fn is_octal_digit(c: u8) -> bool
-    ensures { λ r. ⌜ r ≡ isOctal c ⌝ }
-{
-    b'0' <= c && c <= b'7'
-}
-
-// Drops blanks and joined lines after a `:`.
+// The text after a `:` without the blanks and backslash-newline pairs at its front.
 pub fn skip_blanks(text: &[u8]) -> &[u8]
     ensures { λ r. ⌜ now r ≡ afterBlanks (now (text .entry)) ⌝ }
 {
     let mut rest = text;
     while rest.len() > 0 {
         let c = rest[0];
-        if is_blank(c) {
+        if scan::is_blank(c) {
             rest = &rest[1..];
             continue;
         }
@@ -70,7 +58,8 @@ pub fn times_eight(x: u8) -> u8
     std::num::wrapping_add_u8(four, four)
 }
 
-// The low eight bits of the number of three octal digits.
+// The low eight bits of the number of three octal digits, as the Rust's release build has them.
+// Only the second product can wrap: it is a multiple of eight, so the last digit fits on top.
 pub fn octal(a: u8, b: u8, c: u8) -> u8
     requires { ⌜ (isOctal a ≡ true) × (isOctal b ≡ true) × (isOctal c ≡ true) ⌝ }
     ensures { λ r. ⌜ r ≡ positional 8 0 (a ∷ b ∷ c ∷ []) % 256 ⌝ }
@@ -85,13 +74,7 @@ fn octal_digits(text: &[u8]) -> usize
     ensures { λ r. ⌜ r ≡ length (takeWhile isOctal (take 3 (now (text .entry)))) ⌝ }
 {
     let mut n = 0;
-    while n < 3 {
-        if n >= text.len() {
-            return n;
-        }
-        if !is_octal_digit(text[n]) {
-            return n;
-        }
+    while n < 3 && n < text.len() && scan::is_octal_digit(text[n]) {
         n += 1;
     }
     n
@@ -105,14 +88,11 @@ fn parse_escape(text: &[u8]) -> Piece
         return Piece::Keep(1);
     }
     let c = text[0];
-    if is_blank(c) || c == b'\\' {
-        return Piece::Byte(c, 2);
-    }
-    if c == b'n' {
-        return Piece::Byte(b'\n', 2);
-    }
-    if c == b'\n' {
-        return Piece::Drop(2);
+    match c {
+        b' ' | b'\t' | b'\\' => return Piece::Byte(c, 2),
+        b'n' => return Piece::Byte(b'\n', 2),
+        b'\n' => return Piece::Drop(2),
+        _ => {}
     }
     let n = octal_digits(text);
     if n == 0 {

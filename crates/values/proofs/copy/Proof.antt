@@ -1,15 +1,13 @@
-use lib.ListN.{length}
-use mathlib.Core.Path.{ap, _∙_}
+-- `values::copy` meets its contract: before each turn the first i bytes are stored. Assumes nothing.
+use mathlib.Core.Path.{ap, _∙_, _≡_}
+use Prim.Native.Nat.{_≤_, _-_}
 use native.Mathlib.Numerals.{add-one}
 use native.Mathlib.Omega.{arith}
-use mathlib.Core.Path.{_≡_}
-use Prim.Native.Nat.{_≤_, _-_}
+use lib.ListN.{length}
 use lib.Seq.{paste, paste-zero, paste-suc, length-paste}
 use borrow.Author.Needs.{needs}
 use Rattle.values.proofs.copy.Statement.{statement}
 use Rattle.values.proofs.copy.Tie as tie
-use Rattle.values.proofs.copy.Reads as reads
-use Rattle.values.proofs.copy.Lts as lts
 
 abbrev Inv-loop : tie.InvT-loop
 Inv-loop text n store₀ at i₀ store i = (i ≤ n) × (store ≡ paste store₀ at text i)
@@ -17,19 +15,15 @@ Inv-loop text n store₀ at i₀ store i = (i ≤ n) × (store ≡ paste store�
 abbrev μ-loop : tie.MeasureT-loop
 μ-loop text n store₀ at i₀ store i = n - i
 
--- src/lib.rt:165:5
 loop-holds : tie.Need-loop-holds Inv-loop μ-loop
 loop-holds c = (omega arith, paste-zero (c .args .store .now) (c .args .at) (c .args .text .now))
 
--- src/lib.rt:166:25
 shared-slice-read-store : tie.Need-shared-slice-read-store Inv-loop μ-loop
 shared-slice-read-store c = search needs
 
--- src/lib.rt:166:15
 add-store : tie.Need-add-store Inv-loop μ-loop
 add-store c = search needs
 
--- src/lib.rt:166:9
 slice-write-store : tie.Need-slice-write-store Inv-loop μ-loop
 slice-write-store c =
     let start-here = c .before .before .before in
@@ -37,15 +31,12 @@ slice-write-store c =
     let a = start-here .args in
     omega (arith, ap length (loop-here .loop .inv .1), length-paste (a .store .now) (a .at) (a .text .now) (loop-here .loop .i) (omega arith) (omega arith))
 
--- src/lib.rt:167:9
 add-i : tie.Need-add-i Inv-loop μ-loop
 add-i c = search needs
 
--- src/lib.rt:165:5
 loop-less : tie.Need-loop-less Inv-loop μ-loop
 loop-less c = search needs
 
--- src/lib.rt:165:5
 loop-again : tie.Need-loop-again Inv-loop μ-loop
 loop-again c =
     let start-here = c .before .before .before in
@@ -53,7 +44,6 @@ loop-again c =
     let a = start-here .args in
     (omega arith, rw (add-one, loop-here .loop .inv .1) (paste-suc (a .store .now) (a .at) (a .text .now) (loop-here .loop .i) 0 (omega arith) (omega arith)))
 
--- src/lib.rt:160:1
 same-length : tie.Need-same-length Inv-loop μ-loop
 same-length c =
     let start-here = c .before .before in
@@ -61,7 +51,6 @@ same-length c =
     let a = start-here .args in
     ap length (loop-here .loop .inv .1) ∙ length-paste (a .store .now) (a .at) (a .text .now) (loop-here .loop .i) (omega arith) (omega arith)
 
--- src/lib.rt:160:1
 returns : tie.Need-returns Inv-loop μ-loop
 returns c =
     let start-here = c .before .before in

@@ -1,45 +1,35 @@
-use Rattle.values.proofs.Escapes.{octal-range, room-for-digit, octal-number}
+-- `values::octal` meets its contract. No sum wraps but those of `times_eight`. Assumes nothing.
 use Prim.Native.Nat.{_-_, _≤_}
 use native.Mathlib.Omega.{arith}
 use borrow.Author.Needs.{needs}
+use Rattle.values.proofs.Escapes.{octal-range, room-for-digit, octal-number}
 use Rattle.values.proofs.octal.Statement.{statement}
 use Rattle.values.proofs.octal.Tie as tie
-use Rattle.values.proofs.octal.Reads as reads
-use Rattle.values.proofs.octal.Lts as lts
-use Rattle.values.proofs.times_eight.Reads as times-eight-reads
 
--- src/lib.rt:84:25
 sub-times-eight : tie.Need-sub-times-eight
 sub-times-eight c = omega (arith, octal-range _ (c .pre .0))
 
--- src/lib.rt:84:9
 times-eight-requires : tie.Need-times-eight-requires
 times-eight-requires c κs = search needs
 
--- src/lib.rt:85:30
 sub-times-eight-2 : tie.Need-sub-times-eight-2
 sub-times-eight-2 c = omega (arith, octal-range _ (c .before .pre .1))
 
--- src/lib.rt:85:25
 add-times-eight : tie.Need-add-times-eight
 add-times-eight c = omega (arith, octal-range _ (c .before .pre .0), octal-range _ (c .before .pre .1))
 
--- src/lib.rt:85:9
 times-eight-requires-2 : tie.Need-times-eight-requires-2
 times-eight-requires-2 c κs = search needs
 
--- src/lib.rt:86:10
 sub-result : tie.Need-sub-result
 sub-result c = omega (arith, octal-range _ (c .before .before .pre .2))
 
--- src/lib.rt:86:5
 add-result : tie.Need-add-result
 add-result c =
     let start-here = c .before .before in
     let d : start-here .args .c - 48 ≤ 7 = omega (arith, octal-range _ (start-here .pre .2)) in
     omega (arith, room-for-digit _ _ (start-here .args .c - 48) (c .times-eight2 .ensures) d)
 
--- src/lib.rt:80:1
 returns : tie.Need-returns
 returns c =
     let start-here = c .before .before in

@@ -1,187 +1,157 @@
-use borrow.Author.Tests.{eqb-true, eqb-false}
-use Rattle.values.proofs.Escapes.{escape-end, escape-blank, escape-backslash, escape-newline, escape-joined, escape-other, escape-octal, escape-dropped, escape-kept, digits-few, digits-inside, three-octal, line-over, line-newline, line-goes-on}
-use lib.ListN.{length}
-use Prim.Native.Nat.{_<_}
+-- `values::parse_escape` meets its contract: each way out is one law of escapes. Assumes nothing.
 use mathlib.Core.Logic.{⊎-elim}
-use mathlib.Core.Path.{sym, _∙_}
+use Prim.Native.Nat.{_≤_}
 use native.Mathlib.Omega.{arith}
+use lib.ListN.{length}
+use borrow.Author.Tests.{eqb-true, eqb-false}
 use borrow.Author.Needs.{needs}
+use Rattle.values.proofs.Escapes.{
+  escape-end,
+  escape-itself,
+  escape-newline,
+  escape-joined,
+  escape-other,
+  escape-octal,
+  escape-dropped,
+  escape-kept,
+  digits-few,
+  digits-inside,
+  three-octal,
+  line-over,
+  line-newline,
+  line-goes-on,
+}
 use Rattle.values.proofs.parse_escape.Statement.{statement}
 use Rattle.values.proofs.parse_escape.Tie as tie
-use Rattle.values.proofs.parse_escape.Reads as reads
-use Rattle.values.proofs.parse_escape.Lts as lts
-use Rattle.values.proofs.is_blank.Reads as is-blank-reads
-use Rattle.values.proofs.octal.Reads as octal-reads
-use Rattle.values.proofs.octal_digits.Reads as octal-digits-reads
 
--- src/lib.rt:105:9
+-- how many digits there can be
+few : (c : tie.After-octal-digits)
+    → (c .octal-digits .result ≤ 3) × (c .octal-digits .result ≤ length (c .before .before .before .before .before .args .text .now))
+few c =
+    let start-here = c .before .before .before .before .before in
+    let t = start-here .args .text .now in
+    (omega (arith, c .octal-digits .ensures, digits-few t), omega (arith, c .octal-digits .ensures, digits-inside t))
+
 returns : tie.Need-returns
 returns c =
     let start-here = c .before .before in
     let t = start-here .args .text .now in
     escape-end t (c .if1 .taken)
 
--- src/lib.rt:107:13
 shared-slice-read-c : tie.Need-shared-slice-read-c
 shared-slice-read-c c = search needs
 
--- src/lib.rt:108:8
-is-blank-requires : tie.Need-is-blank-requires
-is-blank-requires c κs = search needs
-
--- src/lib.rt:109:9
 returns-2 : tie.Need-returns-2
 returns-2 c =
-    let start-here = c .before .before .before .before .before in
+    let start-here = c .before .before .before .before in
     let t = start-here .args .text .now in
-    let is-blank-here = c .before in
-    let if1-here = c .before .before .before in
-    let h : 0 < length t = omega (arith, if1-here .if1) in
-    ⊎-elim (λ w. escape-blank t h (sym (is-blank-here .is-blank .ensures) ∙ w .taken)) (λ w. escape-backslash t h (eqb-true _ 92 (w .1 .taken))) (c .if2 .came)
+    escape-itself t (omega arith) (c .match .keys1)
 
--- src/lib.rt:112:9
 returns-3 : tie.Need-returns-3
 returns-3 c =
-    let start-here = c .before .before .before .before .before .before .before in
+    let start-here = c .before .before .before .before in
     let t = start-here .args .text .now in
-    escape-newline t (omega arith) (c .if4 .taken)
+    escape-newline t (omega arith) (c .match .keys2)
 
--- src/lib.rt:115:9
 returns-4 : tie.Need-returns-4
 returns-4 c =
-    let start-here = c .before .before .before .before .before .before .before .before in
+    let start-here = c .before .before .before .before in
     let t = start-here .args .text .now in
-    escape-joined t (omega arith) (c .if5 .taken)
+    escape-joined t (omega arith) (c .match .keys3)
 
--- src/lib.rt:117:9
 octal-digits-requires : tie.Need-octal-digits-requires
 octal-digits-requires c κs = search needs
 
--- src/lib.rt:119:9
 returns-5 : tie.Need-returns-5
 returns-5 c =
-    let start-here = c .before .before .before .before .before .before .before .before .before .before in
+    let start-here = c .before .before .before .before .before .before in
     let t = start-here .args .text .now in
     let octal-digits-here = c .before in
     let n = octal-digits-here .octal-digits .result in
     let e = octal-digits-here .octal-digits .ensures in
-    let is-blank-here = c .before .before .before .before .before .before in
-    let if1-here = c .before .before .before .before .before .before .before .before in
-    let if2-here = c .before .before .before .before .before in
-    let if3-here = c .before .before .before .before in
-    let if4-here = c .before .before .before in
-    let if5-here = c .before .before in
-    let b = sym (is-blank-here .is-blank .ensures) ∙ if2-here .if2 .left in
-    escape-other t n (omega (arith, if1-here .if1)) b (eqb-false _ 92 (if3-here .if3 .left)) (if4-here .if4 .left) (if5-here .if5 .left) e (c .if6 .taken)
+    let if1-here = c .before .before .before .before in
+    let match-here = c .before .before in
+    let r = match-here .match .rest in
+    escape-other t n (omega (arith, if1-here .if1)) (r .0 .0 .1) (r .0 .1) (r .1) e (c .if2 .taken)
 
--- src/lib.rt:122:37
 shared-slice-read-octal : tie.Need-shared-slice-read-octal
 shared-slice-read-octal c =
-    let start-here = c .before .before .before .before .before .before .before .before .before .before .before .before in
-    let t = start-here .args .text .now in
     let octal-digits-here = c .before .before .before in
-    let n = octal-digits-here .octal-digits .result in
-    let e = octal-digits-here .octal-digits .ensures in
-    let if7-here = c .before in
-    omega (arith, e, if7-here .if7 .taken, digits-inside t)
+    let if3-here = c .before in
+    omega (arith, few octal-digits-here, if3-here .if3 .taken)
 
--- src/lib.rt:122:46
 shared-slice-read-octal-2 : tie.Need-shared-slice-read-octal-2
 shared-slice-read-octal-2 c =
-    let start-here = c .before .before .before .before .before .before .before .before .before .before .before .before .before in
-    let t = start-here .args .text .now in
     let octal-digits-here = c .before .before .before .before in
-    let n = octal-digits-here .octal-digits .result in
-    let e = octal-digits-here .octal-digits .ensures in
-    let if7-here = c .before .before in
-    omega (arith, e, if7-here .if7 .taken, digits-inside t)
+    let if3-here = c .before .before in
+    omega (arith, few octal-digits-here, if3-here .if3 .taken)
 
--- src/lib.rt:122:28
 octal-requires : tie.Need-octal-requires
 octal-requires c κs =
-    let start-here = c .before .before .before .before .before .before .before .before .before .before .before .before .before in
+    let start-here = c .before .before .before .before .before .before .before .before .before in
     let t = start-here .args .text .now in
     let octal-digits-here = c .before .before .before .before in
     let n = octal-digits-here .octal-digits .result in
     let e = octal-digits-here .octal-digits .ensures in
-    let if7-here = c .before .before in
-    three-octal t n e (if7-here .if7 .taken)
+    let if3-here = c .before .before in
+    three-octal t n e (if3-here .if3 .taken)
 
--- src/lib.rt:122:9
 returns-6 : tie.Need-returns-6
 returns-6 c =
-    let start-here = c .before .before .before .before .before .before .before .before .before .before .before .before .before .before in
+    let start-here = c .before .before .before .before .before .before .before .before .before .before in
     let t = start-here .args .text .now in
     let octal-digits-here = c .before .before .before .before .before in
     let n = octal-digits-here .octal-digits .result in
     let e = octal-digits-here .octal-digits .ensures in
-    let if7-here = c .before .before .before in
-    let octal-here = c in
-    escape-octal t n e _ (if7-here .if7 .taken) (octal-here .octal .ensures)
+    let if3-here = c .before .before .before in
+    escape-octal t n e _ (if3-here .if3 .taken) (c .octal .ensures)
 
--- src/lib.rt:124:27
-shared-slice-read-if9 : tie.Need-shared-slice-read-if9
-shared-slice-read-if9 c =
-    let start-here = c .before .before .before .before .before .before .before .before .before .before .before .before .before in
-    let t = start-here .args .text .now in
+shared-slice-read-if5 : tie.Need-shared-slice-read-if5
+shared-slice-read-if5 c =
     let octal-digits-here = c .before .before .before .before in
-    let n = octal-digits-here .octal-digits .result in
-    let e = octal-digits-here .octal-digits .ensures in
-    let if8-here = c .before in
-    let l = digits-inside t in
-    omega (arith, e, if8-here .if8 .left)
+    let if4-here = c .before in
+    let h = few octal-digits-here .1 in
+    omega (arith, if4-here .if4 .left)
 
--- src/lib.rt:125:28
-add-t19 : tie.Need-add-t19
-add-t19 c =
-    let start-here = c .before .before .before .before .before .before .before .before .before .before .before .before in
-    let t = start-here .args .text .now in
+add-t17 : tie.Need-add-t17
+add-t17 c =
     let octal-digits-here = c .before .before .before in
-    let n = octal-digits-here .octal-digits .result in
-    let e = octal-digits-here .octal-digits .ensures in
-    omega (arith, e, digits-few t)
+    omega (arith, few octal-digits-here)
 
--- src/lib.rt:125:9
 returns-7 : tie.Need-returns-7
 returns-7 c =
-    let start-here = c .before .before .before .before .before .before .before .before .before .before .before .before in
+    let start-here = c .before .before .before .before .before .before .before .before in
     let t = start-here .args .text .now in
     let octal-digits-here = c .before .before .before in
     let n = octal-digits-here .octal-digits .result in
     let e = octal-digits-here .octal-digits .ensures in
-    let if6-here = c .before .before in
-    let if7-here = c .before in
-    let z = if6-here .if6 .left in
-    let k = if7-here .if7 .left in
-    let l = digits-inside t in
+    let if2-here = c .before .before in
+    let if3-here = c .before in
+    let z = if2-here .if2 .left in
+    let k = if3-here .if3 .left in
+    let h = few octal-digits-here .1 in
     escape-dropped t n e z k
-    (⊎-elim (λ w. line-over t n (w .taken)) (λ w. line-newline t n (omega (arith, e, w .0)) (eqb-true _ 10 (w .2 .taken))) (c .if8 .came))
+    (⊎-elim (λ w. line-over t n (w .taken)) (λ w. line-newline t n (omega (arith, w .0)) (eqb-true _ 10 (w .2 .taken))) (c .if4 .came))
 
--- src/lib.rt:127:17
 add-t4 : tie.Need-add-t4
 add-t4 c =
-    let start-here = c .before .before .before .before .before .before .before .before .before .before .before .before .before .before in
-    let t = start-here .args .text .now in
     let octal-digits-here = c .before .before .before .before .before in
-    let n = octal-digits-here .octal-digits .result in
-    let e = octal-digits-here .octal-digits .ensures in
-    omega (arith, e, digits-few t)
+    omega (arith, few octal-digits-here)
 
--- src/lib.rt:101:1
 returns-8 : tie.Need-returns-8
 returns-8 c =
-    let start-here = c .before .before .before .before .before .before .before .before .before .before .before .before .before .before in
+    let start-here = c .before .before .before .before .before .before .before .before .before .before in
     let t = start-here .args .text .now in
     let octal-digits-here = c .before .before .before .before .before in
     let n = octal-digits-here .octal-digits .result in
     let e = octal-digits-here .octal-digits .ensures in
-    let if6-here = c .before .before .before .before in
-    let if7-here = c .before .before .before in
-    let z = if6-here .if6 .left in
-    let k = if7-here .if7 .left in
-    let if8-here = c .before .before in
-    let l = digits-inside t in
-    escape-kept t n e z k (line-goes-on t n (omega (arith, e, if8-here .if8 .left)) (eqb-false _ 10 (c .if9 .left)))
+    let if2-here = c .before .before .before .before in
+    let if3-here = c .before .before .before in
+    let z = if2-here .if2 .left in
+    let k = if3-here .if3 .left in
+    let if4-here = c .before .before in
+    let h = few octal-digits-here .1 in
+    escape-kept t n e z k (line-goes-on t n (omega (arith, if4-here .if4 .left)) (eqb-false _ 10 (c .if5 .left)))
 
 pub parse-escape-spec : {M : Type 1} → statement M
 parse-escape-spec =
@@ -189,7 +159,6 @@ parse-escape-spec =
     (tie.spec
     returns
     shared-slice-read-c
-    is-blank-requires
     returns-2
     returns-3
     returns-4
@@ -199,8 +168,8 @@ parse-escape-spec =
     shared-slice-read-octal-2
     octal-requires
     returns-6
-    shared-slice-read-if9
-    add-t19
+    shared-slice-read-if5
+    add-t17
     returns-7
     add-t4
     returns-8)

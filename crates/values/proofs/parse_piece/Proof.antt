@@ -1,31 +1,25 @@
-use Rattle.values.proofs.Escapes.{piece-end, piece-newline, piece-plain, piece-escape}
+-- `values::parse_piece` meets its contract: each way out is one law of pieces. Assumes nothing.
 use native.Mathlib.Omega.{arith}
 use borrow.Author.Needs.{needs}
+use Rattle.values.proofs.Escapes.{piece-end, piece-newline, piece-plain, piece-escape}
 use Rattle.values.proofs.parse_piece.Statement.{statement}
 use Rattle.values.proofs.parse_piece.Tie as tie
-use Rattle.values.proofs.parse_piece.Reads as reads
-use Rattle.values.proofs.parse_piece.Lts as lts
-use Rattle.values.proofs.parse_escape.Reads as parse-escape-reads
 
--- src/lib.rt:147:9
 returns : tie.Need-returns
 returns c =
     let start-here = c .before .before in
     let t = start-here .args .text .now in
     piece-end t (c .if1 .taken)
 
--- src/lib.rt:149:13
 shared-slice-read-b : tie.Need-shared-slice-read-b
 shared-slice-read-b c = search needs
 
--- src/lib.rt:151:9
 returns-2 : tie.Need-returns-2
 returns-2 c =
     let start-here = c .before .before .before .before in
     let t = start-here .args .text .now in
     piece-newline t (omega arith) (c .if2 .taken)
 
--- src/lib.rt:154:9
 returns-3 : tie.Need-returns-3
 returns-3 c =
     let start-here = c .before .before .before .before .before in
@@ -33,23 +27,18 @@ returns-3 c =
     let if2-here = c .before in
     piece-plain t (omega arith) (if2-here .if2 .left) (c .if3 .taken)
 
--- src/lib.rt:156:18
 sub-parse-escape : tie.Need-sub-parse-escape
 sub-parse-escape c = search needs
 
--- src/lib.rt:156:18
 part-parse-escape-start : tie.Need-part-parse-escape-start
 part-parse-escape-start c = search needs
 
--- src/lib.rt:156:18
 part-parse-escape-end : tie.Need-part-parse-escape-end
 part-parse-escape-end c = search needs
 
--- src/lib.rt:156:5
 parse-escape-requires : tie.Need-parse-escape-requires
 parse-escape-requires c κs = search needs
 
--- src/lib.rt:143:1
 returns-4 : tie.Need-returns-4
 returns-4 c =
     let start-here = c .before .before .before .before .before .before .before in

@@ -1,16 +1,14 @@
-use borrow.Author.Tests.{eqb-true, eqb-false, ltb-true, ltb-false, not-true, not-false}
-use Rattle.values.proofs.Blanks.{blanks-drop, blanks-other, blanks-alone, blanks-kept, blanks-joined, blanks-end}
-use Rattle.definition.specs.Text.{afterBlanks}
-use lib.ListN.{length}
+-- `values::skip_blanks` meets its contract: what is dropped of the text is dropped of what is left. Assumes nothing.
 use mathlib.Core.Logic.{⊎-elim}
 use mathlib.Core.Path.{_≡_, sym, _∙_}
 use native.Mathlib.Omega.{arith}
+use lib.ListN.{length}
+use borrow.Author.Tests.{eqb-true, eqb-false, ltb-true, ltb-false, not-true, not-false}
 use borrow.Author.Needs.{needs}
+use Rattle.definition.specs.Text.{afterBlanks}
+use Rattle.values.proofs.Blanks.{blanks-drop, blanks-other, blanks-alone, blanks-kept, blanks-joined, blanks-end}
 use Rattle.values.proofs.skip_blanks.Statement.{statement}
 use Rattle.values.proofs.skip_blanks.Tie as tie
-use Rattle.values.proofs.skip_blanks.Reads as reads
-use Rattle.values.proofs.skip_blanks.Lts as lts
-use Rattle.values.proofs.is_blank.Reads as is-blank-reads
 
 abbrev Inv-loop : tie.InvT-loop
 Inv-loop text rest₀ rest = afterBlanks text ≡ afterBlanks rest
@@ -18,35 +16,27 @@ Inv-loop text rest₀ rest = afterBlanks text ≡ afterBlanks rest
 abbrev μ-loop : tie.MeasureT-loop
 μ-loop text rest₀ rest = length rest
 
--- src/lib.rt:50:5
 loop-holds : tie.Need-loop-holds Inv-loop μ-loop
 loop-holds c = search needs
 
--- src/lib.rt:51:17
 shared-slice-read-c : tie.Need-shared-slice-read-c Inv-loop μ-loop
 shared-slice-read-c c = search needs
 
--- src/lib.rt:52:12
 is-blank-requires : tie.Need-is-blank-requires Inv-loop μ-loop
 is-blank-requires c κs = search needs
 
--- src/lib.rt:53:20
 sub-rest : tie.Need-sub-rest Inv-loop μ-loop
 sub-rest c = search needs
 
--- src/lib.rt:53:20
 part-rest-start : tie.Need-part-rest-start Inv-loop μ-loop
 part-rest-start c = search needs
 
--- src/lib.rt:53:20
 part-rest-end : tie.Need-part-rest-end Inv-loop μ-loop
 part-rest-end c = search needs
 
--- src/lib.rt:50:5
 loop-less : tie.Need-loop-less Inv-loop μ-loop
 loop-less c = search needs
 
--- src/lib.rt:50:5
 loop-again : tie.Need-loop-again Inv-loop μ-loop
 loop-again c =
     let loop-here = c .before .before .before .before .before in
@@ -56,11 +46,9 @@ loop-again c =
     let b = sym (is-blank-here .is-blank .ensures) ∙ if1-here .if1 .taken in
     v .inv ∙ blanks-drop (v .rest .now) (omega arith) b
 
--- src/lib.rt:56:44
 shared-slice-read-if4 : tie.Need-shared-slice-read-if4 Inv-loop μ-loop
 shared-slice-read-if4 c = search needs
 
--- src/lib.rt:57:13
 returns : tie.Need-returns Inv-loop μ-loop
 returns c =
     let loop-here = c .before .before .before .before .before in
@@ -73,23 +61,18 @@ returns c =
     (c .if2 .came)
     ∙ sym (v .inv)
 
--- src/lib.rt:59:16
 sub-rest-2 : tie.Need-sub-rest-2 Inv-loop μ-loop
 sub-rest-2 c = search needs
 
--- src/lib.rt:59:16
 part-rest-start-2 : tie.Need-part-rest-start-2 Inv-loop μ-loop
 part-rest-start-2 c = search needs
 
--- src/lib.rt:59:16
 part-rest-end-2 : tie.Need-part-rest-end-2 Inv-loop μ-loop
 part-rest-end-2 c = search needs
 
--- src/lib.rt:50:5
 loop-less-2 : tie.Need-loop-less-2 Inv-loop μ-loop
 loop-less-2 c = search needs
 
--- src/lib.rt:50:5
 loop-again-2 : tie.Need-loop-again-2 Inv-loop μ-loop
 loop-again-2 c =
     let loop-here = c .before .before .before .before .before .before .before .before .before in
@@ -102,7 +85,6 @@ loop-again-2 c =
     let if4-here = c .before in
     v .inv ∙ blanks-joined (v .rest .now) (ltb-false _ 2 (if3-here .if3 .left)) b (if2-here .if2 .left) (eqb-true _ 10 (not-false _ (if4-here .if4 .left)))
 
--- src/lib.rt:46:1
 returns-2 : tie.Need-returns-2 Inv-loop μ-loop
 returns-2 c =
     let loop-here = c .before in

@@ -1,25 +1,18 @@
-use Rattle.values.proofs.Escapes.{eight-times}
-use native.Mathlib.Omega.{arith}
+-- `values::times_eight` meets its contract. Assumes nothing.
 use borrow.Author.Needs.{needs}
+use Rattle.values.proofs.Escapes.{eight-times}
 use Rattle.values.proofs.times_eight.Statement.{statement}
 use Rattle.values.proofs.times_eight.Tie as tie
-use Rattle.values.proofs.times_eight.Reads as reads
-use Rattle.values.proofs.times_eight.Lts as lts
-use Rattle.std.proofs.num.wrapping_add_u8.Reads as wrapping-add-u8-reads
 
--- src/lib.rt:74:9
 wrapping-add-u8-requires : tie.Need-wrapping-add-u8-requires
 wrapping-add-u8-requires c κs = search needs
 
--- src/lib.rt:75:9
 wrapping-add-u8-requires-2 : tie.Need-wrapping-add-u8-requires-2
 wrapping-add-u8-requires-2 c κs = search needs
 
--- src/lib.rt:76:5
 wrapping-add-u8-requires-3 : tie.Need-wrapping-add-u8-requires-3
 wrapping-add-u8-requires-3 c κs = search needs
 
--- src/lib.rt:71:1
 returns : tie.Need-returns
 returns c =
     let start-here = c .before .before .before in
