@@ -8,7 +8,8 @@ use native.Mathlib.Omega.{arith}
 use lib.ListN.{length, take, drop, getD, set, length-append, length-drop}
 use lib.Seq.{paste, split-at, take-suc, take-at, take-all, take-length, drop-at, drop-drop, drop-append-add, getD-append-seam, getD-append-add, length-take-le}
 use Rattle.definition.specs.Archive.{File, bytesOf, lengthsOf, bodiesOf, archiveOf, numberAt, filesOf, laidOut, struckOff}
-use Rattle.laws.proofs.Archive.{halves, length-lengths, length-archive, laidOut-archive, fileAt}
+use Rattle.definition.specs.Limits.{archiveBytes}
+use Rattle.laws.proofs.Archive.{halves, length-lengths, length-archive, laidOut-says, laidOut-archive, length-struck, fileAt}
 use Rattle.archive.specs.Striking.{placeOf}
 use Rattle.archive.proofs.Walk.{length-files}
 
@@ -158,3 +159,97 @@ two-set : (d : List ℕ) (a b : ℕ) → 2 ≤ length d → set (set d 0 a) 1 b 
 two-set [] a b h = absurd (omega arith)
 two-set (x ∷ []) a b h = absurd (omega arith)
 two-set (x ∷ y ∷ d) a b h = refl
+
+-- two bytes, then three stretches, each where the one before it ends
+pub written : (d₀ d₁ d₂ d₃ a b c : List ℕ) (lo hi row at : ℕ) → 2 ≤ length d₀ → row ≡ 2 + length a → at ≡ row + length b
+    → d₁ ≡ paste (set (set d₀ 0 lo) 1 hi) 2 a (length a) → d₂ ≡ paste d₁ row b (length b) → d₃ ≡ paste d₂ at c (length c)
+    → d₃ ≡ (lo ∷ hi ∷ []) ++ (a ++ (b ++ c)) ++ drop (2 + length a + length b + length c) d₀
+written d₀ d₁ d₂ d₃ a b c lo hi row at h er ea e₁ e₂ e₃ =
+    let f₁ : d₁ ≡ (lo ∷ hi ∷ []) ++ a ++ drop (2 + length a) d₀ = e₁ ∙ ap (λ d. paste d 2 a (length a)) (two-set d₀ lo hi h) ∙ paste-on d₀ (lo ∷ hi ∷ []) a 2 refl in
+    let f₂ : d₂ ≡ (lo ∷ hi ∷ []) ++ a ++ b ++ drop (2 + length a + length b) d₀ =
+    e₂ ∙ rw (f₁, er) (paste-on d₀ ((lo ∷ hi ∷ []) ++ a) b (2 + length a) (omega arith)) in
+    e₃ ∙ rw (f₂, ea, er) (paste-on d₀ ((lo ∷ hi ∷ []) ++ a ++ b) c (2 + length a + length b) (omega (arith, length-append a b)) ∙ simp append-assoc)
+
+pub pasted : (d s : List ℕ) (r : ℕ) → r ≡ length s → paste d 0 s r ≡ s ++ drop r d
+pasted d s r e = let z : 0 + r ≡ r = omega arith in rw (z, take-all r s (omega arith)) refl
+
+-- ---- The walk to a file
+
+pub place-first : (s : List ℕ) (count : ℕ) → count ≡ numberAt s 0 → 2 + 4 * count ≡ placeOf 0 s
+unfolding placeOf bodiesOf
+place-first s count ec = omega (arith, length-files s)
+
+module _ (s : List ℕ) (j : ℕ) (h : laidOut s ≡ true) (k : j < length (filesOf s)) (n m : ℕ) (en : n ≡ numberAt s (2 + 4 * j)) (em : m ≡ numberAt s (4 + 4 * j)) where
+  place-more : length (bodiesOf (take (j + 1) (filesOf s))) ≡ length (bodiesOf (take j (filesOf s))) + (n + m)
+  unfolding theFile bodiesOf
+  place-more =
+      let f = fileAt j (filesOf s) in
+      rw (add-one, take-suc (filesOf s) j (record { name = []; body = [] }) k, bodies-append (take j (filesOf s)) (f ∷ []), length-append (bodiesOf (take j (filesOf s))) (bodiesOf (f ∷ [])))
+      (omega (arith, en, em, name-number s j h k, body-number s j h k, length-append (f .name ++ f .body) [], length-append (f .name) (f .body)))
+
+  pub place-next : (at : ℕ) → at ≡ placeOf j s → at + (n + m) ≡ placeOf (j + 1) s
+  unfolding placeOf
+  place-next at e = omega (arith, e, place-more)
+
+  pub place-in : (at : ℕ) → at ≡ placeOf j s → at + (n + m) ≤ length s
+  place-in at e = omega (arith, e, en, em, name-number s j h k, body-number s j h k, sizes s j h k)
+
+pub rows-room : (s : List ℕ) → laidOut s ≡ true → 2 + 4 * length (filesOf s) ≤ length s
+rows-room s h = omega (arith, length-archive (filesOf s), ap length (laidOut-archive s h))
+
+pub place-low : (s : List ℕ) (j : ℕ) → 2 + 4 * length (filesOf s) ≤ placeOf j s
+unfolding placeOf
+place-low s j = omega arith
+
+-- ---- The numbers of striking off, and what is written
+
+pub record Numbers (s : List ℕ) (j count at size : ℕ) : Type 0 where
+  pub more : j < count
+  pub low : 2 + 4 * count ≤ at
+  pub high : at + size ≤ length s
+  pub left : length (struckOff j s) + (4 + size) ≡ length s
+  pub short : length s ≤ archiveBytes
+
+-- a part from a up to e, as the borrow checker gives it
+pub part-size : (s : List ℕ) (a e : ℕ) → e ≤ length s → length (take (e - a) (drop a s)) ≡ e - a
+part-size s a e h = length-take-le (e - a) (drop a s) (rw length-drop (omega arith))
+
+module _ (s : List ℕ) (j : ℕ) (h : laidOut s ≡ true) (k : j < length (filesOf s)) (count at x y : ℕ) (ec : count ≡ numberAt s 0) (ea : at ≡ placeOf j s)
+    (ex : x ≡ numberAt s (2 + 4 * j)) (ey : y ≡ numberAt s (2 + 4 * j + 2)) where
+  size-is : x + y ≡ length (theFile j s .name) + length (theFile j s .body)
+  size-is =
+      let e : 2 + 4 * j + 2 ≡ 4 + 4 * j = omega arith in
+      omega (arith, ex, ey, ap (numberAt s) e, name-number s j h k, body-number s j h k)
+
+  count-is : count ≡ length (filesOf s)
+  count-is = ec ∙ sym (length-files s)
+
+  pub numbers : Numbers s j count at (x + y)
+  unfolding theFile
+  numbers = record {
+    more = omega (arith, count-is);
+    low = omega (arith, count-is, ea, place-low s j);
+    high = omega (arith, size-is, ea, sizes s j h k);
+    left = omega (arith, size-is, length-struck j s h k);
+    short = laidOut-says s h .short;
+  }
+
+  module _ (d₀ d₁ d₂ d₃ : List ℕ) (room : length (struckOff j s) ≤ length d₀) where
+    pub strike-written : d₁ ≡ paste (set (set d₀ 0 ((count - 1) % 256)) 1 ((count - 1) / 256)) 2 (take (2 + 4 * j - 2) (drop 2 s)) (length (take (2 + 4 * j - 2) (drop 2 s)))
+        → d₂ ≡ paste d₁ (2 + 4 * j) (take (at - (2 + 4 * j + 4)) (drop (2 + 4 * j + 4) s)) (length (take (at - (2 + 4 * j + 4)) (drop (2 + 4 * j + 4) s)))
+        → d₃ ≡ paste d₂ (at - 4) (take (length s - (at + (x + y))) (drop (at + (x + y)) s)) (length (take (length s - (at + (x + y))) (drop (at + (x + y)) s)))
+        → (length s - 4 - (x + y) ≡ length (struckOff j s)) × (d₃ ≡ paste d₀ 0 (struckOff j s) (length s - 4 - (x + y)))
+    strike-written e₁ e₂ e₃ =
+        let a = take (2 + 4 * j - 2) (drop 2 s) in
+        let b = take (at - (2 + 4 * j + 4)) (drop (2 + 4 * j + 4) s) in
+        let c = take (length s - (at + (x + y))) (drop (at + (x + y)) s) in
+        let q = numbers in
+        let la : length a ≡ 2 + 4 * j - 2 = part-size s 2 (2 + 4 * j) (omega arith) in
+        let lb : length b ≡ at - (2 + 4 * j + 4) = part-size s (2 + 4 * j + 4) at (omega arith) in
+        let lc : length c ≡ length s - (at + (x + y)) = part-size s (at + (x + y)) (length s) (omega arith) in
+        let cut : struckOff j s ≡ bytesOf (count - 1) ++ (a ++ (b ++ c)) =
+        rw (part-lengths s j h k, ea, part-middle s j h k, part-last s j h k (placeOf j s + (x + y)) (omega (arith, size-is))) (struck-cut s j h k count count-is) in
+        let r : length s - 4 - (x + y) ≡ length (struckOff j s) = omega arith in
+        let t : 2 + length a + length b + length c ≡ length s - 4 - (x + y) = omega arith in
+        let w = written d₀ d₁ d₂ d₃ a b c ((count - 1) % 256) ((count - 1) / 256) (2 + 4 * j) (at - 4) (omega arith) (omega arith) (omega arith) e₁ e₂ e₃ in
+        (r, w ∙ ap (λ n. bytesOf (count - 1) ++ (a ++ (b ++ c)) ++ drop n d₀) t ∙ ap (λ u. u ++ drop (length s - 4 - (x + y)) d₀) (sym cut) ∙ sym (pasted d₀ (struckOff j s) (length s - 4 - (x + y)) r))
