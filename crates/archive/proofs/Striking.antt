@@ -2,10 +2,10 @@
 use mathlib.Core.Bool.{true}
 use mathlib.Core.List.{List, [], _∷_, _++_, append-assoc, append-nil}
 use mathlib.Core.Path.{_≡_, refl, sym, ap, _∙_}
-use Prim.Native.Nat.{ℕ, zero, suc, _+_, _-_, _*_, _/_, _%_, _≤_, _<_}
+use Prim.Native.Nat.{ℕ, suc, _+_, _-_, _*_, _/_, _%_, _≤_, _<_}
 use native.Mathlib.Numerals.{add-one}
 use native.Mathlib.Omega.{arith}
-use lib.ListN.{length, take, drop, getD, set, length-append, length-drop}
+use lib.ListN.{length, take, drop, set, length-append, length-drop}
 use lib.Seq.{paste, split-at, take-suc, take-at, take-all, take-length, drop-at, drop-drop, drop-append-add, getD-append-seam, getD-append-add, length-take-le}
 use Rattle.definition.specs.Archive.{File, bytesOf, lengthsOf, bodiesOf, archiveOf, numberAt, filesOf, laidOut, struckOff}
 use Rattle.definition.specs.Limits.{archiveBytes}

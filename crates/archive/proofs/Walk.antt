@@ -2,7 +2,7 @@
 use mathlib.Core.Bool.{Bool, true, false, _&&_, and-false, and-assoc}
 use mathlib.Core.List.{List, [], _∷_, map}
 use mathlib.Core.Path.{_≡_, refl, sym, ap, _∙_}
-use Prim.Native.Nat.{ℕ, zero, suc, _+_, _-_, _*_, _≤_, _<_}
+use Prim.Native.Nat.{ℕ, suc, _+_, _-_, _*_, _≤_, _<_}
 use native.Mathlib.Nat.{sub-zero}
 use native.Mathlib.Omega.{arith}
 use native.Mathlib.Decide.{decLt}
@@ -12,9 +12,9 @@ use lib.Dec.{eqb, leb, ltb}
 use lib.ListN.{length, take, drop, getD, length-drop, drop-of-length-le}
 use lib.Seq.{getD-drop, drop-drop, drop-cons}
 use borrow.Author.Tests.{leb-true, le-leb, lt-leb, lt-ltb, eq-eqb, ne-eqb}
-use Rattle.definition.specs.Lists.{all, isEmpty, same, lower}
+use Rattle.definition.specs.Lists.{all, isEmpty, lower}
 use Rattle.definition.specs.Limits.{archiveBytes, archiveFiles}
-use Rattle.definition.specs.Archive.{File, numberAt, archiveOf, filesFrom, filesOf, split, isNamePart, isFileName, rising, areFiles, laidOut}
+use Rattle.definition.specs.Archive.{File, numberAt, filesFrom, filesOf, split, isNamePart, isFileName, rising, laidOut}
 use Rattle.laws.proofs.Lists.{not-both, and-true, getD-all}
 use Rattle.laws.proofs.Archive.{laidOut-archive}
 use Rattle.laws.proofs.Walked.{fits, fitsFrom, fits-archive, files-fit, number-from}

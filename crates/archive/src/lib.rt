@@ -60,12 +60,14 @@ pub fn lower(a: &[u8], b: &[u8]) -> bool
     i < b.len()
 }
 
+// From a to b, both included.
 fn within(a: u8, b: u8, c: u8) -> bool
     ensures { λ r. ⌜ r ≡ bytes.within a b c ⌝ }
 {
     if a <= c { c <= b } else { false }
 }
 
+// A to Z, a to z, 0 to 9, `_`, `-`.
 fn is_name(c: u8) -> bool
     ensures { λ r. ⌜ r ≡ isName c ⌝ }
 {
@@ -84,6 +86,7 @@ fn is_name(c: u8) -> bool
     c == b'-'
 }
 
+// After a `/`, which ends a part that may stand.
 fn ended(part: Part) -> Part
     ensures { λ r. ⌜ r ≡ ended part ⌝ }
 {
@@ -96,6 +99,7 @@ fn ended(part: Part) -> Part
     }
 }
 
+// After a `.`: three of them are a part.
 fn dotted(part: Part) -> Part
     ensures { λ r. ⌜ r ≡ dotted part ⌝ }
 {
@@ -108,6 +112,7 @@ fn dotted(part: Part) -> Part
     }
 }
 
+// After a name byte.
 fn lettered(part: Part) -> Part
     ensures { λ r. ⌜ r ≡ lettered part ⌝ }
 {
@@ -120,6 +125,7 @@ fn lettered(part: Part) -> Part
     }
 }
 
+// What one more byte makes of a part.
 fn next(part: Part, c: u8) -> Part
     ensures { λ r. ⌜ r ≡ next part c ⌝ }
 {
@@ -135,6 +141,7 @@ fn next(part: Part, c: u8) -> Part
     Part::Bad
 }
 
+// May a name end so?
 fn passes(part: Part) -> bool
     ensures { λ r. ⌜ r ≡ passes part ⌝ }
 {
@@ -311,7 +318,7 @@ pub fn find(archive: &[u8], folder: &[u8], name: &[u8]) -> Found
     found
 }
 
-// Where the name of a file begins.
+// Where the name of a file begins, counting files from 0.
 fn place_of(archive: &[u8], file: usize) -> usize
     requires { ⌜ (laidOut (now archive) ≡ true) × (file < length (filesOf (now archive))) ⌝ }
     ensures { λ r. ⌜ r ≡ placeOf file (now (archive .entry)) ⌝ }
@@ -328,6 +335,7 @@ fn place_of(archive: &[u8], file: usize) -> usize
     at
 }
 
+// Copies the text into `out` from `at` on.
 fn copy_in(text: &[u8], out: &mut [u8], at: usize)
     requires { ⌜ at + length (now text) ≤ length (now out) ⌝ }
     ensures { λ r. ⌜ now (out .exit) ≡ paste (now (out .entry)) at (now (text .entry)) (length (now (text .entry))) ⌝ }

@@ -1,10 +1,11 @@
-use Rattle.archive.proofs.Finding.{Matching, matching-first, stem-long, stem-length, folder-off, folder-on, folder-empty, folder-slash}
-use Rattle.archive.specs.Finding.{stem}
-use lib.ListN.{length, drop}
+-- `archive::in_folder` meets its contract. The invariant: from byte i on the two compare as they do from the start. Assumes nothing.
+use mathlib.Core.Path.{_≡_, sym}
+use Prim.Native.Nat.{_-_, _≤_}
 use native.Mathlib.Omega.{arith}
-use Prim.Native.Nat.{_+_, _-_, _≤_}
-use mathlib.Core.Path.{_≡_, refl, sym, ap, _∙_}
+use lib.ListN.{length}
 use borrow.Author.Needs.{needs}
+use Rattle.archive.specs.Finding.{stem}
+use Rattle.archive.proofs.Finding.{Matching, matching-first, stem-long, stem-length, folder-off, folder-on, folder-empty, folder-slash}
 use Rattle.archive.proofs.in_folder.Statement.{statement}
 use Rattle.archive.proofs.in_folder.Tie as tie
 

@@ -1,8 +1,9 @@
-use Rattle.archive.proofs.Walk.{bytes-all, fits-room, laid-long, laid-unfit, laid-many, laid-few}
-use borrow.Author.Tests.{not-true, not-false}
+-- `archive::is_archive` meets its contract: its tests together are those of the definition. Assumes nothing.
+use mathlib.Core.Path.{sym, _∙_}
 use native.Mathlib.Omega.{arith}
-use mathlib.Core.Path.{_≡_, refl, sym, ap, _∙_}
+use borrow.Author.Tests.{not-true, not-false}
 use borrow.Author.Needs.{needs}
+use Rattle.archive.proofs.Walk.{bytes-all, fits-room, laid-long, laid-unfit, laid-many, laid-few}
 use Rattle.archive.proofs.is_archive.Statement.{statement}
 use Rattle.archive.proofs.is_archive.Tie as tie
 

@@ -1,12 +1,10 @@
-use Rattle.archive.proofs.Striking.{place-first, place-next, place-in, rows-room}
-use Rattle.archive.proofs.Walk.{length-files}
-use Rattle.archive.specs.Striking.{placeOf}
-use Rattle.definition.specs.Archive.{filesOf}
-use lib.ListN.{length}
+-- `archive::place_of` meets its contract. The invariant: file j begins at `at`. Assumes nothing.
+use mathlib.Core.Path.{_≡_, ap, _∙_}
+use Prim.Native.Nat.{_-_, _≤_}
 use native.Mathlib.Omega.{arith}
-use Prim.Native.Nat.{_+_, _-_, _*_, _≤_}
-use mathlib.Core.Path.{_≡_, refl, sym, ap, _∙_}
 use borrow.Author.Needs.{needs}
+use Rattle.archive.specs.Striking.{placeOf}
+use Rattle.archive.proofs.Striking.{place-first, place-next, place-in, rows-room}
 use Rattle.archive.proofs.place_of.Statement.{statement}
 use Rattle.archive.proofs.place_of.Tie as tie
 

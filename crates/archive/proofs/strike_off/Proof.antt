@@ -1,11 +1,12 @@
+-- `archive::strike_off` meets its contract: three stretches of the archive, one after the other, are the archive without the file. Assumes nothing.
+use mathlib.Core.Path.{_≡_, _∙_}
+use Prim.Native.Nat.{_+_, _-_, _*_, _/_, _%_, _≤_}
+use native.Mathlib.Omega.{arith}
+use lib.ListN.{length, set, length-set}
+use borrow.Author.Needs.{needs}
+use Rattle.definition.specs.Archive.{struckOff}
 use Rattle.archive.proofs.Striking.{Numbers, numbers, rows-room, part-size, strike-written}
 use Rattle.archive.proofs.Walk.{length-files}
-use Rattle.definition.specs.Archive.{struckOff}
-use lib.ListN.{length, set, length-set}
-use native.Mathlib.Omega.{arith}
-use Prim.Native.Nat.{_+_, _-_, _*_, _/_, _%_, _≤_}
-use mathlib.Core.Path.{_≡_, refl, sym, ap, _∙_}
-use borrow.Author.Needs.{needs}
 use Rattle.archive.proofs.strike_off.Statement.{statement}
 use Rattle.archive.proofs.strike_off.Tie as tie
 
