@@ -1,10 +1,9 @@
 -- Folders, the comparing of names in place, and what a search finds. Assumes nothing.
 use mathlib.Core.Bool.{Bool, true, false, _&&_, and-false}
 use mathlib.Core.List.{List, [], _∷_, _++_, append-assoc}
-use mathlib.Core.Option.{Option, some, none}
+use mathlib.Core.Option.{some, none}
 use mathlib.Core.Path.{_≡_, refl, sym, ap, _∙_}
 use Prim.Native.Nat.{ℕ, zero, suc, _+_, _-_, _*_, _≤_, _<_}
-use native.Mathlib.Numerals.{add-one}
 use native.Mathlib.Omega.{arith}
 use lib.Dec.{eqb}
 use lib.ListN.{length, take, drop, getD, length-append, length-drop, List·getD-append}
@@ -13,7 +12,7 @@ use borrow.Author.Tests.{eq-eqb, ne-eqb, eqb-true, eqb-false}
 use Rattle.definition.specs.Lists.{if_then_else_, any, isEmpty, same}
 use Rattle.definition.specs.Bytes.{slash}
 use Rattle.definition.specs.Archive.{numberAt, filesOf, laidOut, folderOf, pathOf, bodyOf}
-use Rattle.laws.proofs.Lists.{not-both, any-getD, same-eq, same-refl, same-lengths, same-append, same-from-equal, same-from-other, same-from-end}
+use Rattle.laws.proofs.Lists.{not-both, any-getD, same-eq, same-lengths, same-append, same-from-equal, same-from-other, same-from-end}
 use Rattle.archive.specs.declared.Found.{Found}
 use Rattle.archive.specs.declared.Found.the-variants.{At, Nothing}
 use Rattle.archive.specs.Finding.{stem, bodyAt, Finds}
@@ -233,3 +232,18 @@ module _ {s path : List ℕ} {count : ℕ} {found : Found} {at j : ℕ} (l : Sea
       body = sym (l .left ∙ body-hit path s count at j h n m en em e);
       stands = (same-eq (take n (drop at s)) path e, omega (arith, file-in));
     }
+
+-- ---- What a caller learns
+
+module _ {s path : List ℕ} {r : Found} (f : Finds s path r) where
+  pub found-none : r ≡ Nothing → bodyOf (filesOf s) path ≡ none
+  unfolding bodyAt
+  found-none e = sym (f .body) ∙ ap (bodyAt s) e
+
+  module _ (a n m : ℕ) (e : r ≡ At a n m) where
+    pub found-body : bodyOf (filesOf s) path ≡ some (take m (drop (a + n) s))
+    unfolding bodyAt
+    found-body = sym (f .body) ∙ ap (bodyAt s) e
+
+    pub found-stands : (take n (drop a s) ≡ path) × (a + n + m ≤ length s)
+    found-stands = rw e at (f .stands)

@@ -2,3 +2,4 @@
 pub mod Names
 pub mod Walk
 pub mod Finding
+pub mod Striking

@@ -2,7 +2,7 @@
 use mathlib.Core.Bool.{Bool, true, false, _&&_, and-false, and-assoc}
 use mathlib.Core.List.{List, [], _∷_, map}
 use mathlib.Core.Path.{_≡_, refl, sym, ap, _∙_}
-use Prim.Native.Nat.{ℕ, zero, suc, _+_, _-_, _*_, _≤_, _<_}
+use Prim.Native.Nat.{ℕ, suc, _+_, _-_, _*_, _≤_, _<_}
 use native.Mathlib.Nat.{sub-zero}
 use native.Mathlib.Omega.{arith}
 use native.Mathlib.Decide.{decLt}
@@ -12,9 +12,9 @@ use lib.Dec.{eqb, leb, ltb}
 use lib.ListN.{length, take, drop, getD, length-drop, drop-of-length-le}
 use lib.Seq.{getD-drop, drop-drop, drop-cons}
 use borrow.Author.Tests.{leb-true, le-leb, lt-leb, lt-ltb, eq-eqb, ne-eqb}
-use Rattle.definition.specs.Lists.{all, isEmpty, same, lower}
+use Rattle.definition.specs.Lists.{all, isEmpty, lower}
 use Rattle.definition.specs.Limits.{archiveBytes, archiveFiles}
-use Rattle.definition.specs.Archive.{File, numberAt, archiveOf, filesFrom, filesOf, split, isNamePart, isFileName, rising, areFiles, laidOut}
+use Rattle.definition.specs.Archive.{File, numberAt, filesFrom, filesOf, split, isNamePart, isFileName, rising, laidOut}
 use Rattle.laws.proofs.Lists.{not-both, and-true, getD-all}
 use Rattle.laws.proofs.Archive.{laidOut-archive}
 use Rattle.laws.proofs.Walked.{fits, fitsFrom, fits-archive, files-fit, number-from}
@@ -50,7 +50,7 @@ module _ (s : List ℕ) (r at j : ℕ) where
       let e0 : 2 + 4 * j + 0 ≡ 2 + 4 * j = omega arith in
       let e1 : 2 + 4 * j + 2 ≡ 4 + 4 * j = omega arith in
       let e2 : 2 + 4 * j + 4 ≡ 2 + 4 * (j + 1) = omega arith in
-      rw (number-drop s (2 + 4 * j) 0, number-drop s (2 + 4 * j) 2, drop-drop, drop-drop, drop-drop, e0, e1, e2) refl
+      simp (number-drop s (2 + 4 * j) 0, number-drop s (2 + 4 * j) 2, drop-drop, e0, e1, e2)
 
   fits-row : fitsFrom (suc r) (drop (2 + 4 * j) s) (drop at s)
       ≡ (leb (numberAt s (2 + 4 * j) + numberAt s (4 + 4 * j)) (length s - at)
@@ -60,7 +60,7 @@ module _ (s : List ℕ) (r at j : ℕ) where
       let e0 : 2 + 4 * j + 0 ≡ 2 + 4 * j = omega arith in
       let e1 : 2 + 4 * j + 2 ≡ 4 + 4 * j = omega arith in
       let e2 : 2 + 4 * j + 4 ≡ 2 + 4 * (j + 1) = omega arith in
-      rw (number-drop s (2 + 4 * j) 0, number-drop s (2 + 4 * j) 2, drop-drop, drop-drop, length-drop at s, e0, e1, e2) refl
+      simp (number-drop s (2 + 4 * j) 0, number-drop s (2 + 4 * j) 2, drop-drop, length-drop, e0, e1, e2)
 
 -- one file on
 module _ (s : List ℕ) (count at j : ℕ) (h : j < count) (n m : ℕ) (en : n ≡ numberAt s (2 + 4 * j)) (em : m ≡ numberAt s (4 + 4 * j)) where
@@ -201,7 +201,7 @@ rising-end last s count at j h = rw (files-end s count at j h) refl
 
 -- ---- An archive
 
-length-files : (s : List ℕ) → length (filesOf s) ≡ numberAt s 0
+pub length-files : (s : List ℕ) → length (filesOf s) ≡ numberAt s 0
 unfolding filesOf
 length-files s = number-from (numberAt s 0) (drop 2 s) (drop (2 + 4 * numberAt s 0) s)
 

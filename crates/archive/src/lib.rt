@@ -4,13 +4,15 @@ ghost use mathlib.Core.Bool.{true};
 ghost use mathlib.Core.List.{[]};
 ghost use Prim.Native.Nat.{_+_, _≤_, _<_};
 ghost use lib.ListN.{length, take, drop};
+ghost use lib.Seq.{paste};
 ghost use Rattle.definition.specs.Bytes.{isName};
 ghost use Rattle.definition.specs.Bytes as bytes;
 ghost use Rattle.definition.specs.Lists.{same, lower};
-ghost use Rattle.definition.specs.Archive.{numberAt, filesOf, isFileName, laidOut, folderOf, pathOf};
+ghost use Rattle.definition.specs.Archive.{numberAt, filesOf, isFileName, laidOut, struckOff, folderOf, pathOf};
 ghost use Rattle.laws.proofs.Walked.{fits};
 ghost use Rattle.archive.specs.Walk.{risingFrom};
 ghost use Rattle.archive.specs.Finding.{stem, Finds};
+ghost use Rattle.archive.specs.Striking.{placeOf};
 ghost use Rattle.archive.specs.Names.{ended, dotted, lettered, next, passes};
 
 // What a name has since its last `/`.
@@ -58,12 +60,14 @@ pub fn lower(a: &[u8], b: &[u8]) -> bool
     i < b.len()
 }
 
+// From a to b, both included.
 fn within(a: u8, b: u8, c: u8) -> bool
     ensures { λ r. ⌜ r ≡ bytes.within a b c ⌝ }
 {
     if a <= c { c <= b } else { false }
 }
 
+// A to Z, a to z, 0 to 9, `_`, `-`.
 fn is_name(c: u8) -> bool
     ensures { λ r. ⌜ r ≡ isName c ⌝ }
 {
@@ -82,6 +86,7 @@ fn is_name(c: u8) -> bool
     c == b'-'
 }
 
+// After a `/`, which ends a part that may stand.
 fn ended(part: Part) -> Part
     ensures { λ r. ⌜ r ≡ ended part ⌝ }
 {
@@ -94,6 +99,7 @@ fn ended(part: Part) -> Part
     }
 }
 
+// After a `.`: three of them are a part.
 fn dotted(part: Part) -> Part
     ensures { λ r. ⌜ r ≡ dotted part ⌝ }
 {
@@ -106,6 +112,7 @@ fn dotted(part: Part) -> Part
     }
 }
 
+// After a name byte.
 fn lettered(part: Part) -> Part
     ensures { λ r. ⌜ r ≡ lettered part ⌝ }
 {
@@ -118,6 +125,7 @@ fn lettered(part: Part) -> Part
     }
 }
 
+// What one more byte makes of a part.
 fn next(part: Part, c: u8) -> Part
     ensures { λ r. ⌜ r ≡ next part c ⌝ }
 {
@@ -133,6 +141,7 @@ fn next(part: Part, c: u8) -> Part
     Part::Bad
 }
 
+// May a name end so?
 fn passes(part: Part) -> bool
     ensures { λ r. ⌜ r ≡ passes part ⌝ }
 {
@@ -307,4 +316,53 @@ pub fn find(archive: &[u8], folder: &[u8], name: &[u8]) -> Found
         break 'rows;
     }
     found
+}
+
+// Where the name of a file begins, counting files from 0.
+fn place_of(archive: &[u8], file: usize) -> usize
+    requires { ⌜ (laidOut (now archive) ≡ true) × (file < length (filesOf (now archive))) ⌝ }
+    ensures { λ r. ⌜ r ≡ placeOf file (now (archive .entry)) ⌝ }
+{
+    let count = word_at(archive, 0);
+    let mut at = 2 + 4 * count;
+    let mut j = 0;
+    while j < file {
+        let n = word_at(archive, 2 + 4 * j);
+        let m = word_at(archive, 4 + 4 * j);
+        at += n + m;
+        j += 1;
+    }
+    at
+}
+
+// Copies the text into `out` from `at` on.
+fn copy_in(text: &[u8], out: &mut [u8], at: usize)
+    requires { ⌜ at + length (now text) ≤ length (now out) ⌝ }
+    ensures { λ r. ⌜ now (out .exit) ≡ paste (now (out .entry)) at (now (text .entry)) (length (now (text .entry))) ⌝ }
+{
+    let mut i = 0;
+    while i < text.len() {
+        out[at + i] = text[i];
+        i += 1;
+    }
+}
+
+// The archive without one file, copied into `out`: the number of bytes written. Those past it stay.
+pub fn strike_off(archive: &[u8], file: usize, out: &mut [u8]) -> usize
+    requires { ⌜ (laidOut (now archive) ≡ true) × (file < length (filesOf (now archive))) × (length (struckOff file (now archive)) ≤ length (now out)) ⌝ }
+    ensures { λ r. ⌜ (r ≡ length (struckOff file (now (archive .entry)))) × (now (out .exit) ≡ paste (now (out .entry)) 0 (struckOff file (now (archive .entry))) r) ⌝ }
+{
+    let less = word_at(archive, 0) - 1;
+    let row = 2 + 4 * file;
+    let next = row + 4;
+    let at = place_of(archive, file);
+    let size = word_at(archive, row) + word_at(archive, row + 2);
+    let rest = at + size;
+    out[0] = (less % 256) as u8;
+    out[1] = (less / 256) as u8;
+    copy_in(&archive[2..row], out, 2);
+    // the lengths of the later files, and then the earlier files themselves
+    copy_in(&archive[next..at], out, row);
+    copy_in(&archive[rest..], out, at - 4);
+    archive.len() - 4 - size
 }

@@ -1,14 +1,15 @@
-use Rattle.archive.proofs.Finding.{Matching, matching-first, matching-off, matching-on, matching-all, stem-long, row-length, row-other, row-elsewhere, row-found, Searching, searching-first, searching-none, searching-next, searching-found, file-in}
-use Rattle.archive.proofs.Walk.{laid-fits, fits-room}
+-- `archive::find` meets its contract. The invariants: the file is among those from j on, if any; from byte i on the row's name compares as a whole. Assumes nothing.
+use mathlib.Core.Bool.{false}
+use mathlib.Core.Path.{_≡_, sym, _∙_}
+use Prim.Native.Nat.{_+_, _-_, _≤_}
+use native.Mathlib.Omega.{arith}
+use lib.ListN.{length, take, drop}
+use borrow.Author.Tests.{not-true, not-false}
+use borrow.Author.Needs.{needs}
 use Rattle.definition.specs.Archive.{pathOf}
 use Rattle.definition.specs.Lists.{same}
-use borrow.Author.Tests.{not-true, not-false}
-use lib.ListN.{length, take, drop}
-use native.Mathlib.Omega.{arith}
-use Prim.Native.Nat.{_+_, _-_, _*_, _≤_}
-use mathlib.Core.Bool.{true, false}
-use mathlib.Core.Path.{_≡_, refl, sym, ap, _∙_}
-use borrow.Author.Needs.{needs}
+use Rattle.archive.proofs.Finding.{Matching, matching-first, matching-off, matching-on, matching-all, stem-long, row-length, row-other, row-elsewhere, row-found, Searching, searching-first, searching-none, searching-next, searching-found, file-in}
+use Rattle.archive.proofs.Walk.{laid-fits, fits-room}
 use Rattle.archive.proofs.find.Statement.{statement}
 use Rattle.archive.proofs.find.Tie as tie
 

@@ -1,10 +1,9 @@
-use Rattle.archive.proofs.Walk.{Standing, fitsLeft, fits-none, fits-few, fits-first, fits-over, fits-on, fits-end}
-use Rattle.laws.proofs.Walked.{fits}
-use lib.ListN.{length, drop}
-use native.Mathlib.Omega.{arith}
-use Prim.Native.Nat.{_+_, _-_, _*_, _≤_}
-use mathlib.Core.Path.{_≡_, refl, sym, ap, _∙_}
+-- `archive::fits` meets its contract. The invariant: the archive fits if the files from j on do. Assumes nothing.
+use mathlib.Core.Path.{_≡_, sym, _∙_}
+use Prim.Native.Nat.{_-_}
 use borrow.Author.Needs.{needs}
+use Rattle.laws.proofs.Walked.{fits}
+use Rattle.archive.proofs.Walk.{Standing, fitsLeft, fits-none, fits-few, fits-first, fits-over, fits-on, fits-end}
 use Rattle.archive.proofs.fits.Statement.{statement}
 use Rattle.archive.proofs.fits.Tie as tie
 

@@ -1,14 +1,15 @@
+-- `archive::folder_of` meets its contract. The invariant: no `/` stands from i on. Assumes nothing.
+use mathlib.Core.Bool.{false}
+use mathlib.Core.Path.{_≡_, sym, ap}
+use Prim.Native.Nat.{_-_, _≤_}
+use native.Mathlib.Omega.{arith}
 use lib.Seq.{drop-length, length-take-le}
-use Rattle.archive.proofs.Finding.{folder-none, folder-here, folder-back}
-use Rattle.definition.specs.Bytes.{slash}
-use Rattle.definition.specs.Lists.{any}
 use lib.ListN.{length, drop}
 use lib.Dec.{eqb}
-use native.Mathlib.Omega.{arith}
-use Prim.Native.Nat.{_+_, _-_, _≤_}
-use mathlib.Core.Bool.{false}
-use mathlib.Core.Path.{_≡_, refl, sym, ap, _∙_}
 use borrow.Author.Needs.{needs}
+use Rattle.definition.specs.Bytes.{slash}
+use Rattle.definition.specs.Lists.{any}
+use Rattle.archive.proofs.Finding.{folder-none, folder-here, folder-back}
 use Rattle.archive.proofs.folder_of.Statement.{statement}
 use Rattle.archive.proofs.folder_of.Tie as tie
 

@@ -1,10 +1,11 @@
-use Rattle.archive.proofs.Finding.{Matching, matching-first, stem-long, stem-length, folder-off, folder-on, folder-empty, folder-slash}
-use Rattle.archive.specs.Finding.{stem}
-use lib.ListN.{length, drop}
+-- `archive::in_folder` meets its contract. The invariant: from byte i on the two compare as they do from the start. Assumes nothing.
+use mathlib.Core.Path.{_≡_, sym}
+use Prim.Native.Nat.{_-_, _≤_}
 use native.Mathlib.Omega.{arith}
-use Prim.Native.Nat.{_+_, _-_, _≤_}
-use mathlib.Core.Path.{_≡_, refl, sym, ap, _∙_}
+use lib.ListN.{length}
 use borrow.Author.Needs.{needs}
+use Rattle.archive.specs.Finding.{stem}
+use Rattle.archive.proofs.Finding.{Matching, matching-first, stem-long, stem-length, folder-off, folder-on, folder-empty, folder-slash}
 use Rattle.archive.proofs.in_folder.Statement.{statement}
 use Rattle.archive.proofs.in_folder.Tie as tie
 
@@ -38,7 +39,7 @@ returns c =
     let loop-here = c .before .before .before .before in
     let loop-test-here = c .before .before .before in
     let if1-here = c in
-    sym (folder-off (start-here .args .folder .now) (loop-here .loop .inv .0) (loop-test-here .loop-test .taken) (if1-here .if1 .taken))
+    sym (folder-off (start-here .args .folder .now) (loop-here .loop .inv .0) (omega arith) (if1-here .if1 .taken))
 
 add-i : tie.Need-add-i Inv-loop μ-loop
 add-i c = search needs
@@ -52,7 +53,7 @@ loop-again c =
     let loop-here = c .before .before .before .before in
     let loop-test-here = c .before .before .before in
     let if1-here = c in
-    (folder-on (start-here .args .folder .now) (loop-here .loop .inv .0) (loop-test-here .loop-test .taken) (if1-here .if1 .left), omega arith)
+    (folder-on (start-here .args .folder .now) (loop-here .loop .inv .0) (omega arith) (if1-here .if1 .left), omega arith)
 
 returns-2 : tie.Need-returns-2 Inv-loop μ-loop
 returns-2 c =
@@ -60,7 +61,7 @@ returns-2 c =
     let loop-here = c .before .before in
     let loop-test-here = c .before in
     let if2-here = c in
-    sym (folder-empty (start-here .args .folder .now) (loop-here .loop .inv .0) (loop-test-here .loop-test .left) (if2-here .if2 .taken))
+    sym (folder-empty (start-here .args .folder .now) (loop-here .loop .inv .0) (omega arith) (if2-here .if2 .taken))
 
 add-result : tie.Need-add-result Inv-loop μ-loop
 add-result c =

