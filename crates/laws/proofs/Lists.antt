@@ -1,16 +1,16 @@
 -- Laws of the words for lists. Assumes nothing.
-use mathlib.Core.Bool.{Bool, true, false, _&&_, _||_, not, or-assoc}
-use mathlib.Core.List.{List, [], _∷_, _++_, map}
+use mathlib.Core.Bool.{Bool, true, false, _&&_, _||_, not, or-assoc, or-true, and-assoc}
+use mathlib.Core.List.{List, [], _∷_, _++_, map, append-assoc}
 use mathlib.Core.Path.{_≡_, refl, sym, ap, _∙_}
-use Prim.Native.Nat.{ℕ, zero, suc, _+_, _≤_, _<_}
+use Prim.Native.Nat.{ℕ, zero, suc, _+_, _-_, _≤_, _<_}
+use native.Mathlib.Numerals.{add-one, one-add}
 use native.Mathlib.Omega.{arith}
 use native.Mathlib.Decide.{decLt}
 use lib.Dec.{eqb, ltb}
-use lib.ListN.{length, getD, take, drop}
-use lib.ListN.{length, take, drop, getD}
-use lib.ListN.{length, take, drop}
-use lib.Seq.{slice, take-append-add, take-append-seam, drop-append-seam}
-use borrow.Author.Tests.{eqb-true, eq-eqb, lt-ltb, le-ltb}
+use lib.ListN.{length, getD, take, drop, length-drop, drop-of-length-le, set, length-append, length-set}
+use lib.Seq.{slice, take-append-add, take-append-seam, drop-append-seam, take-all, drop-cons, drop-drop, paste, take-length, length-take-le, sets-eq, take-paste, drop-paste, set-split, append-snoc}
+use native.Mathlib.Nat.{le-refl}
+use borrow.Author.Tests.{eqb-true, eq-eqb, lt-ltb, le-ltb, ne-eqb}
 use Rattle.definition.specs.Lists.{if_then_else_, all, any, takeWhile, dropWhile, filter, isEmpty, orElse, same, lower}
 
 -- ---- Tests
@@ -324,3 +324,199 @@ module _ {A : Type 0} where
   pub slice-at : (xs ys zs : List A) (n m : ℕ) → length xs ≡ n → n + length ys ≡ m → slice n m (xs ++ (ys ++ zs)) ≡ ys
   slice-at xs ys zs n m h k =
       rw (← k, ← h, take-append-add xs (ys ++ zs) (length ys), take-append-seam ys zs) (drop-append-seam xs ys)
+
+-- ---- A run of elements that pass a test, as a loop goes through it
+
+module _ {A : Type 0} (p : A → Bool) where
+  pub length-takeWhile-le : (xs : List A) → length (takeWhile p xs) ≤ length xs
+  unfolding takeWhile
+  length-takeWhile-le [] = omega arith
+  length-takeWhile-le (x ∷ xs) = at (p x) (length-takeWhile-le xs)
+    where
+      at : (b : Bool) → length (takeWhile p xs) ≤ length xs → length (if b then x ∷ takeWhile p xs else []) ≤ suc (length xs)
+      at true ih = omega arith
+      at false ih = omega arith
+
+  pub take-run : (xs : List A) → take (length (takeWhile p xs)) xs ≡ takeWhile p xs
+  unfolding takeWhile
+  take-run [] = refl
+  take-run (x ∷ xs) = at (p x) (take-run xs)
+    where
+      at : (b : Bool) → take (length (takeWhile p xs)) xs ≡ takeWhile p xs
+          → take (length (if b then x ∷ takeWhile p xs else [])) (x ∷ xs) ≡ (if b then x ∷ takeWhile p xs else [])
+      at true ih = ap (λ (l : List A). x ∷ l) ih
+      at false ih = refl
+
+  pub drop-run : (xs : List A) → drop (length (takeWhile p xs)) xs ≡ dropWhile p xs
+  unfolding takeWhile dropWhile
+  drop-run [] = refl
+  drop-run (x ∷ xs) = at (p x) (drop-run xs)
+    where
+      at : (b : Bool) → drop (length (takeWhile p xs)) xs ≡ dropWhile p xs
+          → drop (length (if b then x ∷ takeWhile p xs else [])) (x ∷ xs) ≡ (if b then dropWhile p xs else x ∷ xs)
+      at true ih = ih
+      at false ih = refl
+
+  module _ (xs : List A) (i : ℕ) (d : A) (h : i < length xs) where
+    pub run-more : p (getD xs i d) ≡ true → length (takeWhile p (drop i xs)) ≡ 1 + length (takeWhile p (drop (i + 1) xs))
+    unfolding takeWhile
+    run-more e = rw (add-one, drop-cons xs i d h, e, one-add) refl
+
+    pub run-stop : p (getD xs i d) ≡ false → length (takeWhile p (drop i xs)) ≡ 0
+    unfolding takeWhile
+    run-stop e = rw (drop-cons xs i d h, e) refl
+
+  pub run-end : (xs : List A) (i : ℕ) → length xs ≤ i → length (takeWhile p (drop i xs)) ≡ 0
+  unfolding takeWhile
+  run-end xs i h = rw (drop-of-length-le xs h) refl
+
+  pub dropWhile-more : (xs : List A) (d : A) → 0 < length xs → p (getD xs 0 d) ≡ true → dropWhile p xs ≡ dropWhile p (drop 1 xs)
+  unfolding dropWhile
+  dropWhile-more [] d h e = absurd (omega arith)
+  dropWhile-more (x ∷ xs) d h e = rw e refl
+
+  pub dropWhile-stop : (xs : List A) (d : A) → p (getD xs 0 d) ≡ false → dropWhile p xs ≡ xs
+  unfolding dropWhile
+  dropWhile-stop [] d e = refl
+  dropWhile-stop (x ∷ xs) d e = rw e refl
+
+  pub dropWhile-end : (xs : List A) → length xs ≡ 0 → dropWhile p xs ≡ xs
+  unfolding dropWhile
+  dropWhile-end [] e = refl
+  dropWhile-end (x ∷ xs) e = absurd (omega arith)
+
+-- ---- A list from a place on
+
+module _ {A : Type 0} where
+  -- a part from n on, as the borrow checker gives it
+  pub part-rest : (xs : List A) (n : ℕ) → take (length xs - n) (drop n xs) ≡ drop n xs
+  part-rest xs n = take-all (length xs - n) (drop n xs) (simp length-drop (omega arith))
+
+  pub length-part-rest : (xs : List A) (n : ℕ) → length (take (length xs - n) (drop n xs)) ≡ length xs - n
+  length-part-rest xs n = ap length (part-rest xs n) ∙ length-drop n xs
+
+-- what is left of a text: u is t from some place on
+pub record Suffix {A : Type 0} (u t : List A) : Type 0 where
+  pub most : length u ≤ length t
+  pub same : drop (length t - length u) t ≡ u
+
+module _ {A : Type 0} where
+  pub suffix-whole : (t : List A) → Suffix t t
+  suffix-whole t = record { most = omega arith; same = let e : length t - length t ≡ 0 = omega arith in rw e refl }
+
+  module _ {u t : List A} (s : Suffix u t) where
+    pub suffix-drop : (n : ℕ) → n ≤ length u → Suffix (drop n u) t
+    suffix-drop n h =
+        let e : length t - (length u - n) ≡ length t - length u + n = omega (arith, s .most) in
+        record {
+          most = omega (arith, length-drop n u, s .most);
+          same = rw (length-drop n u, e, ← drop-drop n (length t - length u) t, s .same) refl;
+        }
+
+    pub suffix-part : (n : ℕ) → n ≤ length u → Suffix (take (length u - n) (drop n u)) t
+    suffix-part n h = rw (part-rest u n) (suffix-drop n h)
+
+    pub suffix-run : (p : A → Bool) → Suffix (dropWhile p u) t
+    suffix-run p = rw (← drop-run p u) (suffix-drop (length (takeWhile p u)) (length-takeWhile-le p u))
+
+-- ---- Parts of a slice, and lists stored into a list
+
+module _ {A : Type 0} where
+  -- one element stored
+  pub paste-one : (d : List A) (at : ℕ) (x : A) → at < length d → set d at x ≡ paste d at (x ∷ []) 1
+  paste-one d at x h = sets-eq (x ∷ []) d at (omega arith)
+
+  -- of a list only the beginning is stored
+  pub paste-take : (d : List A) (at : ℕ) (s : List A) (n : ℕ) → n ≤ length s → paste d at s n ≡ paste d at (take n s) (length (take n s))
+  paste-take d at s n h = rw (take-length (take n s), length-take-le n s h) refl
+
+  -- two lists stored one after the other
+  pub paste-append : (d : List A) (at : ℕ) (xs ys : List A) → at + length xs ≤ length d
+      → paste d at (xs ++ ys) (length (xs ++ ys)) ≡ paste (paste d at xs (length xs)) (at + length xs) ys (length ys)
+  paste-append d at xs ys h =
+      let n = at + length xs in
+      let e : at + (length xs + length ys) ≡ n + length ys = omega arith in
+      let f : at ≤ length d = omega arith in
+      let g : take n (paste d at xs (length xs)) ≡ take at d ++ xs =
+      take-paste d at xs (length xs) f (le-refl (length xs)) ∙ ap (λ (l : List A). take at d ++ l) (take-length xs) in
+      let k : drop (n + length ys) (paste d at xs (length xs)) ≡ drop (n + length ys) d =
+      sym (drop-drop (length ys) n (paste d at xs (length xs)))
+      ∙ ap (drop (length ys)) (drop-paste d at xs (length xs) f (le-refl (length xs)))
+      ∙ drop-drop (length ys) n d in
+      rw (take-length (xs ++ ys), length-append xs ys, e, g, k, take-length ys, append-assoc (take at d) xs ys) refl
+
+-- an element, and others after it
+pub paste-cons : {A : Type 0} (d : List A) (at : ℕ) (x : A) (xs ys : List A) → at + (1 + length xs + length ys) ≤ length d
+    → paste (paste (set d at x) (at + 1) xs (length xs)) (at + (1 + length xs)) ys (length ys)
+    ≡ paste d at (x ∷ xs ++ ys) (length (x ∷ xs ++ ys))
+paste-cons {A} d at x xs ys h =
+    let e : at + (1 + length xs) ≡ at + 1 + length xs = omega arith in
+    let k : at + 1 + length xs ≤ length (set d at x) = rw (length-set d at x) (omega arith) in
+    rw e (sym (paste-append (set d at x) (at + 1) xs ys k))
+    ∙ ap (λ (l : List A). paste l (at + 1) (xs ++ ys) (length (xs ++ ys))) (paste-one d at x (omega arith))
+    ∙ sym (paste-append d at (x ∷ []) (xs ++ ys) (omega arith))
+
+-- ---- Two lists compared from a place on
+
+module _ (xs ys : List ℕ) (i : ℕ) (hx : i < length xs) (hy : i < length ys) where
+  pub same-from-equal : getD xs i 0 ≡ getD ys i 0 → same (drop i xs) (drop i ys) ≡ same (drop (i + 1) xs) (drop (i + 1) ys)
+  unfolding same
+  same-from-equal e = rw (add-one, drop-cons xs i 0 hx, drop-cons ys i 0 hy, eq-eqb (getD xs i 0) (getD ys i 0) e) refl
+
+  pub same-from-other : (getD xs i 0 ≡ getD ys i 0 → ⊥) → same (drop i xs) (drop i ys) ≡ false
+  unfolding same
+  same-from-other e = rw (drop-cons xs i 0 hx, drop-cons ys i 0 hy, ne-eqb (getD xs i 0) (getD ys i 0) e) refl
+
+  pub lower-from-below : getD xs i 0 < getD ys i 0 → lower (drop i xs) (drop i ys) ≡ true
+  lower-from-below e = rw (drop-cons xs i 0 hx, drop-cons ys i 0 hy) (lower-below (getD xs i 0) (getD ys i 0) (drop (suc i) xs) (drop (suc i) ys) e)
+
+  pub lower-from-above : getD ys i 0 < getD xs i 0 → lower (drop i xs) (drop i ys) ≡ false
+  lower-from-above e = rw (drop-cons xs i 0 hx, drop-cons ys i 0 hy) (lower-above (getD xs i 0) (getD ys i 0) (drop (suc i) xs) (drop (suc i) ys) e)
+
+  pub lower-from-equal : getD xs i 0 ≡ getD ys i 0 → lower (drop i xs) (drop i ys) ≡ lower (drop (i + 1) xs) (drop (i + 1) ys)
+  lower-from-equal e = rw (add-one, drop-cons xs i 0 hx, drop-cons ys i 0 hy) (lower-equal (getD xs i 0) (getD ys i 0) (drop (suc i) xs) (drop (suc i) ys) e)
+
+pub same-from-end : (xs ys : List ℕ) (i : ℕ) → length xs ≤ i → length ys ≤ i → same (drop i xs) (drop i ys) ≡ true
+unfolding same
+same-from-end xs ys i hx hy = rw (drop-of-length-le xs hx, drop-of-length-le ys hy) refl
+
+-- where the second ends first
+pub lower-from-short : (xs ys : List ℕ) (i : ℕ) → i < length xs → length ys ≤ i → lower (drop i xs) (drop i ys) ≡ false
+unfolding lower
+lower-from-short xs ys i hx hy = rw (drop-cons xs i 0 hx, drop-of-length-le ys hy) refl
+
+-- where the first ends
+pub lower-from-end : (xs ys : List ℕ) (i : ℕ) → length xs ≤ i → lower (drop i xs) (drop i ys) ≡ ltb i (length ys)
+unfolding lower
+lower-from-end xs ys i hx = at (decLt i (length ys))
+  where
+    at : Dec (i < length ys) → lower (drop i xs) (drop i ys) ≡ ltb i (length ys)
+    at (yes h) = rw (drop-of-length-le xs hx, drop-cons ys i 0 h, lt-ltb i (length ys) h) refl
+    at (no h) = let k : length ys ≤ i = omega arith in rw (drop-of-length-le xs hx, drop-of-length-le ys k, le-ltb i (length ys) k) refl
+
+-- lists of different lengths differ
+pub same-lengths : (xs ys : List ℕ) → (length xs ≡ length ys → ⊥) → same xs ys ≡ false
+same-lengths xs ys h = at (same xs ys) refl
+  where
+    at : (b : Bool) → same xs ys ≡ b → b ≡ false
+    at true e = absurd (h (ap length (same-eq xs ys e)))
+    at false e = refl
+
+-- what passes at every place passes as a whole
+pub getD-all : {A : Type 0} (p : A → Bool) (xs : List A) (d : A) → ((i : ℕ) → i < length xs → p (getD xs i d) ≡ true) → all p xs ≡ true
+unfolding all
+getD-all p [] d f = refl
+getD-all p (x ∷ xs) d f = and-both (f 0 (omega arith)) (getD-all p xs d (λ i h. f (suc i) (omega arith)))
+
+pub any-getD : {A : Type 0} (p : A → Bool) (xs : List A) (i : ℕ) (d : A) → i < length xs → p (getD xs i d) ≡ true → any p xs ≡ true
+unfolding any
+any-getD p [] i d h e = absurd (omega arith)
+any-getD p (x ∷ xs) zero d h e = rw e refl
+any-getD p (x ∷ xs) (suc i) d h e = rw (any-getD p xs i d (omega arith) e) (or-true (p x))
+
+pub same-append : (xs ys us vs : List ℕ) → length xs ≡ length ys → same (xs ++ us) (ys ++ vs) ≡ (same xs ys && same us vs)
+unfolding same
+same-append [] [] us vs h = refl
+same-append [] (y ∷ ys) us vs h = absurd (omega arith)
+same-append (x ∷ xs) [] us vs h = absurd (omega arith)
+same-append (x ∷ xs) (y ∷ ys) us vs h = rw (same-append xs ys us vs (omega arith)) (sym (and-assoc (eqb x y) (same xs ys) (same us vs)))

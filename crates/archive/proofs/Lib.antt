@@ -1,0 +1,5 @@
+-- Laws that the proofs of this crate lean on.
+pub mod Names
+pub mod Walk
+pub mod Finding
+pub mod Striking
