@@ -1,4 +1,4 @@
--- `archive::copy_in` meets its contract. The invariant: the first i bytes are copied. Assumes nothing.
+-- `archive_find::copy_in` meets its contract. The invariant: the first i bytes are copied. Assumes nothing.
 use mathlib.Core.Path.{_≡_, refl, ap, _∙_}
 use Prim.Native.Nat.{_+_, _-_, _≤_}
 use native.Mathlib.Numerals.{add-one}
@@ -6,8 +6,8 @@ use native.Mathlib.Omega.{arith}
 use lib.ListN.{length, length-set}
 use lib.Seq.{paste, paste-zero, paste-suc}
 use borrow.Author.Needs.{needs}
-use Rattle.archive.proofs.copy_in.Statement.{statement}
-use Rattle.archive.proofs.copy_in.Tie as tie
+use Rattle.archive_find.proofs.copy_in.Statement.{statement}
+use Rattle.archive_find.proofs.copy_in.Tie as tie
 
 abbrev Inv-loop : tie.InvT-loop
 Inv-loop text out₀ at i₀ out i = (i ≤ length text) × (out ≡ paste out₀ at text i) × (length out ≡ length out₀)
