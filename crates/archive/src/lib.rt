@@ -1,18 +1,13 @@
-// Document 01's shelf: judged, searched, and one file removed.
+// Document 01's shelf, judged.
 ghost use mathlib.Core.Path.{_≡_};
 ghost use mathlib.Core.Bool.{true};
 ghost use mathlib.Core.List.{[]};
-ghost use Prim.Native.Nat.{_+_, _≤_, _<_};
-ghost use lib.ListN.{length, take, drop};
-ghost use lib.Seq.{paste};
-ghost use Rattle.definition.specs.Bytes.{isName};
-ghost use Rattle.definition.specs.Bytes as bytes;
-ghost use Rattle.definition.specs.Lists.{same, lower};
-ghost use Rattle.definition.specs.Archive.{numberAt, filesOf, isFileName, laidOut, struckOff, folderOf, pathOf};
+ghost use Prim.Native.Nat.{_+_, _<_};
+ghost use lib.ListN.{length};
+ghost use Rattle.definition.specs.Lists.{lower};
+ghost use Rattle.definition.specs.Archive.{numberAt, filesOf, isFileName, laidOut};
 ghost use Rattle.laws.proofs.Walked.{fits};
 ghost use Rattle.archive.specs.Walk.{risingFrom};
-ghost use Rattle.archive.specs.Finding.{stem, Finds};
-ghost use Rattle.archive.specs.Striking.{placeOf};
 ghost use Rattle.archive.specs.Names.{ended, dotted, lettered, next, passes};
 
 // What a name has since its last `/`.
@@ -24,12 +19,6 @@ enum Part {
     Good,
     // the name has a part or a byte that it may not have
     Bad,
-}
-
-// Where a file stands: its name starts at .0 and is .1 long, and its body follows and is .2 long.
-pub enum Found {
-    At(usize, usize, usize),
-    Nothing,
 }
 
 // The number in two bytes, low byte first.
@@ -58,32 +47,6 @@ pub fn lower(a: &[u8], b: &[u8]) -> bool
         i += 1;
     }
     i < b.len()
-}
-
-// From a to b, both included.
-fn within(a: u8, b: u8, c: u8) -> bool
-    ensures { λ r. ⌜ r ≡ bytes.within a b c ⌝ }
-{
-    if a <= c { c <= b } else { false }
-}
-
-// A to Z, a to z, 0 to 9, `_`, `-`.
-fn is_name(c: u8) -> bool
-    ensures { λ r. ⌜ r ≡ isName c ⌝ }
-{
-    if within(b'A', b'Z', c) {
-        return true;
-    }
-    if within(b'a', b'z', c) {
-        return true;
-    }
-    if within(b'0', b'9', c) {
-        return true;
-    }
-    if c == b'_' {
-        return true;
-    }
-    c == b'-'
 }
 
 // After a `/`, which ends a part that may stand.
@@ -135,7 +98,7 @@ fn next(part: Part, c: u8) -> Part
     if c == b'.' {
         return dotted(part);
     }
-    if is_name(c) {
+    if scan::allowed_in_quark_name(c) {
         return lettered(part);
     }
     Part::Bad
@@ -236,133 +199,4 @@ pub fn is_archive(archive: &[u8]) -> bool
         return false;
     }
     names_rise(archive)
-}
-
-// The name before its last `/`, or empty.
-pub fn folder_of(name: &[u8]) -> &[u8]
-    ensures { λ r. ⌜ now r ≡ folderOf (now (name .entry)) ⌝ }
-{
-    let mut i = name.len();
-    while 0 < i {
-        i -= 1;
-        if name[i] == b'/' {
-            return &name[..i];
-        }
-    }
-    &name[..0]
-}
-
-// How many bytes stand before a file's name in a path from the folder.
-fn stem_len(folder: &[u8]) -> usize
-    ensures { λ r. ⌜ r ≡ length (stem (now (folder .entry))) ⌝ }
-{
-    if folder.len() == 0 {
-        0
-    } else {
-        folder.len() + 1
-    }
-}
-
-// Does what stands at `at` begin with the folder and a `/`, if it has a folder?
-fn in_folder(archive: &[u8], at: usize, folder: &[u8]) -> bool
-    requires { ⌜ at + length (stem (now folder)) ≤ length (now archive) ⌝ }
-    ensures { λ r. ⌜ r ≡ same (take (length (stem (now (folder .entry)))) (drop at (now (archive .entry)))) (stem (now (folder .entry))) ⌝ }
-{
-    let mut i = 0;
-    while i < folder.len() {
-        if archive[at + i] != folder[i] {
-            return false;
-        }
-        i += 1;
-    }
-    if i == 0 {
-        return true;
-    }
-    archive[at + i] == b'/'
-}
-
-// The file that an include of `name` from `folder` looks for. The name is compared before the folder, which the rows near by share.
-pub fn find(archive: &[u8], folder: &[u8], name: &[u8]) -> Found
-    requires { ⌜ laidOut (now archive) ≡ true ⌝ }
-    ensures { λ r. ⌜ Finds (now (archive .entry)) (pathOf (now (folder .entry)) (now (name .entry))) r ⌝ }
-{
-    let count = word_at(archive, 0);
-    let before = stem_len(folder);
-    let long = before + name.len();
-    let mut found = Found::Nothing;
-    let mut at = 2 + 4 * count;
-    let mut j = 0;
-    'rows: while j < count {
-        let n = word_at(archive, 2 + 4 * j);
-        let m = word_at(archive, 4 + 4 * j);
-        let from = at;
-        at += n + m;
-        j += 1;
-        if n != long {
-            continue 'rows;
-        }
-        let own = from + before;
-        let mut i = 0;
-        'bytes: while i < name.len() {
-            if archive[own + i] != name[i] {
-                continue 'rows;
-            }
-            i += 1;
-        }
-        if !in_folder(archive, from, folder) {
-            continue 'rows;
-        }
-        found = Found::At(from, n, m);
-        break 'rows;
-    }
-    found
-}
-
-// Where the name of a file begins, counting files from 0.
-fn place_of(archive: &[u8], file: usize) -> usize
-    requires { ⌜ (laidOut (now archive) ≡ true) × (file < length (filesOf (now archive))) ⌝ }
-    ensures { λ r. ⌜ r ≡ placeOf file (now (archive .entry)) ⌝ }
-{
-    let count = word_at(archive, 0);
-    let mut at = 2 + 4 * count;
-    let mut j = 0;
-    while j < file {
-        let n = word_at(archive, 2 + 4 * j);
-        let m = word_at(archive, 4 + 4 * j);
-        at += n + m;
-        j += 1;
-    }
-    at
-}
-
-// Copies the text into `out` from `at` on.
-fn copy_in(text: &[u8], out: &mut [u8], at: usize)
-    requires { ⌜ at + length (now text) ≤ length (now out) ⌝ }
-    ensures { λ r. ⌜ now (out .exit) ≡ paste (now (out .entry)) at (now (text .entry)) (length (now (text .entry))) ⌝ }
-{
-    let mut i = 0;
-    while i < text.len() {
-        out[at + i] = text[i];
-        i += 1;
-    }
-}
-
-// The archive without one file, copied into `out`: the number of bytes written. Those past it stay.
-pub fn strike_off(archive: &[u8], file: usize, out: &mut [u8]) -> usize
-    requires { ⌜ (laidOut (now archive) ≡ true) × (file < length (filesOf (now archive))) × (length (struckOff file (now archive)) ≤ length (now out)) ⌝ }
-    ensures { λ r. ⌜ (r ≡ length (struckOff file (now (archive .entry)))) × (now (out .exit) ≡ paste (now (out .entry)) 0 (struckOff file (now (archive .entry))) r) ⌝ }
-{
-    let less = word_at(archive, 0) - 1;
-    let row = 2 + 4 * file;
-    let next = row + 4;
-    let at = place_of(archive, file);
-    let size = word_at(archive, row) + word_at(archive, row + 2);
-    let rest = at + size;
-    out[0] = (less % 256) as u8;
-    out[1] = (less / 256) as u8;
-    copy_in(&archive[2..row], out, 2);
-    // the lengths of the later files, and then the earlier files themselves
-    copy_in(&archive[next..at], out, row);
-    copy_in(&archive[rest..], out, at - 4);
-    archive.len() - 4 - size
 }

@@ -129,18 +129,6 @@ fn binding_byte(loose: bool) -> u8
     if loose { b'*' } else { b'.' }
 }
 
-// Copies `source` into `store` from `at` on.
-fn copy_in(source: &[u8], store: &mut [u8], at: usize)
-    requires { ⌜ at + length (now source) ≤ length (now store) ⌝ }
-    ensures { λ _. ⌜ now (store .exit) ≡ paste (now (store .entry)) at (now (source .entry)) (length (now (source .entry))) ⌝ }
-{
-    let mut i = 0;
-    while i < source.len() {
-        store[at + i] = source[i];
-        i += 1;
-    }
-}
-
 // Writes the key of the parts at the front of `text` into `store` from `at` on.
 pub fn write_key(text: &[u8], store: &mut [u8], at: usize)
     requires { ⌜ at + length (keyFirst (now text)) ≤ length (now store) ⌝ }
@@ -156,7 +144,7 @@ pub fn write_key(text: &[u8], store: &mut [u8], at: usize)
             return;
         }
         store[place] = binding_byte(next.loose);
-        copy_in(&rest[start..end], store, place + 1);
+        scan::copy_in(&rest[start..end], store, place + 1);
         place += 1 + (end - start);
         rest = &rest[end..];
     }

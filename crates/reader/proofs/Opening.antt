@@ -8,8 +8,8 @@ use lib.ListN.{length, take, drop}
 use Rattle.definition.specs.Limits.{mostOpens}
 use Rattle.definition.specs.Archive.{filesOf, bodyOf, folderOf, pathOf}
 use Rattle.definition.specs.Including.{Chain, including}
-use Rattle.archive.specs.Finding.{bodyAt, Finds}
-use Rattle.archive.specs.declared.Found.the-variants.{At, Nothing}
+use Rattle.archive_find.specs.Finding.{bodyAt, Finds}
+use Rattle.archive_find.specs.declared.Found.the-variants.{At, Nothing}
 use Rattle.image.specs.Running.{World, world, went, stopped, counted, run, answered}
 use Rattle.image.specs.declared.Step.{Step}
 use Rattle.image.specs.declared.Step.the-variants.{Go, Stop}

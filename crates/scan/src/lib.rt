@@ -1,7 +1,9 @@
-// Bytes, runs of bytes and include directives: the common helpers and skippers of the Rust's parser.
+// Bytes, runs of bytes and include directives: the common helpers and skippers of the Rust's parser; and copying.
 ghost use mathlib.Core.Path.{_≡_};
 ghost use mathlib.Core.Option.{some, none};
+ghost use Prim.Native.Nat.{_+_, _≤_};
 ghost use lib.ListN.{length, drop};
+ghost use lib.Seq.{paste};
 ghost use Rattle.definition.specs.Lists.{if_then_else_, takeWhile, dropWhile};
 ghost use Rattle.definition.specs.Parsing.{after};
 ghost use Rattle.definition.specs.Bytes.{isOctal, isName, isBlank, isSpace};
@@ -145,4 +147,16 @@ pub fn parse_include(text: &[u8]) -> Include
         return Include::Other;
     }
     Include::Named(text.len() - name.len(), n)
+}
+
+// Copies `source` into `store` from `at` on.
+pub fn copy_in(source: &[u8], store: &mut [u8], at: usize)
+    requires { ⌜ at + length (now source) ≤ length (now store) ⌝ }
+    ensures { λ _. ⌜ now (store .exit) ≡ paste (now (store .entry)) at (now (source .entry)) (length (now (source .entry))) ⌝ }
+{
+    let mut i = 0;
+    while i < source.len() {
+        store[at + i] = source[i];
+        i += 1;
+    }
 }

@@ -27,8 +27,8 @@ returns-2 c =
     let dotted-here = c in
     rw (ne-eqb _ _ (if1-here .if1 .left), eq-eqb _ _ (if2-here .if2 .taken)) (dotted-here .dotted .ensures)
 
-is-name-requires : tie.Need-is-name-requires
-is-name-requires c κs = search needs
+allowed-in-quark-name-requires : tie.Need-allowed-in-quark-name-requires
+allowed-in-quark-name-requires c κs = search needs
 
 lettered-requires : tie.Need-lettered-requires
 lettered-requires c κs = search needs
@@ -38,19 +38,19 @@ unfolding next
 returns-3 c =
     let if1-here = c .before .before .before .before in
     let if2-here = c .before .before .before in
-    let is-name-here = c .before .before in
+    let allowed-in-quark-name-here = c .before .before in
     let if3-here = c .before in
     let lettered-here = c in
-    rw (ne-eqb _ _ (if1-here .if1 .left), ne-eqb _ _ (if2-here .if2 .left), sym (is-name-here .is-name .ensures) ∙ if3-here .if3 .taken) (lettered-here .lettered .ensures)
+    rw (ne-eqb _ _ (if1-here .if1 .left), ne-eqb _ _ (if2-here .if2 .left), sym (allowed-in-quark-name-here .allowed-in-quark-name .ensures) ∙ if3-here .if3 .taken) (lettered-here .lettered .ensures)
 
 returns-4 : tie.Need-returns-4
 unfolding next
 returns-4 c =
     let if1-here = c .before .before .before in
     let if2-here = c .before .before in
-    let is-name-here = c .before in
+    let allowed-in-quark-name-here = c .before in
     let if3-here = c in
-    rw (ne-eqb _ _ (if1-here .if1 .left), ne-eqb _ _ (if2-here .if2 .left), sym (is-name-here .is-name .ensures) ∙ if3-here .if3 .left)
+    rw (ne-eqb _ _ (if1-here .if1 .left), ne-eqb _ _ (if2-here .if2 .left), sym (allowed-in-quark-name-here .allowed-in-quark-name .ensures) ∙ if3-here .if3 .left)
 
 pub next-spec : {M : Type 1} → statement M
 next-spec =
@@ -60,7 +60,7 @@ next-spec =
     returns
     dotted-requires
     returns-2
-    is-name-requires
+    allowed-in-quark-name-requires
     lettered-requires
     returns-3
     returns-4)

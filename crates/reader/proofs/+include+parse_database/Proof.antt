@@ -29,8 +29,8 @@ use Rattle.reader.proofs.+include+parse_database.Lts-include as include
 use Rattle.reader.proofs.parse_database.Reads as parse-database
 use Rattle.reader.proofs.parse_database.Kinds as parse-database-kinds
 use Rattle.reader.proofs.+include+parse_database.Lts-parse_database as parse-database-lts
-use Rattle.archive.proofs.find.Reads as find-reads
-use Rattle.archive.proofs.folder_of.Reads as folder-of-reads
+use Rattle.archive_find.proofs.find.Reads as find-reads
+use Rattle.archive_find.proofs.folder_of.Reads as folder-of-reads
 use Rattle.parser.proofs.parse_entry.Reads as parse-entry-reads
 use Rattle.parser.proofs.parse_line.Reads as parse-line-reads
 use Rattle.reader.proofs.+include+parse_database.{statement}

@@ -1,4 +1,4 @@
--- `archive::folder_of` meets its contract. The invariant: no `/` stands from i on. Assumes nothing.
+-- `archive_find::folder_of` meets its contract. The invariant: no `/` stands from i on. Assumes nothing.
 use mathlib.Core.Bool.{false}
 use mathlib.Core.Path.{_≡_, sym, ap}
 use Prim.Native.Nat.{_-_, _≤_}
@@ -9,9 +9,9 @@ use lib.Dec.{eqb}
 use borrow.Author.Needs.{needs}
 use Rattle.definition.specs.Bytes.{slash}
 use Rattle.definition.specs.Lists.{any}
-use Rattle.archive.proofs.Finding.{folder-none, folder-here, folder-back}
-use Rattle.archive.proofs.folder_of.Statement.{statement}
-use Rattle.archive.proofs.folder_of.Tie as tie
+use Rattle.archive_find.proofs.Finding.{folder-none, folder-here, folder-back}
+use Rattle.archive_find.proofs.folder_of.Statement.{statement}
+use Rattle.archive_find.proofs.folder_of.Tie as tie
 
 abbrev Inv-loop : tie.InvT-loop
 Inv-loop name i₀ i = (i ≤ length name) × (any (eqb slash) (drop i name) ≡ false)

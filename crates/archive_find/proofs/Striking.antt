@@ -10,8 +10,8 @@ use lib.Seq.{paste, split-at, take-suc, take-at, take-all, take-length, drop-at,
 use Rattle.definition.specs.Archive.{File, bytesOf, lengthsOf, bodiesOf, archiveOf, numberAt, filesOf, laidOut, struckOff}
 use Rattle.definition.specs.Limits.{archiveBytes}
 use Rattle.laws.proofs.Archive.{halves, length-lengths, length-archive, laidOut-says, laidOut-archive, length-struck, fileAt}
-use Rattle.archive.specs.Striking.{placeOf}
+use Rattle.archive_find.specs.Striking.{placeOf}
 use Rattle.archive.proofs.Walk.{length-files}
 
 -- ---- The bytes of files one after another
 

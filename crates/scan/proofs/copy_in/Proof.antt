@@ -1,3 +1,4 @@
+-- `scan::copy_in` meets its contract: the first i bytes are copied. Assumes nothing.
 use mathlib.Core.Path.{_≡_, refl}
 use Prim.Native.Nat.{_-_, _≤_}
 use native.Mathlib.Numerals.{add-one}
@@ -5,8 +6,8 @@ use native.Mathlib.Omega.{arith}
 use lib.ListN.{length-set, length}
 use lib.Seq.{paste, paste-zero, paste-suc}
 use borrow.Author.Needs.{needs}
-use Rattle.components.proofs.copy_in.Statement.{statement}
-use Rattle.components.proofs.copy_in.Tie as tie
+use Rattle.scan.proofs.copy_in.Statement.{statement}
+use Rattle.scan.proofs.copy_in.Tie as tie
 
 abbrev Inv-loop : tie.InvT-loop
 Inv-loop source store₀ at i₀ store i = (i ≤ length source) × (store ≡ paste store₀ at source i) × (length store ≡ length store₀)

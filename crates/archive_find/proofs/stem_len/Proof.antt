@@ -1,10 +1,10 @@
--- `archive::stem_len` meets its contract. Assumes nothing.
+-- `archive_find::stem_len` meets its contract. Assumes nothing.
 use mathlib.Core.Path.{sym, ap}
 use lib.ListN.{length}
 use borrow.Author.Needs.{needs}
-use Rattle.archive.proofs.Finding.{stem-none, stem-length}
-use Rattle.archive.proofs.stem_len.Statement.{statement}
-use Rattle.archive.proofs.stem_len.Tie as tie
+use Rattle.archive_find.proofs.Finding.{stem-none, stem-length}
+use Rattle.archive_find.proofs.stem_len.Statement.{statement}
+use Rattle.archive_find.proofs.stem_len.Tie as tie
 
 add-result : tie.Need-add-result
 add-result c = search needs

@@ -1,14 +1,14 @@
--- `archive::strike_off` meets its contract: three stretches of the archive, one after the other, are the archive without the file. Assumes nothing.
+-- `archive_find::strike_off` meets its contract: three stretches of the archive, one after the other, are the archive without the file. Assumes nothing.
 use mathlib.Core.Path.{_≡_, _∙_}
 use Prim.Native.Nat.{_+_, _-_, _*_, _/_, _%_, _≤_}
 use native.Mathlib.Omega.{arith}
 use lib.ListN.{length, set, length-set}
 use borrow.Author.Needs.{needs}
 use Rattle.definition.specs.Archive.{struckOff}
-use Rattle.archive.proofs.Striking.{Numbers, numbers, rows-room, part-size, strike-written}
+use Rattle.archive_find.proofs.Striking.{Numbers, numbers, rows-room, part-size, strike-written}
 use Rattle.archive.proofs.Walk.{length-files}
-use Rattle.archive.proofs.strike_off.Statement.{statement}
-use Rattle.archive.proofs.strike_off.Tie as tie
+use Rattle.archive_find.proofs.strike_off.Statement.{statement}
+use Rattle.archive_find.proofs.strike_off.Tie as tie
 
 -- how the numbers read lie to each other
 facts : (c : tie.After-word-at3) → Numbers (c .before .before .before .before .before .before .args .archive .now) (c .before .before .before .before .before .before .args .file) (c .before .before .before .word-at .result) (c .before .before .place-of .result) (c .before .word-at2 .result + c .word-at3 .result)

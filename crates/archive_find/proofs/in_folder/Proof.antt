@@ -1,13 +1,13 @@
--- `archive::in_folder` meets its contract. The invariant: from byte i on the two compare as they do from the start. Assumes nothing.
+-- `archive_find::in_folder` meets its contract. The invariant: from byte i on the two compare as they do from the start. Assumes nothing.
 use mathlib.Core.Path.{_≡_, sym}
 use Prim.Native.Nat.{_-_, _≤_}
 use native.Mathlib.Omega.{arith}
 use lib.ListN.{length}
 use borrow.Author.Needs.{needs}
-use Rattle.archive.specs.Finding.{stem}
-use Rattle.archive.proofs.Finding.{Matching, matching-first, stem-long, stem-length, folder-off, folder-on, folder-empty, folder-slash}
-use Rattle.archive.proofs.in_folder.Statement.{statement}
-use Rattle.archive.proofs.in_folder.Tie as tie
+use Rattle.archive_find.specs.Finding.{stem}
+use Rattle.archive_find.proofs.Finding.{Matching, matching-first, stem-long, stem-length, folder-off, folder-on, folder-empty, folder-slash}
+use Rattle.archive_find.proofs.in_folder.Statement.{statement}
+use Rattle.archive_find.proofs.in_folder.Tie as tie
 
 abbrev Inv-loop : tie.InvT-loop
 Inv-loop archive at folder i₀ i = Matching archive (stem folder) at i × (i ≤ length folder)

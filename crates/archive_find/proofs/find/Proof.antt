@@ -1,4 +1,4 @@
--- `archive::find` meets its contract. The invariants: the file is among those from j on, if any; from byte i on the row's name compares as a whole. Assumes nothing.
+-- `archive_find::find` meets its contract. The invariants: the file is among those from j on, if any; from byte i on the row's name compares as a whole. Assumes nothing.
 use mathlib.Core.Bool.{false}
 use mathlib.Core.Path.{_≡_, sym, _∙_}
 use Prim.Native.Nat.{_+_, _-_, _≤_}
@@ -8,10 +8,10 @@ use borrow.Author.Tests.{not-true, not-false}
 use borrow.Author.Needs.{needs}
 use Rattle.definition.specs.Archive.{pathOf}
 use Rattle.definition.specs.Lists.{same}
-use Rattle.archive.proofs.Finding.{Matching, matching-first, matching-off, matching-on, matching-all, stem-long, row-length, row-other, row-elsewhere, row-found, Searching, searching-first, searching-none, searching-next, searching-found, file-in}
+use Rattle.archive_find.proofs.Finding.{Matching, matching-first, matching-off, matching-on, matching-all, stem-long, row-length, row-other, row-elsewhere, row-found, Searching, searching-first, searching-none, searching-next, searching-found, file-in}
 use Rattle.archive.proofs.Walk.{laid-fits, fits-room}
-use Rattle.archive.proofs.find.Statement.{statement}
-use Rattle.archive.proofs.find.Tie as tie
+use Rattle.archive_find.proofs.find.Statement.{statement}
+use Rattle.archive_find.proofs.find.Tie as tie
 
 abbrev Inv-bytes : tie.InvT-bytes
 Inv-bytes archive folder name count before long found at j n m from own i₀ i = Matching archive name own i

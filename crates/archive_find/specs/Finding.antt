@@ -7,8 +7,8 @@ use lib.ListN.{length, take, drop}
 use Rattle.definition.specs.Lists.{if_then_else_, isEmpty}
 use Rattle.definition.specs.Bytes.{slash}
 use Rattle.definition.specs.Archive.{filesOf, bodyOf}
-use Rattle.archive.specs.declared.Found.{Found}
-use Rattle.archive.specs.declared.Found.the-variants.{At, Nothing}
+use Rattle.archive_find.specs.declared.Found.{Found}
+use Rattle.archive_find.specs.declared.Found.the-variants.{At, Nothing}
 
 -- what a path from a folder begins with
 unfoldable pub stem : List ℕ → List ℕ

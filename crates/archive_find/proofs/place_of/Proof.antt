@@ -1,12 +1,12 @@
--- `archive::place_of` meets its contract. The invariant: file j begins at `at`. Assumes nothing.
+-- `archive_find::place_of` meets its contract. The invariant: file j begins at `at`. Assumes nothing.
 use mathlib.Core.Path.{_≡_, ap, _∙_}
 use Prim.Native.Nat.{_-_, _≤_}
 use native.Mathlib.Omega.{arith}
 use borrow.Author.Needs.{needs}
-use Rattle.archive.specs.Striking.{placeOf}
-use Rattle.archive.proofs.Striking.{place-first, place-next, place-in, rows-room}
-use Rattle.archive.proofs.place_of.Statement.{statement}
-use Rattle.archive.proofs.place_of.Tie as tie
+use Rattle.archive_find.specs.Striking.{placeOf}
+use Rattle.archive_find.proofs.Striking.{place-first, place-next, place-in, rows-room}
+use Rattle.archive_find.proofs.place_of.Statement.{statement}
+use Rattle.archive_find.proofs.place_of.Tie as tie
 
 abbrev Inv-loop : tie.InvT-loop
 Inv-loop archive file count at₀ j₀ at j = (j ≤ file) × (at ≡ placeOf j archive)

@@ -13,10 +13,10 @@ use Rattle.definition.specs.Lists.{if_then_else_, any, isEmpty, same}
 use Rattle.definition.specs.Bytes.{slash}
 use Rattle.definition.specs.Archive.{numberAt, filesOf, laidOut, folderOf, pathOf, bodyOf}
 use Rattle.laws.proofs.Lists.{not-both, any-getD, same-eq, same-lengths, same-append, same-from-equal, same-from-other, same-from-end}
-use Rattle.archive.specs.declared.Found.{Found}
-use Rattle.archive.specs.declared.Found.the-variants.{At, Nothing}
-use Rattle.archive.specs.Finding.{stem, bodyAt, Finds}
+use Rattle.archive_find.specs.declared.Found.{Found}
+use Rattle.archive_find.specs.declared.Found.the-variants.{At, Nothing}
+use Rattle.archive_find.specs.Finding.{stem, bodyAt, Finds}
 use Rattle.archive.proofs.Walk.{Standing, filesLeft, fitsLeft, files-first, files-turn, files-end, laid-fits, fits-room, fits-left, row-in, fits-next}
 
 -- ---- The folder of a name
 
