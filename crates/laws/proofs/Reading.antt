@@ -9,7 +9,7 @@ use lib.Dec.{leb, ltb}
 use lib.ListN.{length}
 use borrow.Author.Tests.{ltb-false, le-ltb, le-leb}
 use Rattle.definition.specs.Lists.{if_then_else_, all}
-use Rattle.definition.specs.Limits.{textBytes, mostParts}
+use Rattle.definition.specs.Limits.{textBytes, mostParts, mostEntries, mostOpens}
 use Rattle.definition.specs.Archive.{File, laidOut, filesOf, bodyOf, folderOf, pathOf}
 use Rattle.definition.specs.Text.{Entry, Line, skipped, include, entry, linesOf}
 use Rattle.definition.specs.Including.{Chain, Event, opened, entered, eventsOf, opening, including, events, Entered, entriesOf, opensOf}
@@ -81,6 +81,17 @@ module _ (text archive contents bodies : List ℕ) where
   unfolding reading left
   reads-outcome r =
       rw (r .long, le-ltb textBytes (length text) (r .fits), r .isLaidOut, limits-judge (met text archive) start (r .limits)) refl
+
+-- an accepted reading answers within the limits
+pub accepted-small : (text archive contents bodies c b : List ℕ) (n o : ℕ) → outcome (accepted n o) c b ≡ reading text archive contents bodies
+    → (n ≤ mostEntries) × (o ≤ mostOpens)
+accepted-small text archive contents bodies c b n o e =
+    let r = accepted-reads text archive contents bodies (rw (← e) refl) in
+    let f : outcome (accepted n o) c b ≡ _ = e ∙ reads-outcome text archive contents bodies r in
+    let g : accepted n o ≡ accepted (0 + length (readEntries text archive)) (0 + opensOf (met text archive)) = ap (λ (x : Outcome). x .answer) f in
+    let p : n ≡ 0 + length (readEntries text archive) = cc in
+    let q : o ≡ 0 + opensOf (met text archive) = cc in
+    (omega (arith, r .limits .entries-most), omega (arith, r .limits .opens-most))
 
 -- ---- What holds of every line's entry holds of every entry read
 
