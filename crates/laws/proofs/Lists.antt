@@ -8,7 +8,7 @@ use native.Mathlib.Omega.{arith}
 use native.Mathlib.Decide.{decLt}
 use lib.Dec.{eqb, ltb}
 use lib.ListN.{length, getD, take, drop, length-drop, drop-of-length-le, set, length-append, length-set}
-use lib.Seq.{slice, take-append-add, take-append-seam, drop-append-seam, take-all, drop-cons, drop-drop, paste, take-length, length-take-le, sets-eq, take-paste, drop-paste, set-split, append-snoc}
+use lib.Seq.{slice, take-nil, take-append-add, take-append-seam, drop-append-seam, take-all, drop-cons, drop-drop, paste, take-length, length-take-le, sets-eq, take-paste, drop-paste, set-split, append-snoc}
 use native.Mathlib.Nat.{le-refl}
 use borrow.Author.Tests.{eqb-true, eq-eqb, lt-ltb, le-ltb, ne-eqb}
 use Rattle.definition.specs.Lists.{if_then_else_, all, any, takeWhile, dropWhile, filter, isEmpty, orElse, same, lower}
@@ -520,3 +520,12 @@ same-append [] [] us vs h = refl
 same-append [] (y ∷ ys) us vs h = absurd (omega arith)
 same-append (x ∷ xs) [] us vs h = absurd (omega arith)
 same-append (x ∷ xs) (y ∷ ys) us vs h = rw (same-append xs ys us vs (omega arith)) (sym (and-assoc (eqb x y) (same xs ys) (same us vs)))
+
+-- ---- A part from one place up to another
+
+-- as the borrow checker gives it
+pub part-slice : {A : Type 0} (xs : List A) (n m : ℕ) → take (m - n) (drop n xs) ≡ slice n m xs
+part-slice xs zero m = let e : m - 0 ≡ m = omega arith in rw e refl
+part-slice xs (suc n) zero = let e : 0 - suc n ≡ 0 = omega arith in rw e refl
+part-slice [] (suc n) (suc m) = take-nil (suc m - suc n)
+part-slice (x ∷ xs) (suc n) (suc m) = let e : suc m - suc n ≡ m - n = omega arith in rw e (part-slice xs n m)

@@ -1,0 +1,4 @@
+-- What the proofs of the judging share, and what a judged image gives a lookup.
+pub mod Keys
+pub mod Rows
+pub mod Judged
