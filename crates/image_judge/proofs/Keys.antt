@@ -1,5 +1,5 @@
 -- How `is_key` goes through a key. Assumes nothing.
-use mathlib.Core.Bool.{Bool, true, false, _&&_, and-false}
+use mathlib.Core.Bool.{Bool, true, false, _&&_, not, and-false}
 use mathlib.Core.List.{List, [], _∷_}
 use mathlib.Core.Logic.{_⊎_, inl, inr, ⊎-elim}
 use mathlib.Core.Path.{_≡_, refl, sym, ap, _∙_}
@@ -14,7 +14,7 @@ use Rattle.definition.specs.Limits.{mostParts}
 use Rattle.definition.specs.Bytes.{dot, star, question, isDigit, isName, isBinding}
 use Rattle.definition.specs.Text.{Binding, wildcard, name, Part, bindingOf, componentAt, isNamed, endsInName}
 use Rattle.definition.specs.Image.{storedPartAt, keyParts, isKey}
-use Rattle.laws.proofs.Lists.{not-both, part-rest, drop-run, length-takeWhile-le}
+use Rattle.laws.proofs.Lists.{not-both, part-rest, length-part-rest, drop-run, length-takeWhile-le}
 use Rattle.laws.proofs.Parsing.{many-stop, many-more}
 use Rattle.laws.proofs.Keys.{stored-part-shrinks}
 
@@ -112,18 +112,23 @@ module _ (n : ℕ) (t : List ℕ) (p : Part) (u : List ℕ) (e : storedPartAt t 
 
 -- ---- A component
 
+name-first : (u : List ℕ) → 0 < length (takeWhile isName u) → isName (getD u 0 0) ≡ true
+unfolding takeWhile
+name-first [] h = absurd (omega arith)
+name-first (c ∷ t) h = at (isName c) refl
+  where
+    at : (k : Bool) → isName c ≡ k → isName c ≡ true
+    at true k = k
+    at false k = absurd (let z : 0 < 0 = rw k at h in omega arith)
+
+name-not-wild : (c : ℕ) → isName c ≡ true → eqb c question ≡ false
+name-not-wild c k = ne-eqb c question (λ q. not-both k (ap isName q ∙ (unfold isName isDigit in refl)))
+
 component-name : (b : Binding) (u : List ℕ) → 0 < length (takeWhile isName u)
     → componentAt b u ≡ found (record { binding = b; component = name (takeWhile isName u) }) (dropWhile isName u)
 unfolding componentAt takeWhile dropWhile
 component-name b [] h = absurd (omega arith)
-component-name b (c ∷ t) h = at (isName c) refl
-  where
-    at : (k : Bool) → isName c ≡ k
-        → componentAt b (c ∷ t) ≡ found (record { binding = b; component = name (takeWhile isName (c ∷ t)) }) (dropWhile isName (c ∷ t))
-    at true k =
-        let e : eqb c question ≡ false = ne-eqb c question (λ q. not-both k (ap isName q ∙ (unfold isName isDigit in refl))) in
-        rw (e, k) refl
-    at false k = absurd (let z : 0 < 0 = rw k at h in omega arith)
+component-name b (c ∷ t) h = let k = name-first (c ∷ t) h in rw (name-not-wild c k, k) refl
 
 component-wild : (b : Binding) (u : List ℕ) → 0 < length u → getD u 0 0 ≡ question
     → componentAt b u ≡ found (record { binding = b; component = wildcard }) (drop 1 u)
@@ -167,36 +172,52 @@ key-unbound n (c ∷ t) e = key-none n (c ∷ t) (rw e refl)
 abbrev pub past : List ℕ → ℕ → List ℕ
 past t n = take (length t - n) (drop n t)
 
--- t is a binding and u, which begins with m bytes of a name
-module _ (k : ℕ) (t : List ℕ) (h : 2 ≤ length t) (b : isBinding (getD t 0 0) ≡ true) (m : ℕ) (e : m ≡ length (takeWhile isName (past t 1))) where
+-- t begins with a binding, and m bytes of a name follow it
+pub record Begins (t : List ℕ) (m : ℕ) : Type 0 where
+  pub long : 2 ≤ length t
+  pub bound : isBinding (getD t 0 0) ≡ true
+  pub run : m ≡ length (takeWhile isName (past t 1))
+
+module _ {t : List ℕ} {m : ℕ} (s : Begins t m) where
   abbrev u : List ℕ
   u = past t 1
 
-  part-is : storedPartAt t ≡ componentAt (bindingOf (getD t 0 0 ∷ [])) u
-  part-is = rw (part-rest t 1) (stored-part t b (omega arith))
+  abbrev b : Binding
+  b = bindingOf (getD t 0 0 ∷ [])
 
-  long : length u ≡ length t - 1
-  long = ap length (part-rest t 1) ∙ length-drop 1 t
+  part-is : storedPartAt t ≡ componentAt b u
+  part-is = rw (part-rest t 1) (stored-part t (s .bound) (omega arith))
 
-  named-part : 0 < m → storedPartAt t ≡ found (record { binding = bindingOf (getD t 0 0 ∷ []); component = name (takeWhile isName u) }) (drop m u)
-  named-part g = part-is ∙ component-name (bindingOf (getD t 0 0 ∷ [])) u (omega arith) ∙ rw (e, drop-run isName u) refl
+  named-part : 0 < m → storedPartAt t ≡ found (record { binding = b; component = name (takeWhile isName u) }) (drop m u)
+  named-part h = part-is ∙ component-name b u (omega arith) ∙ rw (s .run, drop-run isName u) refl
 
-  pub ends-here : m ≡ length u → k < mostParts → endsKey k t ≡ true
-  unfolding isNamed
-  ends-here f g =
-      let l : length u ≤ m = omega arith in
-      key-ends k t _ (drop m u) (named-part (omega (arith, long))) refl (drop-of-length-le u l) g
+  pub run-inside : m ≤ length u
+  run-inside = omega (arith, length-takeWhile-le isName u)
 
-  pub none-here : m ≡ 0 → (getD u 0 0 ≡ question → ⊥) → endsKey k t ≡ false
-  none-here z q = key-none k t (part-is ∙ component-none (bindingOf (getD t 0 0 ∷ [])) u (omega arith) q)
+  module _ (k : ℕ) where
+    pub wild-on : getD u 0 0 ≡ question → endsKey k t ≡ endsKey (k + 1) (past u 1)
+    unfolding isNamed
+    wild-on q =
+        rw (part-rest u 1)
+        (key-wild k t _ (drop 1 u) (part-is ∙ component-wild b u (omega (arith, length-part-rest t 1)) q) refl)
 
-  pub wild-on : getD u 0 0 ≡ question → endsKey k t ≡ endsKey (k + 1) (past u 1)
-  unfolding isNamed
-  wild-on q =
-      rw (part-rest u 1)
-      (key-wild k t _ (drop 1 u) (part-is ∙ component-wild (bindingOf (getD t 0 0 ∷ [])) u (omega (arith, long)) q) refl)
+    pub last-name : (m ≡ 0 → ⊥) → m ≡ length u → k < mostParts → endsKey k t ≡ not (eqb (getD u 0 0) question)
+    unfolding isNamed
+    last-name z h g =
+        let l : length u ≤ m = omega arith in
+        let e : eqb (getD u 0 0) question ≡ false = name-not-wild (getD u 0 0) (name-first u (omega (arith, z))) in
+        key-ends k t _ (drop m u) (named-part (omega (arith, z))) refl (drop-of-length-le u l) g ∙ rw e refl
 
-  pub name-on : (m ≡ 0 → ⊥) → (m ≡ length u → ⊥) → endsKey k t ≡ endsKey (k + 1) (past u m)
-  name-on z f =
-      rw (part-rest u m)
-      (key-more k t _ (drop m u) (named-part (omega arith)) (omega (arith, length-drop m u, length-takeWhile-le isName u)))
+    pub last-wild : getD u 0 0 ≡ question → 1 ≡ length u → endsKey k t ≡ not (eqb (getD u 0 0) question)
+    last-wild q h =
+        wild-on q
+        ∙ key-short (k + 1) (past u 1) (omega (arith, length-part-rest u 1))
+        ∙ rw (eq-eqb (getD u 0 0) question q) refl
+
+    pub none-here : m ≡ 0 → (getD u 0 0 ≡ question → ⊥) → endsKey k t ≡ false
+    none-here h q = key-none k t (part-is ∙ component-none b u (omega arith) q)
+
+    pub name-on : (m ≡ 0 → ⊥) → (m ≡ length u → ⊥) → endsKey k t ≡ endsKey (k + 1) (past u m)
+    name-on z f =
+        rw (part-rest u m)
+        (key-more k t _ (drop m u) (named-part (omega (arith, z))) (omega (arith, f, length-drop m u, run-inside)))

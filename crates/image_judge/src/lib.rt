@@ -42,15 +42,15 @@ pub fn is_key(key: &[u8]) -> bool
         }
         let component = &rest[1..];
         let mut n = next_component(component);
-        // the key ends in this name
-        if n == component.len() {
-            return true;
-        }
         if n == 0 {
             if component[0] != b'?' {
                 return false;
             }
             n = 1;
+        }
+        // the last part must be a name
+        if n == component.len() {
+            return component[0] != b'?';
         }
         rest = &component[n..];
         parts += 1;

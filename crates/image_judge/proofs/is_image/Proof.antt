@@ -9,13 +9,13 @@ returns : tie.Need-returns
 returns c =
     let start-here = c .before .before .before in
     let if1-here = c in
-    sym (contents-short (start-here .args .contents .now) (start-here .args .bodies .now) (if1-here .if1 .taken))
+    sym (contents-short (start-here .args .contents .now) (start-here .args .bodies .now) (omega (arith, if1-here .if1 .taken)))
 
 returns-2 : tie.Need-returns-2
 returns-2 c =
     let start-here = c .before .before .before .before in
     let if2-here = c in
-    sym (bodies-short (start-here .args .contents .now) (start-here .args .bodies .now) (if2-here .if2 .taken))
+    sym (bodies-short (start-here .args .contents .now) (start-here .args .bodies .now) (omega (arith, if2-here .if2 .taken)))
 
 shared-slice-read-count : tie.Need-shared-slice-read-count
 shared-slice-read-count c = search needs
@@ -29,7 +29,7 @@ returns-3 : tie.Need-returns-3
 returns-3 c =
     let start-here = c .before .before .before .before .before .before in
     let if3-here = c in
-    sym (too-many (start-here .args .contents .now) (start-here .args .bodies .now) (if3-here .if3 .taken))
+    sym (too-many (start-here .args .contents .now) (start-here .args .bodies .now) (omega (arith, if3-here .if3 .taken)))
 
 shared-slice-read-used : tie.Need-shared-slice-read-used
 shared-slice-read-used c = search needs
@@ -43,10 +43,10 @@ returns-4 : tie.Need-returns-4
 returns-4 c =
     let start-here = c .before .before .before .before .before .before .before .before in
     let if4-here = c in
-    sym (too-much (start-here .args .contents .now) (start-here .args .bodies .now) (if4-here .if4 .taken))
+    sym (too-much (start-here .args .contents .now) (start-here .args .bodies .now) (omega (arith, if4-here .if4 .taken)))
 
 rows-hold-requires : tie.Need-rows-hold-requires
-rows-hold-requires c κs = search needs
+rows-hold-requires c κs = omega arith
 
 returns-5 : tie.Need-returns-5
 returns-5 c =
@@ -56,7 +56,7 @@ returns-5 c =
     let if3-here = c .before .before .before in
     let if4-here = c .before in
     let rows-hold-here = c in
-    rows-hold-here .rows-hold .ensures ∙ sym (by-rows (start-here .args .contents .now) (start-here .args .bodies .now) (if1-here .if1 .left) (if2-here .if2 .left) (if3-here .if3 .left) (if4-here .if4 .left))
+    rows-hold-here .rows-hold .ensures ∙ sym (by-rows (start-here .args .contents .now) (start-here .args .bodies .now) (omega (arith, if1-here .if1 .left)) (omega (arith, if2-here .if2 .left)) (omega (arith, if3-here .if3 .left)) (omega (arith, if4-here .if4 .left)))
 
 pub is-image-spec : {M : Type 1} → statement M
 is-image-spec =

@@ -39,7 +39,7 @@ returns c =
     let loop-here = c .before .before .before in
     let loop-test-here = c .before .before in
     let if1-here = c in
-    sym (judging-apart (loop-here .loop .inv) (loop-test-here .loop-test .taken) (if1-here .if1 .taken))
+    sym (judging-apart (loop-here .loop .inv) (loop-test-here .loop-test .taken) (λ e. omega (arith, if1-here .if1 .taken)))
 
 add-key-end : tie.Need-add-key-end Inv-loop μ-loop
 add-key-end c = search needs
@@ -92,7 +92,7 @@ returns-2 c =
     let loop-test-here = c .before .before .before .before .before in
     let if1-here = c .before .before .before in
     let if2-here = c in
-    sym (judging-past (loop-here .loop .inv) (loop-test-here .loop-test .taken) (if1-here .if1 .left) (if2-here .if2 .taken))
+    sym (judging-past (loop-here .loop .inv) (loop-test-here .loop-test .taken) (omega (arith, if1-here .if1 .left)) (if2-here .if2 .taken))
 
 sub-is-key : tie.Need-sub-is-key Inv-loop μ-loop
 sub-is-key c = search needs
@@ -113,7 +113,7 @@ returns-3 c =
     let if1-here = c .before .before .before .before .before .before in
     let is-key-here = c .before in
     let if3-here = c in
-    sym (judging-no-key (loop-here .loop .inv) (loop-test-here .loop-test .taken) (if1-here .if1 .left) (sym (is-key-here .is-key .ensures) ∙ not-true _ (if3-here .if3 .taken)))
+    sym (judging-no-key (loop-here .loop .inv) (loop-test-here .loop-test .taken) (omega (arith, if1-here .if1 .left)) (sym (is-key-here .is-key .ensures) ∙ not-true _ (if3-here .if3 .taken)))
 
 add-i : tie.Need-add-i Inv-loop μ-loop
 add-i c = search needs
@@ -129,7 +129,7 @@ loop-again c =
     let if2-here = c .before .before .before in
     let is-key-here = c .before in
     let if3-here = c in
-    judging-next (loop-here .loop .inv) (loop-test-here .loop-test .taken) (if1-here .if1 .left) (sym (is-key-here .is-key .ensures) ∙ not-false _ (if3-here .if3 .left)) (if2-here .if2 .left)
+    judging-next (loop-here .loop .inv) (loop-test-here .loop-test .taken) (omega (arith, if1-here .if1 .left)) (sym (is-key-here .is-key .ensures) ∙ not-false _ (if3-here .if3 .left)) (if2-here .if2 .left)
 
 returns-4 : tie.Need-returns-4 Inv-loop μ-loop
 returns-4 c =
