@@ -78,23 +78,25 @@ judged contents bodies e =
     let n = countOf contents in
     let used = usedOf contents in
     let rows = rowsIn contents in
-    let short = not (tooShort contents bodies) in
-    let many = leb n mostEntries in
-    let much = leb used bodyBytes in
-    let p = and-true (short && many && much && packed 0 rows used) (all (λ r. isKey (keyAt bodies r)) rows) e in
-    let q = and-true (short && many && much) (packed 0 rows used) (p .0) in
-    let r = and-true (short && many) much (q .0) in
-    let s = and-true short many (r .0) in
-    let long = long-enough contents bodies (not-true (tooShort contents bodies) (s .0)) in
-    let few = leb-true n mostEntries (s .1) in
+    let long = not (tooShort contents bodies) in
+    let few = leb n mostEntries in
+    let small = leb used bodyBytes in
+    let p = and-true (long && few && small && packed 0 rows used) (all (λ r. isKey (keyAt bodies r)) rows) e in
+    let q = and-true (long && few && small) (packed 0 rows used) (p .0) in
+    let r = and-true (long && few) small (q .0) in
+    let s = and-true long few (r .0) in
+    let lengths = long-enough contents bodies (not-true (tooShort contents bodies) (s .0)) in
+    let most = leb-true n mostEntries (s .1) in
     record {
-      contents-long = long .0;
-      bodies-long = long .1;
-      count-most = few;
+      contents-long = lengths .0;
+      bodies-long = lengths .1;
+      count-most = most;
       used-most = leb-true used bodyBytes (r .1);
-      rows-within = omega (arith, long .0, few);
+      rows-within = omega (arith, lengths .0, most);
       row-inside = λ i h. rw (row-is contents i (rowAt contents i) h) at (packed-inside 0 rows used (q .1) i (rowAt contents i) (there i h));
-      row-key = λ i h. rw (row-is contents i (rowAt contents i) h) at (all-getD (λ r. isKey (keyAt bodies r)) rows i (rowAt contents i) (p .1) (there i h));
+      row-key =
+          λ i h. rw (row-is contents i (rowAt contents i) h) at
+          (all-getD (λ r. isKey (keyAt bodies r)) rows i (rowAt contents i) (p .1) (there i h));
     }
   where
     there : (i : ℕ) → i < countOf contents → i < length (rowsIn contents)

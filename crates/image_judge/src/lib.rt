@@ -1,4 +1,4 @@
-// Do two lent buffers hold a database image? Every lookup asks this first, so each byte of a key is looked at once or twice, and no
+// Do two lent buffers hold a database image? Every lookup asks this first, so it goes once over the bytes of the keys and looks at no
 // byte of a value.
 ghost use mathlib.Core.Path.{_≡_};
 ghost use Prim.Native.Nat.{_+_, _*_, _≤_};

@@ -1,3 +1,4 @@
+-- `image_judge::is_key` meets its contract. The invariant: the whole is a key if what is left ends one. Assumes nothing.
 use mathlib.Core.Logic.{⊎-elim}
 use mathlib.Core.Path.{_≡_, sym, _∙_}
 use Prim.Native.Nat.{_≤_}
@@ -82,7 +83,7 @@ returns-3 c =
     let loop-here = c .before .before .before .before .before .before .before .before .before .before in
     let next-component-here = c .before .before .before in
     let if3-here = c .before .before in
-    sym (loop-here .loop .inv ∙ none-here (begins next-component-here) (loop-here .loop .parts) (if3-here .if3 .taken) (c .if4 .taken))
+    sym (loop-here .loop .inv ∙ none-here (begins next-component-here) (loop-here .loop .parts) (if3-here .if3 .taken) (λ e. omega (arith, c .if4 .taken)))
 
 shared-slice-read-result : tie.Need-shared-slice-read-result Inv-loop μ-loop
 shared-slice-read-result c = search needs
@@ -98,7 +99,7 @@ returns-4 c =
     let k = loop-here .loop .parts in
     sym
     (loop-here .loop .inv
-    ∙ ⊎-elim (λ w. last-wild s k (w .2 .left) (sym (w .3) ∙ if5-here .if5 .taken))
+    ∙ ⊎-elim (λ w. last-wild s k (omega (arith, w .2 .left)) (sym (w .3) ∙ if5-here .if5 .taken))
     (λ w. last-name s k (w .0 .left) (sym (w .1) ∙ if5-here .if5 .taken) (omega (arith, loop-test-here .loop-test .taken)))
     (if3-here .if3 .came))
 
@@ -141,7 +142,7 @@ loop-again c =
     let if3-here = c .before .before .before in
     let s = begins next-component-here in
     loop-here .loop .inv
-    ∙ ⊎-elim (λ w. rw (w .3) (wild-on s (loop-here .loop .parts) (w .2 .left)))
+    ∙ ⊎-elim (λ w. rw (w .3) (wild-on s (loop-here .loop .parts) (omega (arith, w .2 .left))))
     (λ w. rw (w .1) (name-on s (loop-here .loop .parts) (w .0 .left) (λ e. if5-here .if5 .left (w .1 ∙ e))))
     (if3-here .if3 .came)
 

@@ -1,3 +1,4 @@
+-- `image_judge::rows_hold` meets its contract. The invariant: the rows hold if those from row i on do, packed from `at`. Assumes nothing.
 use mathlib.Core.Path.{sym, _∙_}
 use Prim.Native.Nat.{_-_, _+_, _*_}
 use native.Mathlib.Omega.{arith}
