@@ -2,8 +2,8 @@
 
 use crate::draw::Draw;
 use crate::texts;
-use crate::{Query, Source};
 use model::archive::{folder, lay_out, File};
+use records::{Query, Source};
 
 /// Names for files, and for includes to look for. Most archives draw from the first few.
 const NAMES: [&[u8]; 16] = [
@@ -65,7 +65,8 @@ fn put_include(draw: &mut Draw, text: &mut Vec<u8>, names: &[Vec<u8>], folder: &
     }
     let name = include_name(draw, names, folder);
     let spaces = |draw: &mut Draw| draw.pick(&[b"".as_slice(), b" ", b" ", b"  "]).to_vec();
-    let mut line = [b"#".to_vec(), spaces(draw), b"include".to_vec(), spaces(draw), b"\"".to_vec(), name, b"\"".to_vec()].concat();
+    let mut line =
+        [b"#".to_vec(), spaces(draw), b"include".to_vec(), spaces(draw), b"\"".to_vec(), name, b"\"".to_vec()].concat();
     match draw.below(30) {
         0 => line.extend(b" a:1"),
         1 => line.truncate(line.len() - 1),

@@ -1,7 +1,7 @@
 //! Cases at document 01's limits and one past them, with what each must give.
 
-use crate::{Query, Source};
 use model::archive::{lay_out, File};
+use records::{Query, Source};
 
 /// Entries and opens, or the refusal's number.
 pub type Expected = Result<(usize, usize), u8>;
@@ -57,6 +57,8 @@ fn lines(pieces: &[&[u8]]) -> Vec<u8> {
 fn parts() -> Vec<Edge> {
     let line = |parts, end: &[u8]| Source::plain(&[&long_key(parts), end].concat());
     let loose = [repeated(b"*b", 15), b"*a: 1".to_vec()].concat();
+    let letters: Vec<Vec<u8>> = (b'a'..=b'p').map(|b| vec![b]).collect();
+    let apart = [b"*".to_vec(), letters.join(&b'*'), b": 1".to_vec()].concat();
     vec![
         edge("15 parts", line(15, b": 1"), Ok((1, 0))),
         edge("16 parts", line(16, b": 1"), Ok((1, 0))),
@@ -65,10 +67,23 @@ fn parts() -> Vec<Edge> {
         edge("17 parts with a last ?", line(16, b".?: 1"), Ok((0, 0))),
         edge("17 parts by adjoining", Source::plain(&[repeated(b"?", 16), b"a:".to_vec()].concat()), Err(5)),
         Edge {
+            label: "16 loose parts, each once",
+            source: Source::plain(&apart),
+            expected: Ok((1, 0)),
+            queries: vec![
+                Query::new(&letters.join(&b'.'), b""),
+                Query::new(&[b"z.", &letters.join(&b".z."[..])[..]].concat(), b""),
+                Query::new(b"z.a", &letters.join(&b'.')),
+            ],
+        },
+        Edge {
             label: "16 loose parts",
             source: Source::plain(&loose),
             expected: Ok((1, 0)),
-            queries: vec![Query::new(&joined(b"b", 15, b"."), b""), Query::new(&[joined(b"b", 17, b"."), b".a".to_vec()].concat(), b"")],
+            queries: vec![
+                Query::new(&joined(b"b", 15, b"."), b""),
+                Query::new(&[joined(b"b", 17, b"."), b".a".to_vec()].concat(), b""),
+            ],
         },
     ]
 }
@@ -88,7 +103,11 @@ fn entries() -> Vec<Edge> {
         edge("511 lines", Source::plain(&repeated(b"a:\n", 511)), Ok((511, 0))),
         full,
         edge("513 lines", Source::plain(&repeated(b"a:\n", 513)), Err(6)),
-        edge("512 lines and one that makes no entry", Source::plain(&[repeated(b"a:\n", 512), b"a.?:".to_vec()].concat()), Ok((512, 0))),
+        edge(
+            "512 lines and one that makes no entry",
+            Source::plain(&[repeated(b"a:\n", 512), b"a.?:".to_vec()].concat()),
+            Ok((512, 0)),
+        ),
         edge("512 entries by includes", eight(b""), Ok((512, 8))),
         edge("512 entries by includes and one", eight(b"a:"), Err(6)),
     ]
@@ -216,7 +235,11 @@ fn archives() -> Vec<Edge> {
         bad("names that fall", &lay_out(&[one(b"q", b""), one(b"p", b"")])),
         bad("a prefix last", &lay_out(&[one(b"pp", b""), one(b"p", b"")])),
         edge("a prefix first", laid(&include(b"pp"), &[one(b"p", b"a:"), one(b"pp", b"b:\nc:")]), Ok((2, 1))),
-        edge("names by bytes", laid(&include(b"d/p"), &[one(b"d-p", b""), one(b"d.p", b""), one(b"d/p", b"a:"), one(b"dp", b"")]), Ok((1, 1))),
+        edge(
+            "names by bytes",
+            laid(&include(b"d/p"), &[one(b"d-p", b""), one(b"d.p", b""), one(b"d/p", b"a:"), one(b"dp", b"")]),
+            Ok((1, 1)),
+        ),
         edge("dots that are no folder", laid(&include(b"..."), &[one(b"...", b"a:")]), Ok((1, 1))),
     ]
 }
@@ -229,6 +252,12 @@ fn folders() -> Vec<Edge> {
         edge("two folders down", Source::with(&include(b"d/e/p"), &files), Ok((2, 3))),
         edge("a folder is no file", Source::with(&include(b"d/e"), &files), Ok((0, 0))),
         edge("an empty name", Source::with(b"#include \"\"", &files), Ok((0, 0))),
+        edge(
+            "names that a file system would resolve",
+            Source::with(b"#include \"./p\"\n#include \"d/../p\"\n#include \"/p\"\n#include \"p/\"", &[(b"p", b"a:")]),
+            Ok((0, 0)),
+        ),
+        edge("a name that is not UTF-8", Source::with(b"#include \"\xff\"\na:1", &[(b"p", b"b:")]), Ok((1, 0))),
         edge("an empty file", Source::with(&include(b"p"), &[(b"p", b"")]), Ok((0, 1))),
         edge("a file that ends in a backslash", Source::with(b"#include \"p\"\nb:2", &[(b"p", b"a:1\\")]), Ok((2, 1))),
     ];
@@ -252,8 +281,16 @@ fn order_of_refusals() -> Vec<Edge> {
         edge("17 parts in a 513th entry", then(&[&wide, b":".as_slice()].concat()), Err(5)),
         edge("a 513th entry past the store", past(&full, &long_value(32_000), b""), Err(6)),
         edge("17 parts past the store", past(b"", &long_value(32_760), &[&wide, b":".as_slice()].concat()), Err(5)),
-        edge("opens before parts", Source::with(&lines(&[b"#include \"p\"", &[&wide, b":".as_slice()].concat()]), &twice), Err(4)),
-        edge("parts before opens", Source::with(&lines(&[&[&wide, b":".as_slice()].concat(), b"#include \"p\""]), &twice), Err(5)),
+        edge(
+            "opens before parts",
+            Source::with(&lines(&[b"#include \"p\"", &[&wide, b":".as_slice()].concat()]), &twice),
+            Err(4),
+        ),
+        edge(
+            "parts before opens",
+            Source::with(&lines(&[&[&wide, b":".as_slice()].concat(), b"#include \"p\""]), &twice),
+            Err(5),
+        ),
     ]
 }
 
@@ -264,10 +301,34 @@ fn queries() -> Vec<Edge> {
     let key = [long(1024), b":1".to_vec()].concat();
     let wide = [long_key(16), b":1".to_vec()].concat();
     vec![
-        at("32 query parts", b"*a: 1", vec![Query::new(&dotted(32), b""), Query::new(b"", &dotted(32)), Query::new(&dotted(32), &dotted(31))]),
-        at("33 query parts", b"*a: 1", vec![Query::new(&dotted(33), b""), Query::new(b"a", &dotted(33)), Query::new(&dotted(33), b".")]),
-        at("1,024 query bytes", &key, vec![Query::new(&long(1024), b""), Query::new(b"", &long(1024)), Query::new(&[b"a".to_vec(), vec![b'.'; 1023]].concat(), b"")]),
-        at("1,025 query bytes", &key, vec![Query::new(&long(1025), b""), Query::new(b"a", &long(1025)), Query::new(&vec![b'.'; 1025], b"")]),
-        at("16 parts of 16", &wide, vec![Query::new(&dotted(16), b""), Query::new(&dotted(15), b""), Query::new(&dotted(17), b"")]),
+        at(
+            "32 query parts",
+            b"*a: 1",
+            vec![Query::new(&dotted(32), b""), Query::new(b"", &dotted(32)), Query::new(&dotted(32), &dotted(31))],
+        ),
+        at(
+            "33 query parts",
+            b"*a: 1",
+            vec![Query::new(&dotted(33), b""), Query::new(b"a", &dotted(33)), Query::new(&dotted(33), b".")],
+        ),
+        at(
+            "1,024 query bytes",
+            &key,
+            vec![
+                Query::new(&long(1024), b""),
+                Query::new(b"", &long(1024)),
+                Query::new(&[b"a".to_vec(), vec![b'.'; 1023]].concat(), b""),
+            ],
+        ),
+        at(
+            "1,025 query bytes",
+            &key,
+            vec![Query::new(&long(1025), b""), Query::new(b"a", &long(1025)), Query::new(&vec![b'.'; 1025], b"")],
+        ),
+        at(
+            "16 parts of 16",
+            &wide,
+            vec![Query::new(&dotted(16), b""), Query::new(&dotted(15), b""), Query::new(&dotted(17), b"")],
+        ),
     ]
 }

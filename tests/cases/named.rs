@@ -1,34 +1,6 @@
 //! Cases chosen by hand: a few for each rule, and those that the documents name.
 
-use crate::{Query, Source};
-
-/// What is asked of a source.
-#[derive(Clone, Copy, Debug, PartialEq, Eq)]
-pub enum Kind {
-    Read,
-    Bytes,
-    String,
-    Bool,
-    Value,
-}
-
-#[derive(Clone, Debug, PartialEq, Eq)]
-pub struct Case {
-    pub kind: Kind,
-    pub source: Source,
-    /// Not used by a reading.
-    pub query: Query,
-}
-
-impl Case {
-    pub fn read(source: Source) -> Self {
-        Self { kind: Kind::Read, source, query: Query::new(b"", b"") }
-    }
-
-    pub fn ask(kind: Kind, source: Source, query: Query) -> Self {
-        Self { kind, source, query }
-    }
-}
+use records::{Case, Kind, Query, Source};
 
 fn lines(texts: &[&[u8]]) -> Vec<Case> {
     texts.iter().map(|text| Case::read(Source::plain(text))).collect()
@@ -155,7 +127,14 @@ pub fn named() -> Vec<Case> {
 fn departures() -> Vec<Case> {
     let p: &[(&[u8], &[u8])] = &[(b"p", b"b:1")];
     let mut cases = lines(&[b" a:x", b"\ta:x", b"a\t:x", b"a :x", b"a: \t x"]);
-    for text in [b"#\tinclude \"p\"".as_slice(), b"#include\t\"p\"", b"#include p", b"#include \"p\"z", b" #include \"p\"", b"#Include \"p\""] {
+    for text in [
+        b"#\tinclude \"p\"".as_slice(),
+        b"#include\t\"p\"",
+        b"#include p",
+        b"#include \"p\"z",
+        b" #include \"p\"",
+        b"#Include \"p\"",
+    ] {
         cases.push(including(text, p));
     }
     cases.push(including(b"a:1\n#include \"p\"\nc:3", &[(b"p", b"b:2")]));
@@ -163,7 +142,17 @@ fn departures() -> Vec<Case> {
     cases.extend(lines(&[b"a?b:x", b"??a:x", b"a..*b:x", b"a...b:x", b"a.?:x", b"a*:x", b"a+b:x", b"a b:x", b"a:1\na:2"]));
     cases.push(looked_up(b"a:1\na:2", b"a", b""));
     cases.extend(lines(&[b"a:x\x00y", b"a:x \t", b"a:\\\\", b"a:\\101", b"a:\\400", b"a:\\12z", b"a:\\12", b"a:\\1\nb:2"]));
-    cases.extend(lines(&[b"a:\\q", b"a:\\", b"a:x\\\n y", b"a:\\\n y", b"a:\\ x", b"a:x\\ny", b"!x\\\na:1", b"x\\\na:1", b" !x\na:1"]));
+    cases.extend(lines(&[
+        b"a:\\q",
+        b"a:\\",
+        b"a:x\\\n y",
+        b"a:\\\n y",
+        b"a:\\ x",
+        b"a:x\\ny",
+        b"!x\\\na:1",
+        b"x\\\na:1",
+        b" !x\na:1",
+    ]));
     cases.push(including(b"#include \"p", p));
     cases.push(including(b"#include \"\"", &[]));
     cases.extend(lines(&[b"a:x\r\nb:y\r\n"]));
@@ -193,7 +182,9 @@ fn proved_examples() -> Vec<Case> {
     cases.extend(lines(&[b"a:\\101\\400", b"a:\\12", b"a:\\12z"]));
     cases.push(looked_up(b"a:1", b"a..", b""));
     cases.push(looked_up(b"a:1", b".a", b""));
-    for text in [b"a*b: 2\n*b: 1".as_slice(), b"*b: 1\na*b: 2", b"?.b: 1\n*b: 2", b"*b: 2\n?.b: 1", b"a*b: 1\na*b: 2", b"a*b: 2\na*b: 1"] {
+    for text in
+        [b"a*b: 2\n*b: 1".as_slice(), b"*b: 1\na*b: 2", b"?.b: 1\n*b: 2", b"*b: 2\n?.b: 1", b"a*b: 1\na*b: 2", b"a*b: 2\na*b: 1"]
+    {
         cases.push(looked_up(text, b"a.b", b""));
     }
     cases
@@ -220,16 +211,59 @@ fn misleading_rankings() -> Vec<Case> {
         // Instance and class of one position; a part that equals both is an instance.
         looked_up(b"a:1\nA:2", b"a", b"A"),
         looked_up(b"a:1\n?a:2\n*a:3", b"a", b"a"),
+        // Queries with bytes that no name has.
+        looked_up(b"*a:1", "é.a".as_bytes(), b""),
+        looked_up(b"*a:1", b"a\x00", b""),
+        looked_up(b"*a:1", b"a", b"a b"),
     ]
 }
 
 fn numbers_and_words() -> Vec<Case> {
     const VALUES: [&[u8]; 44] = [
-        b"", b"+5", b"-0", b"-", b"+", b"0", b"00", b"-1", b"+0", b"1", b"007", b"+-1", b"--1", b"1 ", b"\\ 1", b"1.0", b"1e1", b"0x1",
-        b"9223372036854775807", b"9223372036854775808", b"-9223372036854775808", b"-9223372036854775809", b"+9223372036854775808",
-        b"18446744073709551616", b"000000000000000000000000000000000001", b"-00000000000000000000", b"99999999999999999999999999",
-        b"true", b"TRUE", b"on", b"On", b"yes", b"yEs", b"false", b"False", b"off", b"no", b"NO", b"nope", b"tru", b"yes ",
-        "\u{212a}".as_bytes(), "\u{ff11}".as_bytes(), b"\xff",
+        b"",
+        b"+5",
+        b"-0",
+        b"-",
+        b"+",
+        b"0",
+        b"00",
+        b"-1",
+        b"+0",
+        b"1",
+        b"007",
+        b"+-1",
+        b"--1",
+        b"1 ",
+        b"\\ 1",
+        b"1.0",
+        b"1e1",
+        b"0x1",
+        b"9223372036854775807",
+        b"9223372036854775808",
+        b"-9223372036854775808",
+        b"-9223372036854775809",
+        b"+9223372036854775808",
+        b"18446744073709551616",
+        b"000000000000000000000000000000000001",
+        b"-00000000000000000000",
+        b"99999999999999999999999999",
+        b"true",
+        b"TRUE",
+        b"on",
+        b"On",
+        b"yes",
+        b"yEs",
+        b"false",
+        b"False",
+        b"off",
+        b"no",
+        b"NO",
+        b"nope",
+        b"tru",
+        b"yes ",
+        "\u{212a}".as_bytes(),
+        "\u{ff11}".as_bytes(),
+        b"\xff",
     ];
     let mut cases = Vec::new();
     for kind in [Kind::Bool, Kind::Value] {

@@ -1,7 +1,7 @@
 //! Resource files as people write them, and the queries that programs make of them.
 
 use crate::draw::Draw;
-use crate::{Query, Source};
+use records::{Query, Source};
 
 const LINES: [&str; 46] = [
     "! Terminal settings",

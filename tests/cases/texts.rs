@@ -1,12 +1,11 @@
 //! Random lines, texts and queries around every rule of reading and matching.
 
 use crate::draw::Draw;
-use crate::Query;
 use model::query::split;
+use records::Query;
 
 /// Few names, so that keys and queries often meet; some begin alike.
-const NAMES: [&[u8]; 16] =
-    [b"a", b"a", b"a", b"b", b"b", b"b", b"c", b"A", b"B", b"ab", b"a-b", b"_", b"9", b"-", b"Z0", b"aa"];
+const NAMES: [&[u8]; 16] = [b"a", b"a", b"a", b"b", b"b", b"b", b"c", b"A", b"B", b"ab", b"a-b", b"_", b"9", b"-", b"Z0", b"aa"];
 
 const TIGHT: [&[u8]; 6] = [b".", b".", b".", b".", b"..", b"..."];
 const LOOSE: [&[u8]; 6] = [b"*", b"*", b"*", b".*", b"*.", b"**"];

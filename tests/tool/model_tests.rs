@@ -7,7 +7,6 @@ use cases::archives;
 use cases::draw::Draw;
 use cases::limits::edges;
 use cases::words::{keys, queries};
-use cases::Source;
 use model::archive::{judge, lay_out, strike};
 use model::image::{self, Accepted};
 use model::limits::{BODIES_BYTES, CONTENTS_WORDS};
@@ -15,6 +14,7 @@ use model::line::{read_key, Part};
 use model::lookup::{get_bool, get_bytes, get_value, show, Number};
 use model::matching::{all_rows, beats_the_rest, highest_row, positions, winner};
 use model::query::split;
+use records::Source;
 use std::process::ExitCode;
 
 type Test = fn() -> Result<String, String>;
@@ -92,7 +92,8 @@ impl Lent {
     /// Whether the words and bytes after the entries, up to the image's end, are zero.
     fn is_zero_after(&self, entries: usize) -> bool {
         let used = self.contents[1] as usize;
-        self.contents[2 + 3 * entries..CONTENTS_WORDS].iter().all(|&w| w == 0) && self.bodies[used..BODIES_BYTES].iter().all(|&b| b == 0)
+        self.contents[2 + 3 * entries..CONTENTS_WORDS].iter().all(|&w| w == 0)
+            && self.bodies[used..BODIES_BYTES].iter().all(|&b| b == 0)
     }
 }
 

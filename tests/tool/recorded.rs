@@ -3,9 +3,8 @@
 //!     recorded check FILE..    every line of the files is well formed and is what the model answers
 //!     recorded antt FILE       the lines of a file as rows for the prover, on standard output
 
-use cases::named::{Case, Kind};
 use model::lookup::Number;
-use records::{kind_word, model_answer, parse_line, write_line, Answer};
+use records::{kind_word, model_answer, parse_line, write_line, Answer, Case, Kind};
 use std::process::ExitCode;
 
 fn main() -> ExitCode {
@@ -56,8 +55,16 @@ fn check_line(line: &str) -> Result<(), String> {
 }
 
 fn antt(file: &str) -> Result<String, String> {
-    let rows = read_lines(file)?.into_iter().map(|line| parse_line(&line).map(|(case, answer)| row(&case, &answer)));
+    let rows = read_lines(file)?.into_iter().map(|line| parse_line(&line).and_then(|(case, answer)| short_row(&case, &answer)));
     Ok(rows.collect::<Result<Vec<_>, _>>()?.join("\n"))
+}
+
+/// A prover evaluates what it reads in a row, so rows are kept short.
+fn short_row(case: &Case, answer: &Answer) -> Result<String, String> {
+    if case.source.text.len() > 40 || case.source.archive.len() > 60 {
+        return Err(format!("too long for a row: {}", write_line(case, answer)));
+    }
+    Ok(row(case, answer))
 }
 
 /// One case as a row for the prover: the kind, what goes in, what comes out. The only place that

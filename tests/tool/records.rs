@@ -1,17 +1,82 @@
-//! The recorded answers: how a line is written and read, and what the model answers to its case.
+//! Cases and their recorded answers: how a line is written and read, and what the model answers.
 //! tests/recorded/README.md describes the lines.
 
-use cases::named::{Case, Kind};
-use cases::{Query, Source};
+use model::archive::{lay_out, File};
 use model::image;
 use model::limits::{Refusal, BODIES_BYTES, CONTENTS_WORDS};
 use model::line::write_key;
 use model::lookup::{get_bool, get_bytes, get_string, get_value, Number};
 
+/// What a reading takes.
+#[derive(Clone, Debug, PartialEq, Eq)]
+pub struct Source {
+    pub text: Vec<u8>,
+    /// Laid out as bytes.
+    pub archive: Vec<u8>,
+}
+
+impl Source {
+    /// With an archive of no files.
+    pub fn plain(text: &[u8]) -> Self {
+        Self::with(text, &[])
+    }
+
+    /// With these files, in the order that an archive asks for.
+    pub fn with(text: &[u8], files: &[(&[u8], &[u8])]) -> Self {
+        let mut files: Vec<File> = files.iter().map(|(name, body)| File { name: name.to_vec(), body: body.to_vec() }).collect();
+        files.sort_by(|a, b| a.name.cmp(&b.name));
+        Self { text: text.to_vec(), archive: lay_out(&files) }
+    }
+}
+
+/// What a lookup takes beside an image.
+#[derive(Clone, Debug, PartialEq, Eq)]
+pub struct Query {
+    pub name: Vec<u8>,
+    pub class: Vec<u8>,
+}
+
+impl Query {
+    pub fn new(name: &[u8], class: &[u8]) -> Self {
+        Self { name: name.to_vec(), class: class.to_vec() }
+    }
+}
+
+/// What is asked of a source.
+#[derive(Clone, Copy, Debug, PartialEq, Eq)]
+pub enum Kind {
+    Read,
+    Bytes,
+    String,
+    Bool,
+    Value,
+}
+
+#[derive(Clone, Debug, PartialEq, Eq)]
+pub struct Case {
+    pub kind: Kind,
+    pub source: Source,
+    /// Not used by a reading.
+    pub query: Query,
+}
+
+impl Case {
+    pub fn read(source: Source) -> Self {
+        Self { kind: Kind::Read, source, query: Query::new(b"", b"") }
+    }
+
+    pub fn ask(kind: Kind, source: Source, query: Query) -> Self {
+        Self { kind, source, query }
+    }
+}
+
 #[derive(Clone, Debug, PartialEq, Eq)]
 pub enum Answer {
     /// Opens, and the entries as key and value.
-    Read { opens: usize, entries: Vec<(Vec<u8>, Vec<u8>)> },
+    Read {
+        opens: usize,
+        entries: Vec<(Vec<u8>, Vec<u8>)>,
+    },
     Bytes(Option<Vec<u8>>),
     Bool(Option<bool>),
     Value(Number),

@@ -1,8 +1,6 @@
 //! The model and the Rust on one case: what document 01 admits, what must be equal, what is counted.
 
 use crate::rust::{listed, number, texts, Room};
-use cases::named::{Case, Kind};
-use cases::{Query, Source};
 use model::archive::{judge, strike};
 use model::image;
 use model::limits::{Refusal, QUERY_BYTES, QUERY_PARTS, TEXT_BYTES};
@@ -12,6 +10,7 @@ use model::matching::{mark, positions, winner, Position};
 use model::query::split;
 use model::reading::{self, Entry, Reading};
 use oracle::resource_manager::Database;
+use records::{Case, Kind, Query, Source};
 use std::collections::BTreeMap;
 
 /// The Rust keeps every partial alignment of a key; past this many it is not asked.

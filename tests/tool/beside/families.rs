@@ -6,15 +6,17 @@ use cases::draw::Draw;
 use cases::limits::edges;
 use cases::texts::aligned_key;
 use cases::words::{each_word, keys, queries};
-use cases::{archives, realistic, texts, Query, Source};
+use cases::{archives, realistic, texts};
 use model::archive::{judge, lay_out, File};
+use records::{Query, Source};
 
 type Family = fn(&mut Both, u64) -> Result<(), String>;
 
-const FAMILIES: [(&str, Family); 16] = [
+const FAMILIES: [(&str, Family); 17] = [
     ("texts", every_text),
     ("values", every_value),
     ("keys", every_key),
+    ("bytes", every_pair_of_bytes),
     ("include-lines", every_include_line),
     ("lookups-in-one", lookups_in_one),
     ("lookups-in-two", lookups_in_two),
@@ -66,6 +68,21 @@ fn every_key(both: &mut Both, _: u64) -> Result<(), String> {
     on_each_word(b"ab?.*", 7, |key| both.read(&Source::plain(&[key, b":x"].concat())).map(drop))
 }
 
+/// All pairs of bytes in a key, in a value, after a backslash, and in a query.
+fn every_pair_of_bytes(both: &mut Both, _: u64) -> Result<(), String> {
+    let all: Vec<u8> = (0..=255).collect();
+    let places: [(&[u8], &[u8]); 4] = [(b"", b":1"), (b"a", b"b:1"), (b"a:", b"z"), (b"a:\\", b"z")];
+    on_each_word(&all, 2, |pair| {
+        for (before, after) in places {
+            both.read(&Source::plain(&[before, pair, after].concat()))?;
+        }
+        Ok(())
+    })?;
+    let mut queries = Vec::new();
+    each_word(&all, 2, &mut |pair| queries.push(Query::new(&[b"a", pair].concat(), b"")));
+    both.ask(&Source::plain(b"a:1\n*b:2\n?c:3\naz:4\na.-:5\n*_:6\n*9:7"), &queries)
+}
+
 /// All texts of up to six of these pieces, with a file to include.
 fn every_include_line(both: &mut Both, _: u64) -> Result<(), String> {
     const PIECES: [&[u8]; 8] = [b"#", b"include", b"\"", b"p", b" ", b"\t", b"\n", b"a:1"];
@@ -86,7 +103,10 @@ fn lookups_in_one(both: &mut Both, _: u64) -> Result<(), String> {
 fn lookups_in_two(both: &mut Both, _: u64) -> Result<(), String> {
     let names = queries(b"ab", 3);
     let fits = |name: &[u8], class: &[u8]| class.is_empty() || class.len() == name.len();
-    let all: Vec<Query> = names.iter().flat_map(|name| names.iter().filter(move |class| fits(name, class)).map(move |class| Query::new(name, class))).collect();
+    let all: Vec<Query> = names
+        .iter()
+        .flat_map(|name| names.iter().filter(move |class| fits(name, class)).map(move |class| Query::new(name, class)))
+        .collect();
     let keys = keys(3);
     for first in &keys {
         for second in &keys {
@@ -158,7 +178,7 @@ fn random(both: &mut Both, seed: u64) -> Result<(), String> {
 
 fn random_archives(both: &mut Both, seed: u64) -> Result<(), String> {
     let draw = &mut Draw::new(seed, "archives");
-    (0..20_000).try_for_each(|_| {
+    (0..15_000).try_for_each(|_| {
         let (source, query) = archives::source(draw);
         both.ask(&source, &and_others(draw, query))
     })
@@ -176,7 +196,7 @@ fn like_real_files(both: &mut Both, seed: u64) -> Result<(), String> {
 /// Good sources with a few bytes of the main text, or of a file, or of a query damaged.
 fn damaged_copies(both: &mut Both, seed: u64) -> Result<(), String> {
     let draw = &mut Draw::new(seed, "damaged");
-    (0..60_000).try_for_each(|_| {
+    (0..40_000).try_for_each(|_| {
         let (mut source, mut query) = match draw.below(4) {
             0 => archives::source(draw),
             1 => (realistic::source(draw, 8), realistic::query(draw)),
@@ -205,13 +225,14 @@ fn with_a_damaged_file(draw: &mut Draw, mut files: Vec<File>) -> Vec<u8> {
 /// Queries of up to 33 parts, and keys that align with them by skipping much.
 fn wide_lookups(both: &mut Both, seed: u64) -> Result<(), String> {
     let draw = &mut Draw::new(seed, "wide");
-    (0..6_000).try_for_each(|_| {
+    (0..2_500).try_for_each(|_| {
         let parts = draw.between(6, 33);
         let letters: &[u8] = if draw.one_in(4) { b"ab" } else { b"abcdefghijklmnopqrstuvwxyz" };
         let text = |draw: &mut Draw| (0..parts).map(|_| vec![draw.pick_byte(letters)]).collect::<Vec<_>>().join(&b'.');
         let query = Query { name: text(draw), class: text(draw) };
         let skips = draw.between(4, 7);
-        let lines: Vec<Vec<u8>> = (0..6).map(|n| [aligned_key(draw, &query, skips), format!(":{n}").into_bytes()].concat()).collect();
+        let lines: Vec<Vec<u8>> =
+            (0..6).map(|n| [aligned_key(draw, &query, skips), format!(":{n}").into_bytes()].concat()).collect();
         both.ask(&Source::plain(&lines.join(&b'\n')), &[query])
     })
 }

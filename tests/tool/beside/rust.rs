@@ -1,11 +1,9 @@
 //! The Rust's side: archives written out as files, and the Rust's answers as the records have them.
 
-use cases::named::{Case, Kind};
-use cases::{Query, Source};
 use model::archive::{judge, Archive};
 use model::lookup::Number;
 use oracle::resource_manager::{entries_of, Database};
-use records::Answer;
+use records::{Answer, Case, Kind, Query, Source};
 use std::fs;
 use std::path::{Path, PathBuf};
 
