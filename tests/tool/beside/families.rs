@@ -178,7 +178,7 @@ fn random(both: &mut Both, seed: u64) -> Result<(), String> {
 
 fn random_archives(both: &mut Both, seed: u64) -> Result<(), String> {
     let draw = &mut Draw::new(seed, "archives");
-    (0..15_000).try_for_each(|_| {
+    (0..12_000).try_for_each(|_| {
         let (source, query) = archives::source(draw);
         both.ask(&source, &and_others(draw, query))
     })
@@ -196,7 +196,7 @@ fn like_real_files(both: &mut Both, seed: u64) -> Result<(), String> {
 /// Good sources with a few bytes of the main text, or of a file, or of a query damaged.
 fn damaged_copies(both: &mut Both, seed: u64) -> Result<(), String> {
     let draw = &mut Draw::new(seed, "damaged");
-    (0..40_000).try_for_each(|_| {
+    (0..30_000).try_for_each(|_| {
         let (mut source, mut query) = match draw.below(4) {
             0 => archives::source(draw),
             1 => (realistic::source(draw, 8), realistic::query(draw)),
@@ -225,7 +225,7 @@ fn with_a_damaged_file(draw: &mut Draw, mut files: Vec<File>) -> Vec<u8> {
 /// Queries of up to 33 parts, and keys that align with them by skipping much.
 fn wide_lookups(both: &mut Both, seed: u64) -> Result<(), String> {
     let draw = &mut Draw::new(seed, "wide");
-    (0..2_500).try_for_each(|_| {
+    (0..2_000).try_for_each(|_| {
         let parts = draw.between(6, 33);
         let letters: &[u8] = if draw.one_in(4) { b"ab" } else { b"abcdefghijklmnopqrstuvwxyz" };
         let text = |draw: &mut Draw| (0..parts).map(|_| vec![draw.pick_byte(letters)]).collect::<Vec<_>>().join(&b'.');
@@ -240,7 +240,7 @@ fn wide_lookups(both: &mut Both, seed: u64) -> Result<(), String> {
 /// Each file of an archive struck off.
 fn struck_off(both: &mut Both, seed: u64) -> Result<(), String> {
     let draw = &mut Draw::new(seed, "struck off");
-    (0..6_000).try_for_each(|_| {
+    (0..5_000).try_for_each(|_| {
         let (source, query) = archives::source(draw);
         let queries = and_others(draw, query);
         let count = judge(&source.archive).expect("a good archive").files.len();
