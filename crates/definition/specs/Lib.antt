@@ -19,4 +19,4 @@ pub mod Evaluation
 mod Examples
 mod NameBytes
 mod Manual
-mod Numbers
+pub mod Numbers
