@@ -1,10 +1,10 @@
 //! Works on the recorded answers; needs no Rust under test.
 //!
 //!     recorded check FILE..    every line of the files is well formed and is what the model answers
-//!     recorded antt FILE       the lines of a file as rows for the prover, on standard output
+//!     recorded antt FILE       the lines of a file as a module for the prover, on standard output
 
 use model::lookup::Number;
-use records::{kind_word, model_answer, parse_line, write_line, Answer, Case, Kind};
+use records::{model_answer, parse_line, write_line, Answer, Case, Kind};
 use std::process::ExitCode;
 
 fn main() -> ExitCode {
@@ -55,8 +55,9 @@ fn check_line(line: &str) -> Result<(), String> {
 }
 
 fn antt(file: &str) -> Result<String, String> {
-    let rows = read_lines(file)?.into_iter().map(|line| parse_line(&line).and_then(|(case, answer)| short_row(&case, &answer)));
-    Ok(rows.collect::<Result<Vec<_>, _>>()?.join("\n"))
+    let lines = read_lines(file)?;
+    let rows = lines.iter().map(|line| parse_line(line).and_then(|(case, answer)| short_row(&case, &answer)));
+    Ok(module(&rows.collect::<Result<Vec<_>, _>>()?))
 }
 
 /// A prover evaluates what it reads in a row, so rows are kept short.
@@ -67,28 +68,101 @@ fn short_row(case: &Case, answer: &Answer) -> Result<String, String> {
     Ok(row(case, answer))
 }
 
-/// One case as a row for the prover: the kind, what goes in, what comes out. The only place that
-/// knows how rows are written.
-fn row(case: &Case, answer: &Answer) -> String {
-    let mut fields = vec![kind_word(case.kind).to_string(), list(&case.source.text), list(&case.source.archive)];
-    if case.kind != Kind::Read {
-        fields.extend([list(&case.query.name), list(&case.query.class)]);
-    }
-    match answer {
-        Answer::Read { opens, entries } => {
-            fields.push(opens.to_string());
-            fields.extend(entries.iter().flat_map(|(key, value)| [list(key), list(value)]));
-        }
-        Answer::Bytes(found) => fields.push(found.as_ref().map_or("none".to_string(), |bytes| list(bytes))),
-        Answer::Bool(found) => fields.push(found.map_or("none".to_string(), |is| is.to_string())),
-        Answer::Value(Number::Is(number)) => fields.push(number.to_string()),
-        Answer::Value(Number::NotANumber) => fields.push("notnumber".to_string()),
-        Answer::Value(Number::None) => fields.push("none".to_string()),
-    }
-    fields.join(" | ")
+const HEAD: &str = "\
+-- Made by `make recorded-antt` from the recorded answers of the Rust: the definition gives each of them.
+use mathlib.Core.Bool.{true, false}
+use mathlib.Core.List.{List, [], _∷_, map}
+use mathlib.Core.Option.{some, none}
+use mathlib.Core.Path.{_≡_, refl}
+use lib.IntN.{pos, negsuc}
+use Rattle.definition.specs.Value.{number, notANumber}
+use Rattle.definition.specs.Evaluation.{
+  definition,
+  written,
+  Answer,
+  reads,
+  bytes,
+  truth,
+  value,
+  Row,
+  _~_,
+  entry,
+  read,
+  found,
+  wellFormed,
+  askBytes,
+  askString,
+  askBool,
+  askValue,
 }
 
-/// Bytes as a list of numbers.
+rows : List Row
+rows =
+";
+
+const TAIL: &str = "
+    ∷ []
+
+agree : map (λ (r : Row). r .defined) rows ≡ map (λ (r : Row). r .recorded) rows
+unfolding definition written read found wellFormed askBytes askString askBool askValue rows
+agree = refl";
+
+/// The rows as a module of the definition.
+fn module(rows: &[String]) -> String {
+    format!("{HEAD}    {}{TAIL}", rows.join("\n    ∷ "))
+}
+
+/// One case as a row: what the definition is asked, and what the Rust answered.
+fn row(case: &Case, answer: &Answer) -> String {
+    let word = match case.kind {
+        Kind::Read => "read",
+        Kind::Bytes => "askBytes",
+        Kind::String => "askString",
+        Kind::Bool => "askBool",
+        Kind::Value => "askValue",
+    };
+    let mut asked = vec![&case.source.text, &case.source.archive];
+    if case.kind != Kind::Read {
+        asked.extend([&case.query.name, &case.query.class]);
+    }
+    let asked: Vec<String> = asked.into_iter().map(|bytes| list(bytes)).collect();
+    format!("{word} {} ~ {}", asked.join(" "), recorded(answer))
+}
+
+fn recorded(answer: &Answer) -> String {
+    match answer {
+        Answer::Read { opens, entries } => {
+            let entries: String = entries.iter().map(|(key, value)| format!("entry {} {} ∷ ", list(key), list(value))).collect();
+            if entries.is_empty() {
+                return format!("reads {opens} []");
+            }
+            format!("reads {opens} ({entries}[])")
+        }
+        Answer::Bytes(found) => format!("bytes {}", option(found.as_ref().map(|bytes| list(bytes)))),
+        Answer::Bool(found) => format!("truth {}", option(found.map(|is| is.to_string()))),
+        Answer::Value(Number::Is(number)) => format!("value (some (number {}))", integer(*number)),
+        Answer::Value(Number::NotANumber) => "value (some notANumber)".to_string(),
+        Answer::Value(Number::None) => "value none".to_string(),
+    }
+}
+
+fn option(found: Option<String>) -> String {
+    found.map_or("none".to_string(), |it| format!("(some {it})"))
+}
+
+/// An integer as the prover's library writes it: `negsuc n` is -1 - n.
+fn integer(number: i64) -> String {
+    if number < 0 {
+        format!("(negsuc {})", -1 - i128::from(number))
+    } else {
+        format!("(pos {number})")
+    }
+}
+
+/// Bytes as a list of numbers, in parentheses where it has an element.
 fn list(bytes: &[u8]) -> String {
-    bytes.iter().map(|b| format!("{b} ∷ ")).collect::<String>() + "[]"
+    if bytes.is_empty() {
+        return "[]".to_string();
+    }
+    format!("({}[])", bytes.iter().map(|b| format!("{b} ∷ ")).collect::<String>())
 }

@@ -20,3 +20,4 @@ mod Examples
 mod NameBytes
 mod Manual
 pub mod Numbers
+mod Recorded
