@@ -2,14 +2,13 @@
 use mathlib.Core.Bool.{Bool, true, false, _&&_, _||_, not, or-assoc}
 use mathlib.Core.List.{List, [], _∷_, _++_, map}
 use mathlib.Core.Path.{_≡_, refl, sym, ap, _∙_}
-use Prim.Native.Nat.{ℕ, zero, suc, _+_, _≤_, _<_}
+use Prim.Native.Nat.{ℕ, zero, suc, _+_, _-_, _≤_, _<_}
+use native.Mathlib.Numerals.{add-one, one-add}
 use native.Mathlib.Omega.{arith}
 use native.Mathlib.Decide.{decLt}
 use lib.Dec.{eqb, ltb}
-use lib.ListN.{length, getD, take, drop}
-use lib.ListN.{length, take, drop, getD}
-use lib.ListN.{length, take, drop}
-use lib.Seq.{slice, take-append-add, take-append-seam, drop-append-seam}
+use lib.ListN.{length, getD, take, drop, length-drop, drop-of-length-le}
+use lib.Seq.{slice, take-all, drop-cons, drop-drop, take-append-add, take-append-seam, drop-append-seam}
 use borrow.Author.Tests.{eqb-true, eq-eqb, lt-ltb, le-ltb}
 use Rattle.definition.specs.Lists.{if_then_else_, all, any, takeWhile, dropWhile, filter, isEmpty, orElse, same, lower}
 
@@ -324,3 +323,97 @@ module _ {A : Type 0} where
   pub slice-at : (xs ys zs : List A) (n m : ℕ) → length xs ≡ n → n + length ys ≡ m → slice n m (xs ++ (ys ++ zs)) ≡ ys
   slice-at xs ys zs n m h k =
       rw (← k, ← h, take-append-add xs (ys ++ zs) (length ys), take-append-seam ys zs) (drop-append-seam xs ys)
+
+-- ---- A run of elements that pass a test, as a loop goes through it
+
+module _ {A : Type 0} (p : A → Bool) where
+  pub length-takeWhile-le : (xs : List A) → length (takeWhile p xs) ≤ length xs
+  unfolding takeWhile
+  length-takeWhile-le [] = omega arith
+  length-takeWhile-le (x ∷ xs) = at (p x) (length-takeWhile-le xs)
+    where
+      at : (b : Bool) → length (takeWhile p xs) ≤ length xs → length (if b then x ∷ takeWhile p xs else []) ≤ suc (length xs)
+      at true ih = omega arith
+      at false ih = omega arith
+
+  pub take-run : (xs : List A) → take (length (takeWhile p xs)) xs ≡ takeWhile p xs
+  unfolding takeWhile
+  take-run [] = refl
+  take-run (x ∷ xs) = at (p x) (take-run xs)
+    where
+      at : (b : Bool) → take (length (takeWhile p xs)) xs ≡ takeWhile p xs
+          → take (length (if b then x ∷ takeWhile p xs else [])) (x ∷ xs) ≡ (if b then x ∷ takeWhile p xs else [])
+      at true ih = ap (λ (l : List A). x ∷ l) ih
+      at false ih = refl
+
+  pub drop-run : (xs : List A) → drop (length (takeWhile p xs)) xs ≡ dropWhile p xs
+  unfolding takeWhile dropWhile
+  drop-run [] = refl
+  drop-run (x ∷ xs) = at (p x) (drop-run xs)
+    where
+      at : (b : Bool) → drop (length (takeWhile p xs)) xs ≡ dropWhile p xs
+          → drop (length (if b then x ∷ takeWhile p xs else [])) (x ∷ xs) ≡ (if b then dropWhile p xs else x ∷ xs)
+      at true ih = ih
+      at false ih = refl
+
+  module _ (xs : List A) (i : ℕ) (d : A) (h : i < length xs) where
+    pub run-more : p (getD xs i d) ≡ true → length (takeWhile p (drop i xs)) ≡ 1 + length (takeWhile p (drop (i + 1) xs))
+    unfolding takeWhile
+    run-more e = rw (add-one, drop-cons xs i d h, e, one-add) refl
+
+    pub run-stop : p (getD xs i d) ≡ false → length (takeWhile p (drop i xs)) ≡ 0
+    unfolding takeWhile
+    run-stop e = rw (drop-cons xs i d h, e) refl
+
+  pub run-end : (xs : List A) (i : ℕ) → length xs ≤ i → length (takeWhile p (drop i xs)) ≡ 0
+  unfolding takeWhile
+  run-end xs i h = rw (drop-of-length-le xs h) refl
+
+  pub dropWhile-more : (xs : List A) (d : A) → 0 < length xs → p (getD xs 0 d) ≡ true → dropWhile p xs ≡ dropWhile p (drop 1 xs)
+  unfolding dropWhile
+  dropWhile-more [] d h e = absurd (omega arith)
+  dropWhile-more (x ∷ xs) d h e = rw e refl
+
+  pub dropWhile-stop : (xs : List A) (d : A) → p (getD xs 0 d) ≡ false → dropWhile p xs ≡ xs
+  unfolding dropWhile
+  dropWhile-stop [] d e = refl
+  dropWhile-stop (x ∷ xs) d e = rw e refl
+
+  pub dropWhile-end : (xs : List A) → length xs ≡ 0 → dropWhile p xs ≡ xs
+  unfolding dropWhile
+  dropWhile-end [] e = refl
+  dropWhile-end (x ∷ xs) e = absurd (omega arith)
+
+-- ---- A list from a place on
+
+module _ {A : Type 0} where
+  -- a part from n on, as the borrow checker gives it
+  pub part-rest : (xs : List A) (n : ℕ) → take (length xs - n) (drop n xs) ≡ drop n xs
+  part-rest xs n = take-all (length xs - n) (drop n xs) (simp length-drop (omega arith))
+
+  pub length-part-rest : (xs : List A) (n : ℕ) → length (take (length xs - n) (drop n xs)) ≡ length xs - n
+  length-part-rest xs n = ap length (part-rest xs n) ∙ length-drop n xs
+
+-- what is left of a text: u is t from some place on
+pub record Suffix {A : Type 0} (u t : List A) : Type 0 where
+  pub most : length u ≤ length t
+  pub same : drop (length t - length u) t ≡ u
+
+module _ {A : Type 0} where
+  pub suffix-whole : (t : List A) → Suffix t t
+  suffix-whole t = record { most = omega arith; same = let e : length t - length t ≡ 0 = omega arith in rw e refl }
+
+  module _ {u t : List A} (s : Suffix u t) where
+    pub suffix-drop : (n : ℕ) → n ≤ length u → Suffix (drop n u) t
+    suffix-drop n h =
+        let e : length t - (length u - n) ≡ length t - length u + n = omega (arith, s .most) in
+        record {
+          most = omega (arith, length-drop n u, s .most);
+          same = rw (length-drop n u, e, ← drop-drop n (length t - length u) t, s .same) refl;
+        }
+
+    pub suffix-part : (n : ℕ) → n ≤ length u → Suffix (take (length u - n) (drop n u)) t
+    suffix-part n h = rw (part-rest u n) (suffix-drop n h)
+
+    pub suffix-run : (p : A → Bool) → Suffix (dropWhile p u) t
+    suffix-run p = rw (← drop-run p u) (suffix-drop (length (takeWhile p u)) (length-takeWhile-le p u))

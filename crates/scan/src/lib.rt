@@ -1,0 +1,138 @@
+// Bytes, runs of bytes and include directives: the common helpers and skippers of the Rust's parser.
+ghost use mathlib.Core.Path.{_≡_};
+ghost use mathlib.Core.Option.{some, none};
+ghost use lib.ListN.{length, drop};
+ghost use Rattle.definition.specs.Lists.{if_then_else_, takeWhile, dropWhile};
+ghost use Rattle.definition.specs.Parsing.{after};
+ghost use Rattle.definition.specs.Bytes.{isOctal, isName, isBlank, isSpace};
+ghost use Rattle.definition.specs.Text.{lineEnd, inQuotes};
+ghost use Rattle.scan.specs.Scanned.{Included};
+
+// What follows a `#`: the start and the length of an include's name, or no include.
+pub enum Include {
+    Named(usize, usize),
+    Other,
+}
+
+pub fn is_octal_digit(c: u8) -> bool
+    ensures { λ r. ⌜ r ≡ isOctal c ⌝ }
+{
+    match c {
+        b'0'..=b'7' => true,
+        _ => false,
+    }
+}
+
+pub fn allowed_in_quark_name(c: u8) -> bool
+    ensures { λ r. ⌜ r ≡ isName c ⌝ }
+{
+    match c {
+        b'A'..=b'Z' | b'a'..=b'z' | b'0'..=b'9' | b'_' | b'-' => true,
+        _ => false,
+    }
+}
+
+pub fn is_blank(c: u8) -> bool
+    ensures { λ r. ⌜ r ≡ isBlank c ⌝ }
+{
+    match c {
+        b' ' | b'\t' => true,
+        _ => false,
+    }
+}
+
+// From the line's newline on.
+pub fn skip_to_eol(text: &[u8]) -> &[u8]
+    ensures { λ r. ⌜ now r ≡ lineEnd (now (text .entry)) ⌝ }
+{
+    let mut rest = text;
+    while rest.len() > 0 {
+        if rest[0] == b'\n' {
+            return rest;
+        }
+        rest = &rest[1..];
+    }
+    rest
+}
+
+pub fn skip_spaces(text: &[u8]) -> &[u8]
+    ensures { λ r. ⌜ now r ≡ dropWhile isSpace (now (text .entry)) ⌝ }
+{
+    let mut rest = text;
+    while rest.len() > 0 {
+        if rest[0] != b' ' {
+            return rest;
+        }
+        rest = &rest[1..];
+    }
+    rest
+}
+
+// How many bytes of a name stand first.
+pub fn next_component(text: &[u8]) -> usize
+    ensures { λ r. ⌜ r ≡ length (takeWhile isName (now (text .entry))) ⌝ }
+{
+    let mut i = 0;
+    while i < text.len() {
+        if !allowed_in_quark_name(text[i]) {
+            return i;
+        }
+        i += 1;
+    }
+    i
+}
+
+// Does `text` begin with `word`?
+pub fn starts_with(text: &[u8], word: &[u8]) -> bool
+    ensures { λ r. ⌜ after (now (word .entry)) (now (text .entry)) ≡ (if r then some (drop (length (now (word .entry))) (now (text .entry))) else none) ⌝ }
+{
+    if text.len() < word.len() {
+        return false;
+    }
+    let mut i = 0;
+    while i < word.len() {
+        if text[i] != word[i] {
+            return false;
+        }
+        i += 1;
+    }
+    true
+}
+
+// How many bytes stand before the next `"` or newline.
+fn quoted_length(text: &[u8]) -> usize
+    ensures { λ r. ⌜ r ≡ length (takeWhile inQuotes (now (text .entry))) ⌝ }
+{
+    let mut i = 0;
+    while i < text.len() {
+        let c = text[i];
+        if c == b'"' {
+            return i;
+        }
+        if c == b'\n' {
+            return i;
+        }
+        i += 1;
+    }
+    i
+}
+
+// The include that `text`, which follows a `#`, asks for.
+pub fn parse_include(text: &[u8]) -> Include
+    ensures { λ r. ⌜ Included (now (text .entry)) r ⌝ }
+{
+    let line = skip_spaces(text);
+    if !starts_with(line, b"include") {
+        return Include::Other;
+    }
+    let quoted = skip_spaces(&line[7..]);
+    if !starts_with(quoted, b"\"") {
+        return Include::Other;
+    }
+    let name = &quoted[1..];
+    let n = quoted_length(name);
+    if !starts_with(&name[n..], b"\"") {
+        return Include::Other;
+    }
+    Include::Named(text.len() - name.len(), n)
+}
