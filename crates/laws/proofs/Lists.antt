@@ -6,10 +6,11 @@ use Prim.Native.Nat.{ℕ, zero, suc, _+_, _-_, _≤_, _<_}
 use native.Mathlib.Numerals.{add-one, one-add}
 use native.Mathlib.Omega.{arith}
 use native.Mathlib.Decide.{decLt}
-use lib.Dec.{eqb, ltb}
+use lib.Dec.{eqb, ltb, leb}
 use lib.ListN.{length, getD, take, drop, length-drop, drop-of-length-le}
 use lib.Seq.{slice, take-all, drop-cons, drop-drop, take-append-add, take-append-seam, drop-append-seam}
-use borrow.Author.Tests.{eqb-true, eq-eqb, lt-ltb, le-ltb}
+use borrow.Author.Tests.{eqb-true, eq-eqb, lt-ltb, le-ltb, le-leb, lt-leb}
+use Rattle.definition.specs.Bytes.{within}
 use Rattle.definition.specs.Lists.{if_then_else_, all, any, takeWhile, dropWhile, filter, isEmpty, orElse, same, lower}
 
 -- ---- Tests
@@ -417,3 +418,19 @@ module _ {A : Type 0} where
 
     pub suffix-run : (p : A → Bool) → Suffix (dropWhile p u) t
     suffix-run p = rw (← drop-run p u) (suffix-drop (length (takeWhile p u)) (length-takeWhile-le p u))
+
+-- ---- A number in a range
+
+module _ (a b c : ℕ) where
+  pub in-range : a ≤ c → c ≤ b → within a b c ≡ true
+  in-range h k = rw (le-leb a c h, le-leb c b k) refl
+
+  pub below-range : c < a → within a b c ≡ false
+  below-range h = rw (lt-leb a c h) refl
+
+  pub above-range : b < c → within a b c ≡ false
+  above-range h = rw (lt-leb c b h) (at (leb a c))
+    where
+      at : (x : Bool) → (x && false) ≡ false
+      at true = refl
+      at false = refl

@@ -1,0 +1,2 @@
+-- Laws of the readings, as the code goes through a value's bytes.
+pub mod Characters
