@@ -49,7 +49,8 @@ module _ (c : ℕ) (t : List ℕ) where
   rows-above ([] ∷ above) h = absurd h
   rows-above ((r ∷ row) ∷ above) h = rw (below-range (r .low) (r .high) c (h .0)) (rows-above above (h .1))
 
-  row-here : (below : List (List Range)) (r : Range) (row : List Range) (above : List (List Range)) → Below c below → r .low ≤ c → c ≤ r .high → Above c above
+  row-here : (below : List (List Range)) (r : Range) (row : List Range) (above : List (List Range))
+      → Below c below → r .low ≤ c → c ≤ r .high → Above c above
       → firstRow (below ++ (r ∷ row) ∷ above) (c ∷ t) ≡ afterRow row t
   unfolding firstRow afterRow
   row-here below r row above h j k l =
