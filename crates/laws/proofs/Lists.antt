@@ -9,7 +9,7 @@ use native.Mathlib.Decide.{decLt}
 use lib.Dec.{eqb, ltb, leb}
 use lib.ListN.{length, getD, take, drop, length-drop, drop-of-length-le}
 use lib.Seq.{slice, take-all, drop-cons, drop-drop, take-append-add, take-append-seam, drop-append-seam}
-use borrow.Author.Tests.{eqb-true, eq-eqb, lt-ltb, le-ltb, le-leb, lt-leb}
+use borrow.Author.Tests.{eqb-true, eq-eqb, lt-ltb, le-ltb, le-leb, lt-leb, leb-true}
 use Rattle.definition.specs.Bytes.{within}
 use Rattle.definition.specs.Lists.{if_then_else_, all, any, takeWhile, dropWhile, filter, isEmpty, orElse, same, lower}
 
@@ -434,3 +434,6 @@ module _ (a b c : ℕ) where
       at : (x : Bool) → (x && false) ≡ false
       at true = refl
       at false = refl
+
+  pub range-bounds : within a b c ≡ true → (a ≤ c) × (c ≤ b)
+  range-bounds e = let k = and-true (leb a c) (leb c b) e in (leb-true a c (k .0), leb-true c b (k .1))
