@@ -23,12 +23,12 @@ returns : tie.Need-returns Inv-loop μ-loop
 unfolding naturalIn
 returns c =
     let start-here = c .before .before in
-    sym (natural-none (start-here .args .text .now) (c .if1 .taken))
+    sym (natural-none (start-here .args .text .now) (omega arith))
 
 loop-holds : tie.Need-loop-holds Inv-loop μ-loop
 loop-holds c =
     let start-here = c .before .before in
-    (search needs, ap magnitude (natural-first (start-here .args .text .now) (c .if1 .left)))
+    (search needs, ap magnitude (natural-first (start-here .args .text .now) (λ e. omega (arith, c .if1 .left))))
 
 shared-slice-read-c : tie.Need-shared-slice-read-c Inv-loop μ-loop
 shared-slice-read-c c = search needs

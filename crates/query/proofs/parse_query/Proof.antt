@@ -109,13 +109,13 @@ returns-2 : tie.Need-returns-2 Inv-loop μ-loop
 returns-2 c =
     let start-here = c .before .before .before .before in
     let loop-here = c .before .before in
-    too-many (start-here .args .text .now) (loop-here .loop .split) (loop-here .loop .rest .now) (loop-here .loop .inv) (search needs) (c .if3 .taken)
+    too-many (start-here .args .text .now) (loop-here .loop .split) (loop-here .loop .rest .now) (loop-here .loop .inv) (search needs) (omega arith)
 
 returns-3 : tie.Need-returns-3 Inv-loop μ-loop
 returns-3 c =
     let start-here = c .before .before .before .before in
     let loop-here = c .before .before in
-    good (start-here .args .text .now) (loop-here .loop .split) (loop-here .loop .rest .now) (loop-here .loop .inv) (search needs) (c .if3 .left)
+    good (start-here .args .text .now) (loop-here .loop .split) (loop-here .loop .rest .now) (loop-here .loop .inv) (search needs) (omega arith)
 
 pub parse-query-spec : {M : Type 1} → statement M
 parse-query-spec =
