@@ -57,13 +57,10 @@ pub fn parse_query(text: &[u8]) -> Query
         count: 0,
     };
     let mut rest = text;
-    while rest.len() > 0 {
+    loop {
         let n = next_component(rest);
         if n == 0 {
-            return Query {
-                shape: Shape::Malformed,
-                split: split,
-            };
+            break;
         }
         let count = split.count;
         if count < QUERY_PARTS {
@@ -72,6 +69,12 @@ pub fn parse_query(text: &[u8]) -> Query
         }
         split.count = count + 1;
         rest = skip_dots(&rest[n..]);
+    }
+    if rest.len() > 0 {
+        return Query {
+            shape: Shape::Malformed,
+            split: split,
+        };
     }
     if QUERY_PARTS < split.count {
         return Query {

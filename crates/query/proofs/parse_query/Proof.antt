@@ -21,14 +21,6 @@ loop-holds c = begun _ _ refl refl refl
 next-component-requires : tie.Need-next-component-requires Inv-loop μ-loop
 next-component-requires c κs = search needs
 
-returns : tie.Need-returns Inv-loop μ-loop
-returns c =
-    let start-here = c .before .before .before .before .before in
-    let loop-here = c .before .before .before in
-    let loop-test-here = c .before .before in
-    malformed (start-here .args .text .now) (loop-here .loop .split) (loop-here .loop .rest .now) (loop-here .loop .inv) (search needs)
-    (sym (c .before .next-component .ensures) ∙ c .if1 .taken)
-
 sub-split : tie.Need-sub-split Inv-loop μ-loop
 sub-split c = search needs
 
@@ -43,7 +35,7 @@ element-write-split c = search needs
 
 cast-split-2 : tie.Need-cast-split-2 Inv-loop μ-loop
 cast-split-2 c =
-    let loop-here = c .before .before .before .before in
+    let loop-here = c .before .before .before in
     omega (arith, length-takeWhile-le isName (loop-here .loop .rest .now))
 
 mul-split-2 : tie.Need-mul-split-2 Inv-loop μ-loop
@@ -57,12 +49,12 @@ add-split c = search needs
 
 sub-skip-dots : tie.Need-sub-skip-dots Inv-loop μ-loop
 sub-skip-dots c =
-    let loop-here = c .before .before .before .before in
+    let loop-here = c .before .before .before in
     omega (arith, length-takeWhile-le isName (loop-here .loop .rest .now))
 
 part-skip-dots-start : tie.Need-part-skip-dots-start Inv-loop μ-loop
 part-skip-dots-start c =
-    let loop-here = c .before .before .before .before in
+    let loop-here = c .before .before .before in
     omega (arith, length-takeWhile-le isName (loop-here .loop .rest .now))
 
 part-skip-dots-end : tie.Need-part-skip-dots-end Inv-loop μ-loop
@@ -73,8 +65,8 @@ skip-dots-requires c κs = search needs
 
 loop-less : tie.Need-loop-less Inv-loop μ-loop
 loop-less c =
-    let start-here = c .before .before .before .before .before .before .before .before in
-    let loop-here = c .before .before .before .before .before .before in
+    let start-here = c .before .before .before .before .before .before .before in
+    let loop-here = c .before .before .before .before .before in
     let next-component-here = c .before .before .before .before in
     let if1-here = c .before .before .before in
     let n = next-component-here .next-component .result in
@@ -89,8 +81,8 @@ loop-less c =
 
 loop-again : tie.Need-loop-again Inv-loop μ-loop
 loop-again c =
-    let start-here = c .before .before .before .before .before .before .before .before in
-    let loop-here = c .before .before .before .before .before .before in
+    let start-here = c .before .before .before .before .before .before .before in
+    let loop-here = c .before .before .before .before .before in
     let next-component-here = c .before .before .before .before in
     let if1-here = c .before .before .before in
     let if2-here = c .before .before in
@@ -105,16 +97,25 @@ loop-again c =
     (λ o. rw (o .1) (past text split rest (loop-here .loop .inv) n e z (c .skip-dots .result .now) (c .skip-dots .ensures) (o .0 .left)))
     (if2-here .if2 .came)
 
+returns : tie.Need-returns Inv-loop μ-loop
+returns c =
+    let start-here = c .before .before .before .before .before in
+    let loop-here = c .before .before .before in
+    let next-component-here = c .before .before in
+    let if1-here = c .before in
+    malformed (start-here .args .text .now) (loop-here .loop .split) (loop-here .loop .rest .now) (loop-here .loop .inv) (omega arith)
+    (sym (next-component-here .next-component .ensures) ∙ if1-here .if1 .taken)
+
 returns-2 : tie.Need-returns-2 Inv-loop μ-loop
 returns-2 c =
-    let start-here = c .before .before .before .before in
-    let loop-here = c .before .before in
+    let start-here = c .before .before .before .before .before .before in
+    let loop-here = c .before .before .before .before in
     too-many (start-here .args .text .now) (loop-here .loop .split) (loop-here .loop .rest .now) (loop-here .loop .inv) (search needs) (omega arith)
 
 returns-3 : tie.Need-returns-3 Inv-loop μ-loop
 returns-3 c =
-    let start-here = c .before .before .before .before in
-    let loop-here = c .before .before in
+    let start-here = c .before .before .before .before .before .before in
+    let loop-here = c .before .before .before .before in
     good (start-here .args .text .now) (loop-here .loop .split) (loop-here .loop .rest .now) (loop-here .loop .inv) (search needs) (omega arith)
 
 pub parse-query-spec : {M : Type 1} → statement M
@@ -125,7 +126,6 @@ parse-query-spec =
     μ-loop
     loop-holds
     next-component-requires
-    returns
     sub-split
     cast-split
     mul-split
@@ -140,5 +140,6 @@ parse-query-spec =
     skip-dots-requires
     loop-less
     loop-again
+    returns
     returns-2
     returns-3)
