@@ -1,17 +1,15 @@
 -- Document 01's table of numbers, an example each, and what an accepted and a refused reading leave, by evaluating the definition.
-use mathlib.Core.Bool.{Bool, true, false}
+use mathlib.Core.Bool.{true, false}
 use mathlib.Core.List.{List, [], _∷_, _++_}
-use mathlib.Core.Option.{Option, some, none}
+use mathlib.Core.Option.{some}
 use mathlib.Core.Path.{_≡_, refl}
 use Prim.Native.Nat.{ℕ, zero, suc, _+_, _*_, _/_, _%_}
-use Prim.Native.String.{String}
-use lib.ListN.{replicate, take, drop, getD}
-use lib.IntN.{ℤ, pos, negsuc}
-use Rattle.definition.specs.Lists.{ascii, beyond, zeroes}
-use Rattle.definition.specs.Archive.{File, archiveOf, filesOf, struckOff, laidOut}
-use Rattle.definition.specs.Reading.{Answer, accepted, refused, Outcome, outcome, reading, judge, start, met, within, past, Verdict}
+use lib.ListN.{replicate}
+use Rattle.definition.specs.Lists.{ascii}
+use Rattle.definition.specs.Archive.{File, archiveOf, laidOut}
+use Rattle.definition.specs.Reading.{Answer, accepted, refused, outcome, reading, judge, start, met, within, past}
 use Rattle.definition.specs.Lookup.{Reply, given, noValue, refused as refusedReply, Place, getBytes}
-use Rattle.definition.specs.Value.{toBool, i64Of, isUtf8, getString, getBool, getValue, Number, number, notANumber, shown}
+use Rattle.definition.specs.Value.{toBool, isUtf8}
 use Rattle.definition.specs.Evaluation.{definition, noFiles, file}
 use Rattle.definition.specs.Numbers.{copies, contents, bodies, name, include, look}
 

@@ -1,15 +1,15 @@
 -- Lookups, readings of a value and archives, by evaluating the definition. The crate `bounds` has the examples at the limits.
 use mathlib.Core.Bool.{Bool, true, false}
 use mathlib.Core.List.{List, [], _∷_, _++_}
-use mathlib.Core.Option.{Option, some, none}
+use mathlib.Core.Option.{some, none}
 use mathlib.Core.Path.{_≡_, refl}
-use Prim.Native.Nat.{ℕ, zero, suc, _+_, _*_, _/_, _%_}
+use Prim.Native.Nat.{ℕ, zero, suc, _+_, _/_}
 use Prim.Native.String.{String}
-use lib.ListN.{replicate, take, drop, getD}
-use lib.IntN.{ℤ, pos, negsuc}
-use Rattle.definition.specs.Lists.{ascii, beyond, zeroes}
-use Rattle.definition.specs.Archive.{File, archiveOf, filesOf, struckOff, laidOut}
-use Rattle.definition.specs.Reading.{Answer, accepted, refused, Outcome, outcome, reading, judge, start, met, within, past, Verdict}
+use lib.ListN.{replicate, drop}
+use lib.IntN.{pos, negsuc}
+use Rattle.definition.specs.Lists.{ascii}
+use Rattle.definition.specs.Archive.{archiveOf, struckOff, laidOut}
+use Rattle.definition.specs.Reading.{Outcome, reading, judge, start, met, within}
 use Rattle.definition.specs.Lookup.{Reply, given, noValue, refused as refusedReply, Place, getBytes}
 use Rattle.definition.specs.Value.{toBool, i64Of, isUtf8, getString, getBool, getValue, Number, number, notANumber, shown}
 use Rattle.definition.specs.Image.{writtenOver}

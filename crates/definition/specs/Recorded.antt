@@ -5,25 +5,7 @@ use mathlib.Core.Option.{some, none}
 use mathlib.Core.Path.{_≡_, refl}
 use lib.IntN.{pos, negsuc}
 use Rattle.definition.specs.Value.{number, notANumber}
-use Rattle.definition.specs.Evaluation.{
-  definition,
-  written,
-  Answer,
-  reads,
-  bytes,
-  truth,
-  value,
-  Row,
-  _~_,
-  entry,
-  read,
-  found,
-  wellFormed,
-  askBytes,
-  askString,
-  askBool,
-  askValue,
-}
+use Rattle.definition.specs.Evaluation.{definition, written, reads, bytes, truth, value, Row, _~_, entry, read, found, wellFormed, askBytes, askString, askBool, askValue}
 
 rows : List Row
 rows =

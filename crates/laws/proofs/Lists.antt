@@ -1,5 +1,5 @@
 -- Laws of the words for lists. Assumes nothing.
-use mathlib.Core.Bool.{Bool, true, false, _&&_, _||_, not, or-assoc, or-true, and-assoc}
+use mathlib.Core.Bool.{Bool, true, false, _&&_, _||_, or-assoc, or-true, and-assoc}
 use mathlib.Core.List.{List, [], _∷_, _++_, map, append-assoc}
 use mathlib.Core.Path.{_≡_, refl, sym, ap, _∙_}
 use Prim.Native.Nat.{ℕ, zero, suc, _+_, _-_, _≤_, _<_}
@@ -8,11 +8,11 @@ use native.Mathlib.Omega.{arith}
 use native.Mathlib.Decide.{decLt}
 use lib.Dec.{eqb, ltb, leb}
 use lib.ListN.{length, getD, take, drop, length-drop, drop-of-length-le, set, length-append, length-set}
-use lib.Seq.{slice, take-append-add, take-append-seam, drop-append-seam, take-all, drop-cons, drop-drop, paste, take-length, length-take-le, sets-eq, take-paste, drop-paste, set-split, append-snoc}
+use lib.Seq.{slice, take-append-add, take-append-seam, drop-append-seam, take-all, drop-cons, drop-drop, paste, take-length, length-take-le, sets-eq, take-paste, drop-paste}
 use native.Mathlib.Nat.{le-refl}
 use borrow.Author.Tests.{eqb-true, eq-eqb, lt-ltb, le-ltb, ne-eqb, le-leb, lt-leb, leb-true}
 use Rattle.definition.specs.Bytes.{within}
-use Rattle.definition.specs.Lists.{if_then_else_, all, any, takeWhile, dropWhile, filter, isEmpty, orElse, same, lower}
+use Rattle.definition.specs.Lists.{if_then_else_, all, any, takeWhile, dropWhile, filter, same, lower}
 
 -- ---- Tests
 
