@@ -1,24 +1,22 @@
 -- How examples are evaluated: by unfolding all of the definition.
-use mathlib.Core.Bool.{Bool, true, false}
-use mathlib.Core.List.{List, [], _∷_, _++_, map, flatten}
+use mathlib.Core.Bool.{Bool}
+use mathlib.Core.List.{List, [], _∷_, map, flatten}
 use mathlib.Core.Option.{Option, some, none}
-use mathlib.Core.Path.{_≡_, refl}
-use Prim.Native.Nat.{ℕ, zero, suc, _+_}
+use Prim.Native.Nat.{ℕ}
 use Prim.Native.String.{String}
-use lib.ListN.{length, replicate}
-use Rattle.definition.specs.Lists.{ascii, all, any, takeWhile, dropWhile, filter, isEmpty, orElse, beyond, zeroes, same, lower}
-use Rattle.definition.specs.Parsing.{continued, atMost, many, after}
+use Rattle.definition.specs.Lists.{if_then_else_, ascii, all, any, takeWhile, dropWhile, filter, isEmpty, orElse, beyond, zeroes, same, lower}
+use Rattle.definition.specs.Parsing.{continued, atMost, many, _>>=_, after}
 use Rattle.definition.specs.Bytes.{isDigit, isOctal, isName, isBlank, isSpace, isBinding, notNewline}
 use Rattle.definition.specs.Archive.{File, lengthsOf, bodiesOf, archiveOf, filesFrom, filesOf, prefixed, split, isNamePart, isFileName, rising, laidOut, struckOff, folderOf, pathOf, bodyOf}
-use Rattle.definition.specs.Text.{Entry, bindingOf, componentAt, partAt, isNamed, endsInName, positional, lineEnds, octalOf, escapeAt, pieceAt, afterBlanks, lineEnd, includeOf, assigned, resourceOf, directiveOf, lineAt, linesOf}
+use Rattle.definition.specs.Text.{bindingOf, componentAt, partAt, isNamed, endsInName, positional, lineEnds, octalOf, escapeAt, pieceAt, afterBlanks, lineEnd, includeOf, assigned, resourceOf, directiveOf, lineAt, linesOf}
 use Rattle.definition.specs.Including.{Entered, eventsOf, opening, including, events, entriesOf, opensOf}
 use Rattle.definition.specs.Image.{keyOf, rowsOf, storeOf, contentsOf, writtenOver, rowsFrom, storedPartAt, entriesIn, isKey, packed, isImage}
-use Rattle.definition.specs.Reading.{judge, left, reading, Verdict, within, past, met, start, Outcome, outcome, accepted, refused, plain, readEntries}
+use Rattle.definition.specs.Reading.{judge, left, reading, met, plain, readEntries}
 use Rattle.definition.specs.Query.{queryPartAt, namesOf, positionsOf, countedQuery, queryOf}
 use Rattle.definition.specs.Matching.{equals, matchAt, markOf, markAt}
 use Rattle.definition.specs.Ranking.{meetRow, skipRow, rankOf, better, bestFrom, bestOf}
 use Rattle.definition.specs.Lookup.{valueOf, answerOf, placeOf, lookup, getBytes, answerIn}
-use Rattle.definition.specs.Value.{table, afterRow, firstRow, character, characterAt, isUtf8, naturalOf, signed, i64Of, lowercase, wordOf, nonZero, toBool, replied, readAs, numberOf, bytesOr, getString, getBool, getValue, shown}
+use Rattle.definition.specs.Value.{Number, table, afterRow, firstRow, character, characterAt, isUtf8, naturalOf, signed, i64Of, lowercase, wordOf, nonZero, toBool, replied, readAs, numberOf, bytesOr, getString, getBool, getValue, shown}
 
 -- an example unfolds all of the definition
 unfoldable pub definition : ℕ
@@ -70,3 +68,45 @@ valueIn (w ∷ v ∷ ws) = none
 -- what a query gets from a main text's entries
 unfoldable pub answer : String → String → String → Option (List ℕ)
 answer t name class = answerOf (plain (readEntries (ascii t) noFiles)) (queryOf (ascii name) (ascii class))
+
+-- ---- What was recorded of the Rust
+
+pub data Answer : Type 0 where
+  reads : ℕ → List Written → Answer
+  bytes : Option (List ℕ) → Answer
+  truth : Option Bool → Answer
+  value : Option Number → Answer
+
+-- what the definition answers, and what the Rust did
+pub record Row : Type 0 where
+  pub defined : Answer
+  pub recorded : Answer
+
+abbrev pub _~_ : Answer → Answer → Row
+_~_ a b = record { defined = a; recorded = b }
+
+infix 70 _~_
+abbrev pub entry : List ℕ → List ℕ → Written
+entry k v = record { key = k; value = v }
+
+unfoldable pub read : List ℕ → List ℕ → Answer
+read t s = reads (opensOf (met t s)) (written (readEntries t s))
+
+module _ (text archive name class : List ℕ) where
+  unfoldable pub found : Option (List ℕ)
+  found = answerOf (plain (readEntries text archive)) (queryOf name class)
+
+  unfoldable pub wellFormed : Option (List ℕ)
+  wellFormed = found >>= (λ v. if isUtf8 v then some v else none)
+
+  unfoldable pub askBytes : Answer
+  askBytes = bytes found
+
+  unfoldable pub askString : Answer
+  askString = bytes wellFormed
+
+  unfoldable pub askBool : Answer
+  askBool = truth (wellFormed >>= toBool)
+
+  unfoldable pub askValue : Answer
+  askValue = value (wellFormed >>= (λ v. some (numberOf (i64Of v))))

@@ -1,8 +1,7 @@
 -- Document 01's proved examples: one table, proved by evaluating the definition.
-use mathlib.Core.List.{List, [], _∷_}
-use mathlib.Core.Option.{Option, some, none}
+use mathlib.Core.List.{[], _∷_}
+use mathlib.Core.Option.{some, none}
 use mathlib.Core.Path.{_≡_, refl}
-use Prim.Native.Nat.{ℕ}
 use Rattle.definition.specs.Lists.{ascii}
 use Rattle.definition.specs.Query.{namesOf}
 use Rattle.definition.specs.Evaluation.{definition, line, written, entriesWith, entries, valueIn, answer}

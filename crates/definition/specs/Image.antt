@@ -1,12 +1,12 @@
 -- The database image (document 01, "The database image"): written from entries, judged, and read back.
-use mathlib.Core.Bool.{Bool, true, false, _&&_, _||_, not}
+use mathlib.Core.Bool.{Bool, _&&_, _||_, not}
 use mathlib.Core.List.{List, [], _∷_, _++_}
-use Prim.Native.Nat.{ℕ, zero, suc, _+_, _*_, _-_}
+use Prim.Native.Nat.{ℕ, zero, suc, _+_, _-_}
 use lib.Dec.{eqb, leb, ltb}
-use lib.ListN.{length, take, drop, getD}
+use lib.ListN.{length, drop, getD}
 use lib.Seq.{slice}
 use Rattle.definition.specs.Lists.{if_then_else_, all, isEmpty, zeroes, beyond}
-use Rattle.definition.specs.Parsing.{Parse, nothing, found, Parsed, many}
+use Rattle.definition.specs.Parsing.{Parse, nothing, many}
 use Rattle.definition.specs.Limits.{contentsWords, bodyBytes, rowWords, mostEntries, mostParts}
 use Rattle.definition.specs.Bytes.{dot, star, question, isBinding}
 use Rattle.definition.specs.Text.{Binding, tight, loose, Component, wildcard, name, Part, Entry, bindingOf, componentAt, endsInName}

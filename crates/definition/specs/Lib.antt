@@ -19,4 +19,5 @@ pub mod Evaluation
 mod Examples
 mod NameBytes
 mod Manual
-mod Numbers
+pub mod Numbers
+mod Recorded

@@ -1,8 +1,8 @@
 -- Words for tests and lists that the definition is written in. They say nothing of resources.
 use mathlib.Core.Bool.{Bool, true, false, _&&_, _||_}
-use mathlib.Core.List.{List, [], _∷_, _++_}
+use mathlib.Core.List.{List, [], _∷_}
 use mathlib.Core.Option.{Option, some, none}
-use Prim.Native.Nat.{ℕ, zero, suc}
+use Prim.Native.Nat.{ℕ}
 use Prim.Native.String.{String, [] as ε, _∷_ as _◁_}
 use Prim.Native.Char.{code}
 use lib.Dec.{eqb, ltb}

@@ -1,6 +1,6 @@
 -- `get_bytes`: the value of the entry that beats the rest (document 01, "Matching" and "Readings of a value").
-use mathlib.Core.Bool.{Bool, true, false, not}
-use mathlib.Core.List.{List, [], _∷_, map}
+use mathlib.Core.Bool.{not}
+use mathlib.Core.List.{List, [], map}
 use mathlib.Core.Option.{Option, some, none}
 use Prim.Native.Nat.{ℕ, _+_}
 use lib.ListN.{getD}

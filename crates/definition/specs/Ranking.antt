@@ -1,5 +1,4 @@
 -- The same as Matching, computed: which entry beats the rest, if any. The crate `laws` shows that the two agree.
-use mathlib.Core.Bool.{Bool, true, false}
 use mathlib.Core.List.{List, [], _∷_}
 use mathlib.Core.Option.{Option, some, none}
 use Prim.Native.Nat.{ℕ, suc}

@@ -1,7 +1,7 @@
 -- The reading call: document 01's limits laid over what a reading meets, and what the call leaves in the two lent buffers.
-use mathlib.Core.Bool.{Bool, true, false, not}
+use mathlib.Core.Bool.{not}
 use mathlib.Core.List.{List, [], _∷_, map}
-use Prim.Native.Nat.{ℕ, zero, suc, _+_}
+use Prim.Native.Nat.{ℕ, _+_}
 use lib.Dec.{leb, ltb}
 use lib.ListN.{length}
 use Rattle.definition.specs.Lists.{if_then_else_}

@@ -1,9 +1,9 @@
 -- Reading a text, line by line (document 01, "Reading a text"; Xlib 15.1; `parse_database` and `parse_entry`).
 -- A departure of the Rust from the manual is marked "Departure" where it stands.
 use mathlib.Core.Bool.{Bool, true, false, _&&_, _||_, not}
-use mathlib.Core.List.{List, [], _∷_, _++_, flatten}
+use mathlib.Core.List.{List, [], _∷_, flatten}
 use mathlib.Core.Option.{Option, some, none}
-use Prim.Native.Nat.{ℕ, zero, suc, _+_, _*_, _-_, _%_}
+use Prim.Native.Nat.{ℕ, _+_, _*_, _-_, _%_}
 use lib.Dec.{eqb}
 use lib.ListN.{length, take, drop}
 use Rattle.definition.specs.Lists.{if_then_else_, ascii, any, takeWhile, dropWhile}

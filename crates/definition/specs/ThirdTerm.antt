@@ -1,15 +1,14 @@
 -- What the buyer's third term says, in its words; the crate `laws` proves it of the definition.
 use mathlib.Core.Bool.{Bool, true, false, not}
-use mathlib.Core.List.{List, [], _∷_}
+use mathlib.Core.List.{List, []}
 use mathlib.Core.Logic.{_↔_, _⊎_}
 use mathlib.Core.Option.{Option}
 use mathlib.Core.Path.{_≡_}
 use Prim.Native.Nat.{ℕ, _<_}
 use lib.ListN.{length, getD}
 use Rattle.definition.specs.Lists.{any, filter, same}
-use Rattle.definition.specs.Archive.{File, filesOf, struckOff}
-use Rattle.definition.specs.Text.{Part}
-use Rattle.definition.specs.Including.{Chain, Entered}
+use Rattle.definition.specs.Archive.{filesOf, struckOff}
+use Rattle.definition.specs.Including.{Entered}
 use Rattle.definition.specs.Image.{tooShort}
 use Rattle.definition.specs.Reading.{Answer, accepted, refused as refusedReading, Outcome, reading, readEntries, plain}
 use Rattle.definition.specs.Query.{Query, positions, malformed, pastLimit, queryOf}

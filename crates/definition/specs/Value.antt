@@ -1,5 +1,5 @@
 -- Readings of a value (document 01, "Readings of a value"; `get_string`, `get_bool`, `to_bool`, `get_value`).
-use mathlib.Core.Bool.{Bool, true, false, _&&_, _||_, not}
+use mathlib.Core.Bool.{Bool, true, false, _&&_, not}
 use mathlib.Core.List.{List, [], _∷_, map}
 use mathlib.Core.Option.{Option, some, none}
 use Prim.Native.Nat.{ℕ, _+_, _-_, _^_}

@@ -6,32 +6,17 @@ use Prim.Native.Nat.{ℕ, zero, suc, _+_, _-_, _*_, _≤_, _<_}
 use native.Mathlib.Omega.{arith}
 use lib.Dec.{leb, ltb}
 use native.Mathlib.Nat.{sub-zero}
-use lib.ListN.{length, take, drop, set, length-append, length-drop, length-set, take-append-drop, drop-of-length-le}
+use lib.ListN.{length, take, drop, set, length-append, take-append-drop, drop-of-length-le}
 use lib.Seq.{paste, set-at, append-snoc, take-append-seam, take-length, drop-append-add, drop-drop, take-at, length-take-le}
 use Rattle.definition.specs.Lists.{if_then_else_, zeroes, beyond}
 use Rattle.definition.specs.Limits.{mostOpens, mostEntries, mostParts, bodyBytes, contentsWords, rowWords}
 use Rattle.definition.specs.Text.{Entry}
-use Rattle.definition.specs.Including.{Event, opened, entered, Entered, entriesOf}
+use Rattle.definition.specs.Including.{Event, opened, entered, entriesOf}
 use Rattle.definition.specs.Image.{keyOf, rowsOf, storeOf, contentsOf, writtenOver, imageContents, imageBodies}
 use Rattle.definition.specs.Reading as definition
 use Rattle.definition.specs.Reading.{Verdict, within, past, sizeOf, judge, plain, start, accepted, refused, outcome, left}
 use Rattle.laws.proofs.Image.{length-rows}
-use Rattle.image.specs.Running.{
-  World,
-  world,
-  Room,
-  Ran,
-  went,
-  stopped,
-  rowOf,
-  stored,
-  put,
-  counted,
-  openOne,
-  step,
-  andThen,
-  run,
-}
+use Rattle.image.specs.Running.{World, world, Ran, went, stopped, rowOf, stored, put, counted, openOne, andThen, run}
 use Rattle.image.specs.declared.Totals.{Totals}
 use Rattle.image.proofs.Runs.{RoomIn, then-went, put-went, open-went, step-room, run-room, size-is}
 

@@ -1,37 +1,20 @@
 -- Laws of runs. Assumes nothing.
 use mathlib.Core.Bool.{Bool, true, false}
 use mathlib.Core.List.{List, [], _∷_, _++_}
-use mathlib.Core.Path.{_≡_, refl, sym, ap, _∙_}
-use Prim.Native.Nat.{ℕ, zero, suc, _+_, _*_, _≤_, _<_}
+use mathlib.Core.Path.{_≡_, refl, sym, _∙_}
+use Prim.Native.Nat.{ℕ, _+_, _≤_, _<_}
 use native.Mathlib.Omega.{arith}
 use lib.Dec.{leb, ltb}
-use lib.ListN.{length, set, length-set, length-append}
-use lib.Seq.{paste, length-paste}
-use borrow.Author.Tests.{leb-true, leb-false, ltb-true, ltb-false, lt-ltb, le-ltb, le-leb, lt-leb}
+use lib.ListN.{length, length-set, length-append}
+use lib.Seq.{length-paste}
+use borrow.Author.Tests.{leb-false, ltb-false}
 use Rattle.definition.specs.Lists.{if_then_else_}
-use Rattle.definition.specs.Limits.{mostOpens, mostEntries, mostParts, bodyBytes, contentsWords}
+use Rattle.definition.specs.Limits.{mostOpens, mostEntries, mostParts, bodyBytes}
 use Rattle.definition.specs.Text.{Entry}
 use Rattle.definition.specs.Including.{Event, opened, entered}
 use Rattle.definition.specs.Image.{keyOf}
 use Rattle.definition.specs.Reading.{sizeOf}
-use Rattle.image.specs.Running.{
-  World,
-  world,
-  Room,
-  Ran,
-  went,
-  stopped,
-  rowOf,
-  stored,
-  put,
-  counted,
-  openOne,
-  step,
-  andThen,
-  run,
-  answered,
-}
-use Rattle.image.specs.declared.Totals.{Totals}
+use Rattle.image.specs.Running.{World, world, Room, Ran, went, stopped, stored, put, counted, openOne, step, andThen, run}
 
 then-then : (r : Ran) (f g : World → Ran) → andThen (andThen r f) g ≡ andThen r (λ v. andThen (f v) g)
 unfolding andThen

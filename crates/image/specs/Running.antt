@@ -1,8 +1,7 @@
 -- What an event does to the totals and the two buffers. proofs/Images.antt shows that a run leaves what the definition says.
-use mathlib.Core.Bool.{Bool, true, false}
 use mathlib.Core.List.{List, [], _∷_, _++_}
 use mathlib.Core.Path.{_≡_}
-use Prim.Native.Nat.{ℕ, zero, suc, _+_, _*_, _≤_}
+use Prim.Native.Nat.{ℕ, _+_, _*_, _≤_}
 use lib.Dec.{leb, ltb}
 use lib.ListN.{length, set}
 use lib.Seq.{paste}

@@ -6,7 +6,7 @@ use mathlib.Core.Path.{_≡_, refl, ap}
 use Prim.Native.Nat.{ℕ, zero, suc, _+_, _*_, _/_, _%_, _≤_, _<_}
 use native.Mathlib.Omega.{arith}
 use lib.Dec.{leb}
-use lib.ListN.{length, take, drop, getD, length-append}
+use lib.ListN.{length, drop, getD, length-append}
 use lib.Seq.{take-append-seam, drop-append-seam, drop-append-add, drop-at}
 use borrow.Author.Tests.{leb-true, le-leb}
 use Rattle.definition.specs.Lists.{all, same, lower}

@@ -1,20 +1,18 @@
 -- A reading is accepted just where its totals are within the limits. Assumes nothing.
-use mathlib.Core.Bool.{Bool, true, false, not}
-use mathlib.Core.List.{List, [], _∷_, _++_, map, append-assoc}
+use mathlib.Core.Bool.{Bool, true, false}
+use mathlib.Core.List.{List, [], _∷_, _++_}
 use mathlib.Core.Logic.{_↔_}
 use mathlib.Core.Path.{_≡_, refl, sym, ap, _∙_}
-use Prim.Native.Nat.{ℕ, zero, suc, _+_, _≤_, _<_}
+use Prim.Native.Nat.{ℕ, _+_, _≤_, _<_}
 use native.Mathlib.Omega.{arith}
 use lib.Dec.{leb, ltb}
 use lib.ListN.{length, length-append}
-use borrow.Author.Tests.{leb-true, leb-false, ltb-true, ltb-false, lt-ltb, le-ltb, le-leb, lt-leb}
+use borrow.Author.Tests.{leb-false, ltb-false, le-ltb, lt-leb}
 use Rattle.definition.specs.Lists.{if_then_else_, filter}
 use Rattle.definition.specs.Limits.{mostOpens, mostEntries, mostParts, bodyBytes}
-use Rattle.definition.specs.Text.{Entry}
-use Rattle.definition.specs.Including.{Event, opened, entered, Entered, entriesOf, opensOf}
+use Rattle.definition.specs.Including.{Event, opened, entered, entriesOf, opensOf}
 use Rattle.definition.specs.Image.{keyOf, storeOf}
 use Rattle.definition.specs.Reading.{Totals, Verdict, within, past, sizeOf, judge, start, plain}
-use Rattle.laws.proofs.Lists.{not-both}
 
 -- a weight of each event, added up
 unfoldable pub total : (Event → ℕ) → List Event → ℕ

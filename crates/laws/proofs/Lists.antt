@@ -1,17 +1,18 @@
 -- Laws of the words for lists. Assumes nothing.
-use mathlib.Core.Bool.{Bool, true, false, _&&_, _||_, not, or-assoc, or-true, and-assoc}
+use mathlib.Core.Bool.{Bool, true, false, _&&_, _||_, or-assoc, or-true, and-assoc}
 use mathlib.Core.List.{List, [], _∷_, _++_, map, append-assoc}
 use mathlib.Core.Path.{_≡_, refl, sym, ap, _∙_}
 use Prim.Native.Nat.{ℕ, zero, suc, _+_, _-_, _≤_, _<_}
 use native.Mathlib.Numerals.{add-one, one-add}
 use native.Mathlib.Omega.{arith}
 use native.Mathlib.Decide.{decLt}
-use lib.Dec.{eqb, ltb}
+use lib.Dec.{eqb, ltb, leb}
 use lib.ListN.{length, getD, take, drop, length-drop, drop-of-length-le, set, length-append, length-set}
-use lib.Seq.{slice, take-nil, take-append-add, take-append-seam, drop-append-seam, take-all, drop-cons, drop-drop, paste, take-length, length-take-le, sets-eq, take-paste, drop-paste, set-split, append-snoc}
+use lib.Seq.{slice, take-nil, take-append-add, take-append-seam, drop-append-seam, take-all, drop-cons, drop-drop, paste, take-length, length-take-le, sets-eq, take-paste, drop-paste}
 use native.Mathlib.Nat.{le-refl}
-use borrow.Author.Tests.{eqb-true, eq-eqb, lt-ltb, le-ltb, ne-eqb}
-use Rattle.definition.specs.Lists.{if_then_else_, all, any, takeWhile, dropWhile, filter, isEmpty, orElse, same, lower}
+use borrow.Author.Tests.{eqb-true, eq-eqb, lt-ltb, le-ltb, ne-eqb, le-leb, lt-leb, leb-true}
+use Rattle.definition.specs.Bytes.{within}
+use Rattle.definition.specs.Lists.{if_then_else_, all, any, takeWhile, dropWhile, filter, same, lower}
 
 -- ---- Tests
 
@@ -520,6 +521,25 @@ same-append [] [] us vs h = refl
 same-append [] (y ∷ ys) us vs h = absurd (omega arith)
 same-append (x ∷ xs) [] us vs h = absurd (omega arith)
 same-append (x ∷ xs) (y ∷ ys) us vs h = rw (same-append xs ys us vs (omega arith)) (sym (and-assoc (eqb x y) (same xs ys) (same us vs)))
+
+-- ---- A number in a range
+
+module _ (a b c : ℕ) where
+  pub in-range : a ≤ c → c ≤ b → within a b c ≡ true
+  in-range h k = rw (le-leb a c h, le-leb c b k) refl
+
+  pub below-range : c < a → within a b c ≡ false
+  below-range h = rw (lt-leb a c h) refl
+
+  pub above-range : b < c → within a b c ≡ false
+  above-range h = rw (lt-leb c b h) (at (leb a c))
+    where
+      at : (x : Bool) → (x && false) ≡ false
+      at true = refl
+      at false = refl
+
+  pub range-bounds : within a b c ≡ true → (a ≤ c) × (c ≤ b)
+  range-bounds e = let k = and-true (leb a c) (leb c b) e in (leb-true a c (k .0), leb-true c b (k .1))
 
 -- ---- A part from one place up to another
 

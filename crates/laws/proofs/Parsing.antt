@@ -1,11 +1,11 @@
 -- Laws of taking things off the front of a text. Assumes nothing.
 use mathlib.Core.List.{List, [], _∷_}
-use mathlib.Core.Path.{_≡_, refl, sym, ap, _∙_}
+use mathlib.Core.Path.{_≡_, refl}
 use Prim.Native.Nat.{ℕ, zero, suc, _≤_, _<_}
 use native.Mathlib.Nat.{le-refl}
 use native.Mathlib.Omega.{arith}
 use lib.ListN.{length}
-use Rattle.definition.specs.Parsing.{Parse, nothing, found, Parsed, parsed, continued, atMost, many}
+use Rattle.definition.specs.Parsing.{Parse, nothing, found, parsed, continued, atMost, many}
 
 -- what p takes is a byte or more
 abbrev pub Shrinks : {A : Type 0} → (List ℕ → Parse A) → Type 0

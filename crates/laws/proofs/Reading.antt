@@ -1,40 +1,23 @@
 -- What an accepted reading is, and what holds of all that a reading gives. Assumes nothing.
-use mathlib.Core.Bool.{Bool, true, false, _&&_, not}
-use mathlib.Core.List.{List, [], _∷_, _++_, map}
+use mathlib.Core.Bool.{Bool, true, false, not}
+use mathlib.Core.List.{List, [], _∷_, _++_}
 use mathlib.Core.Option.{Option, some, none}
 use mathlib.Core.Path.{_≡_, refl, sym, ap, _∙_}
-use Prim.Native.Nat.{ℕ, zero, suc, _+_, _≤_, _<_}
+use Prim.Native.Nat.{ℕ, zero, suc, _+_, _≤_}
 use native.Mathlib.Omega.{arith}
 use lib.Dec.{leb, ltb}
 use lib.ListN.{length}
 use borrow.Author.Tests.{ltb-false, le-ltb, le-leb}
 use Rattle.definition.specs.Lists.{if_then_else_, all}
 use Rattle.definition.specs.Limits.{textBytes, mostParts, mostEntries, mostOpens}
-use Rattle.definition.specs.Archive.{File, laidOut, filesOf, bodyOf, folderOf, pathOf}
+use Rattle.definition.specs.Archive.{File, laidOut, bodyOf, folderOf, pathOf}
 use Rattle.definition.specs.Text.{Entry, Line, skipped, include, entry, linesOf}
-use Rattle.definition.specs.Including.{Chain, Event, opened, entered, eventsOf, opening, including, events, Entered, entriesOf, opensOf}
+use Rattle.definition.specs.Including.{Chain, Event, opened, entered, eventsOf, opening, including, events, entriesOf, opensOf}
 use Rattle.definition.specs.Image.{tooShort, imageContents, imageBodies}
-use Rattle.definition.specs.Reading.{
-  Totals,
-  Verdict,
-  within,
-  past,
-  judge,
-  start,
-  Answer,
-  accepted,
-  refused,
-  Outcome,
-  outcome,
-  met,
-  readEntries,
-  plain,
-  left,
-  reading,
-}
+use Rattle.definition.specs.Reading.{Totals, Verdict, within, past, judge, start, accepted, refused, Outcome, outcome, met, readEntries, plain, left, reading}
 use Rattle.definition.specs.ThirdTerm.{isAccepted}
 use Rattle.laws.proofs.Lists.{not-both, and-true, and-both}
-use Rattle.laws.proofs.Limits.{InLimits, FewParts, judge-limits, limits-judge, totalsFrom}
+use Rattle.laws.proofs.Limits.{InLimits, FewParts, judge-limits, limits-judge}
 
 -- ---- An accepted reading
 

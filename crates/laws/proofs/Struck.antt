@@ -1,15 +1,15 @@
 -- Striking a file off takes away just what came through it: entries and opens. Assumes nothing.
 use mathlib.Core.Bool.{Bool, true, false, _||_, not, or-true, or-false}
-use mathlib.Core.List.{List, [], _∷_, _++_, map}
+use mathlib.Core.List.{List, [], _∷_, _++_}
 use mathlib.Core.Option.{Option, some, none}
 use mathlib.Core.Path.{_≡_, refl, sym, ap, _∙_}
 use Prim.Native.Nat.{ℕ, zero, suc}
 use Rattle.definition.specs.Lists.{if_then_else_, any, filter, same}
 use Rattle.definition.specs.Archive.{File, bodyOf, folderOf, pathOf}
-use Rattle.definition.specs.Text.{Entry, Line, skipped, include, entry, linesOf}
-use Rattle.definition.specs.Including.{Chain, Event, opened, entered, eventsOf, opening, including, events, Entered, entriesOf, opensOf}
+use Rattle.definition.specs.Text.{Line, skipped, include, entry, linesOf}
+use Rattle.definition.specs.Including.{Chain, Event, opened, entered, eventsOf, opening, including, events, Entered, entriesOf}
 use Rattle.definition.specs.ThirdTerm.{cameThrough, leftWithout}
-use Rattle.laws.proofs.Lists.{not-both, same-refl, same-eq, any-append, filter-append}
+use Rattle.laws.proofs.Lists.{same-eq, any-append, filter-append}
 
 -- gs are the files fs without `file`, as far as finding can tell
 pub record Lacks (fs gs : List File) (file : List ℕ) : Type 0 where

@@ -1,48 +1,31 @@
 -- The third term, of the definition. Assumes nothing.
 use mathlib.Core.Bool.{Bool, true, false, _&&_, not}
-use mathlib.Core.List.{List, [], _∷_, _++_, map}
+use mathlib.Core.List.{List, [], _∷_, map}
 use mathlib.Core.Logic.{_↔_, _⊎_, inl, inr}
-use mathlib.Core.Option.{Option, some, none}
+use mathlib.Core.Option.{some, none}
 use mathlib.Core.Path.{_≡_, refl, sym, ap, _∙_}
-use Prim.Native.Nat.{ℕ, zero, suc, _+_, _≤_, _<_}
+use Prim.Native.Nat.{ℕ, _≤_, _<_}
 use native.Mathlib.Omega.{arith}
 use lib.Dec.{leb}
 use lib.ListN.{length, getD, length-map, List·getD-map}
-use Rattle.definition.specs.Lists.{all, any, filter, same}
+use Rattle.definition.specs.Lists.{all}
 use Rattle.definition.specs.Limits.{mostParts, mostEntries, bodyBytes, deepest}
-use Rattle.definition.specs.Archive.{File, filesOf, struckOff, removed, laidOut, rising, archiveOf}
-use Rattle.definition.specs.Text.{Part, Entry, Line, skipped, include, entry, linesOf}
-use Rattle.definition.specs.Including.{Entered, entriesOf, opensOf, events}
+use Rattle.definition.specs.Archive.{filesOf, struckOff}
+use Rattle.definition.specs.Text.{Part, Entry, entry}
+use Rattle.definition.specs.Including.{Entered, entriesOf}
 use Rattle.definition.specs.Image.{storeOf, rowsIn, entriesIn, imageContents, imageBodies}
-use Rattle.definition.specs.Reading.{Outcome, reading, readEntries, plain, met, start}
+use Rattle.definition.specs.Reading.{reading, readEntries, plain, met, start}
 use Rattle.definition.specs.Query.{Position, Query, positions, malformed, pastLimit, queryOf}
 use Rattle.definition.specs.Matching.{Aligned, Beats}
 use Rattle.definition.specs.Ranking.{Best, noEntry, best, bestOf}
 use Rattle.definition.specs.Lookup.{keysOf, valueOf, answerOf, refused, placeOf, lookup, getBytes, answerIn}
-use Rattle.definition.specs.ThirdTerm.{
-  cameThrough,
-  leftWithout,
-  BeatsRest,
-  entryNumber,
-  NoneThroughBeats,
-  SameBytesWithout,
-  isAccepted,
-  Case,
-  query,
-  fileName,
-  withFile,
-  withoutFile,
-  Given,
-  lookedUp,
-  defined,
-  ThirdTerm,
-}
+use Rattle.definition.specs.ThirdTerm.{cameThrough, leftWithout, entryNumber, NoneThroughBeats, SameBytesWithout, Case, query, fileName, Given, ThirdTerm}
 use Rattle.laws.proofs.Lists.{not-both, and-true, and-both}
 use Rattle.laws.proofs.Archive.{laidOut-says, files-struck, struck-laidOut, removed-gone, removed-other}
 use Rattle.laws.proofs.Struck.{Lacks, eventsWithout, apart, events-struck, entries-without}
 use Rattle.laws.proofs.Limits.{limits-fewer, used-store}
 use Rattle.laws.proofs.Reading.{Reads, accepted-reads, reads-outcome, events-good, few-parts}
-use Rattle.laws.proofs.Keys.{isLegal, isLegalLine, lines-legal}
+use Rattle.laws.proofs.Keys.{isLegalLine, lines-legal}
 use Rattle.laws.proofs.Image.{isStorable, image-is}
 use Rattle.laws.proofs.Ranking.{best-beats, best-none, beats-one, beats-best, beats-kept, none-kept}
 use Rattle.laws.proofs.Lookup.{answer-image}

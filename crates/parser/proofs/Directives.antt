@@ -1,16 +1,14 @@
 -- Comments and include lines. Assumes nothing.
-use mathlib.Core.List.{List, [], _∷_}
-use mathlib.Core.Option.{Option, some, none}
+use mathlib.Core.List.{List, _∷_}
 use mathlib.Core.Path.{_≡_, refl, sym, ap, _∙_}
 use Prim.Native.Nat.{ℕ, _+_, _-_, _≤_, _<_}
 use native.Mathlib.Omega.{arith}
 use lib.ListN.{length, take, drop, getD, length-drop}
 use lib.Seq.{drop-cons, drop-drop}
 use borrow.Author.Tests.{ne-eqb, eqb-false}
-use Rattle.definition.specs.Lists.{dropWhile}
-use Rattle.definition.specs.Parsing.{Parse, found}
+use Rattle.definition.specs.Parsing.{found}
 use Rattle.definition.specs.Bytes.{newline, exclamation, hash, notNewline}
-use Rattle.definition.specs.Text.{lineAt, lineEnd, includeOf, directiveOf, skipped, include}
+use Rattle.definition.specs.Text.{lineAt, lineEnd, includeOf, directiveOf}
 use Rattle.laws.proofs.Lists.{part-rest, dropWhile-more, suffix-whole, suffix-run}
 use Rattle.scan.specs.Scanned.{includedName, Included}
 use Rattle.scan.specs.declared.Include.the-variants.{Named, Other}

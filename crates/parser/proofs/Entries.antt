@@ -1,14 +1,12 @@
 -- An entry, stored. Assumes nothing.
 use mathlib.Core.Bool.{Bool, true, false, _&&_}
 use mathlib.Core.List.{List, [], _∷_, _++_, flatten}
-use mathlib.Core.Option.{Option, some, none}
 use mathlib.Core.Path.{_≡_, refl, sym, ap, _∙_}
 use Prim.Native.Nat.{ℕ, suc, _+_, _-_, _≤_, _<_}
-use native.Mathlib.Nat.{le-refl}
 use native.Mathlib.Omega.{arith}
-use lib.Dec.{eqb, leb, ltb}
+use lib.Dec.{eqb}
 use lib.ListN.{length, take, drop, set, length-append, length-drop, drop-of-length-le}
-use lib.Seq.{paste, drop-drop, length-paste}
+use lib.Seq.{paste, drop-drop}
 use borrow.Author.Tests.{lt-ltb, le-ltb, le-leb, lt-leb}
 use Rattle.definition.specs.Lists.{if_then_else_}
 use Rattle.definition.specs.Limits.{mostEntries, mostParts, bodyBytes}
@@ -17,9 +15,8 @@ use Rattle.definition.specs.Parsing.{many}
 use Rattle.definition.specs.Text.{Entry, pieceAt, afterBlanks, pieces}
 use Rattle.definition.specs.Image.{keyOf}
 use Rattle.definition.specs.Reading.{sizeOf}
-use Rattle.laws.proofs.Lists.{part-rest, paste-append, Suffix, suffix-whole, suffix-drop}
-use Rattle.image.specs.Running.{World, world, Room, Ran, went, stopped, rowOf, stored, put}
-use Rattle.image.proofs.Runs.{size-is}
+use Rattle.laws.proofs.Lists.{part-rest, paste-append, Suffix, suffix-whole}
+use Rattle.image.specs.Running.{world, Room, went, stopped, rowOf, stored, put}
 use Rattle.image.specs.declared.Totals.{Totals}
 use Rattle.values.specs.Decoded.{valueAt, Stored}
 use Rattle.parser.specs.Lined.{partsOf}

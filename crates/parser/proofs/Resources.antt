@@ -1,18 +1,17 @@
 -- Lines of parts, spaces, `:`, value. Assumes nothing.
 use mathlib.Core.Bool.{Bool, true, false}
-use mathlib.Core.List.{List, [], _∷_}
-use mathlib.Core.Option.{Option, some, none}
+use mathlib.Core.List.{List}
+use mathlib.Core.Option.{some, none}
 use mathlib.Core.Path.{_≡_, refl, sym, ap, _∙_}
 use Prim.Native.Nat.{ℕ, _+_, _-_, _≤_, _<_}
 use native.Mathlib.Omega.{arith}
-use lib.Dec.{eqb}
 use lib.ListN.{length, take, drop, getD}
 use lib.Seq.{drop-drop}
 use borrow.Author.Tests.{ne-eqb}
 use Rattle.definition.specs.Lists.{if_then_else_, ascii, dropWhile}
-use Rattle.definition.specs.Parsing.{Parse, found, many, after}
-use Rattle.definition.specs.Bytes.{newline, exclamation, hash, isSpace, notNewline}
-use Rattle.definition.specs.Text.{partAt, endsInName, assigned, resourceOf, lineAt, lineEnd, skipped}
+use Rattle.definition.specs.Parsing.{Parse, many, after}
+use Rattle.definition.specs.Bytes.{newline, exclamation, hash, isSpace}
+use Rattle.definition.specs.Text.{partAt, endsInName, assigned, resourceOf, lineAt}
 use Rattle.definition.specs.Image.{keyOf}
 use Rattle.laws.proofs.Lists.{part-rest, Suffix, suffix-whole, suffix-drop, suffix-run}
 use Rattle.parser.specs.Lined.{partsOf, EndsAt, Skips, Enters, Lined}

@@ -1,40 +1,22 @@
 -- The end of a reading, and the tests before it. Assumes nothing.
-use mathlib.Core.Bool.{Bool, true, false, not}
-use mathlib.Core.List.{List, [], _∷_, _++_, append-nil, append-assoc}
+use mathlib.Core.Bool.{true, false}
+use mathlib.Core.List.{List, [], _++_, append-nil}
 use mathlib.Core.Path.{_≡_, refl, sym, ap, _∙_}
 use Prim.Native.Nat.{ℕ, _+_, _-_, _*_, _≤_, _<_}
 use native.Mathlib.Nat.{sub-zero}
 use native.Mathlib.Omega.{arith}
-use lib.Dec.{ltb}
 use lib.ListN.{length, take, drop, set, length-set, drop-of-length-le}
-use lib.Seq.{length-take-le}
 use borrow.Author.Tests.{lt-ltb, le-ltb}
-use Rattle.definition.specs.Lists.{if_then_else_, zeroes, beyond}
+use Rattle.definition.specs.Lists.{zeroes, beyond}
 use Rattle.definition.specs.Limits.{contentsWords, bodyBytes, textBytes, deepest}
 use Rattle.definition.specs.Archive.{laidOut, filesOf}
 use Rattle.definition.specs.Text.{Entry}
 use Rattle.definition.specs.Including.{Chain, events}
-use Rattle.definition.specs.Image.{writtenOver, imageContents, imageBodies, tooShort}
-use Rattle.definition.specs.Reading.{
-  Verdict,
-  within,
-  past,
-  accepted,
-  refused,
-  Outcome,
-  outcome,
-  left,
-  judge,
-  start,
-  met,
-  plain,
-  readEntries,
-  reading,
-}
-use Rattle.image.specs.Running.{World, world, Room, went, stopped, rowOf, run, answered}
+use Rattle.definition.specs.Image.{writtenOver, imageContents, imageBodies}
+use Rattle.definition.specs.Reading.{Verdict, within, past, accepted, refused, outcome, left, judge, start, met, plain, readEntries, reading}
+use Rattle.image.specs.Running.{world, Room, went, stopped, run, answered}
 use Rattle.image.specs.declared.Totals.{Totals}
 use Rattle.image.specs.declared.Step.the-variants.{Go, Stop}
-use Rattle.image.proofs.Runs.{RoomIn}
 use Rattle.image.proofs.Images.{begun, room-after, words-finished, bytes-finished, accepted-left, no-words, no-bytes, refused-left}
 use Rattle.reader.specs.Texts.{textEvents}
 use Rattle.reader.specs.Said.{leftBy}

@@ -1,17 +1,15 @@
 -- A text's events, line by line, as a run meets them. Assumes nothing.
 use mathlib.Core.List.{List, [], _∷_, _++_}
-use mathlib.Core.Option.{Option, some, none}
-use mathlib.Core.Path.{_≡_, refl, sym, ap, _∙_}
-use Prim.Native.Nat.{ℕ, zero, suc, _+_, _-_, _≤_, _<_}
+use mathlib.Core.Option.{some, none}
+use mathlib.Core.Path.{_≡_, refl, ap}
+use Prim.Native.Nat.{ℕ, suc, _+_, _-_, _≤_, _<_}
 use native.Mathlib.Omega.{arith}
-use lib.Dec.{leb}
-use lib.ListN.{length}
 use borrow.Author.Tests.{le-leb, lt-leb}
 use Rattle.definition.specs.Limits.{mostOpens}
-use Rattle.definition.specs.Parsing.{Parse, nothing, found, parsed, many}
+use Rattle.definition.specs.Parsing.{found}
 use Rattle.definition.specs.Archive.{File, bodyOf, folderOf, pathOf}
 use Rattle.definition.specs.Text.{Entry, Line, skipped, include, entry, lineAt, linesOf}
-use Rattle.definition.specs.Including.{Chain, Event, opened, entered, eventsOf, opening, including}
+use Rattle.definition.specs.Including.{Chain, eventsOf, opening, including}
 use Rattle.laws.proofs.Parsing.{many-stop, many-more}
 use Rattle.laws.proofs.Keys.{line-shrinks}
 use Rattle.image.specs.Running.{World, world, Ran, went, stopped, put, counted, openOne, andThen, run}

@@ -1,22 +1,20 @@
 -- The loop over a text's lines: what was read so far, and what is left. Assumes nothing.
-use mathlib.Core.List.{List, [], _∷_, flatten}
-use mathlib.Core.Option.{Option, some, none}
-use mathlib.Core.Path.{_≡_, refl, sym, ap, _∙_}
-use Prim.Native.Nat.{ℕ, zero, suc, _+_, _-_, _≤_, _<_}
+use mathlib.Core.List.{List, [], _∷_}
+use mathlib.Core.Path.{_≡_, refl, sym, _∙_}
+use Prim.Native.Nat.{ℕ, _+_, _-_, _≤_, _<_}
 use native.Mathlib.Omega.{arith}
-use lib.ListN.{length, take, drop, length-drop}
-use lib.Seq.{length-take-le}
-use Rattle.definition.specs.Parsing.{Parse, found, many}
+use lib.ListN.{length, take, drop}
+use Rattle.definition.specs.Parsing.{found}
 use Rattle.definition.specs.Archive.{File}
-use Rattle.definition.specs.Text.{Entry, Line, skipped, include, entry, lineAt, pieces, resourceOf}
-use Rattle.definition.specs.Including.{Chain, Event, entered, including}
+use Rattle.definition.specs.Text.{Line, skipped, include, entry, lineAt, pieces, resourceOf}
+use Rattle.definition.specs.Including.{Chain, entered, including}
 use Rattle.laws.proofs.Lists.{part-rest}
 use Rattle.laws.proofs.Keys.{line-shrinks}
-use Rattle.image.specs.Running.{World, world, Room, Ran, went, stopped, put, andThen, run, answered}
+use Rattle.image.specs.Running.{World, world, Room, went, stopped, put, andThen, run, answered}
 use Rattle.image.specs.declared.Totals.{Totals}
 use Rattle.image.specs.declared.Step.the-variants.{Go, Stop}
 use Rattle.image.proofs.Runs.{step-room, run-room}
-use Rattle.parser.specs.Lined.{partsOf, Skips, Includes, Enters}
+use Rattle.parser.specs.Lined.{Skips, Includes, Enters}
 use Rattle.parser.specs.Putting.{entryFrom, Puts}
 use Rattle.reader.specs.Texts.{textEvents}
 use Rattle.reader.proofs.Lines.{text-end, text-skips, text-enters, text-includes}

@@ -1,16 +1,16 @@
 -- An include, by what the search of the archive answers. Assumes nothing.
 use mathlib.Core.List.{List, [], _∷_, _++_}
-use mathlib.Core.Option.{Option, some, none}
+use mathlib.Core.Option.{some}
 use mathlib.Core.Path.{_≡_, refl, sym, ap, _∙_}
 use Prim.Native.Nat.{ℕ, _+_, _-_, _≤_, _<_}
 use native.Mathlib.Omega.{arith}
-use lib.ListN.{length, take, drop}
+use lib.ListN.{take, drop}
 use Rattle.definition.specs.Limits.{mostOpens}
 use Rattle.definition.specs.Archive.{filesOf, bodyOf, folderOf, pathOf}
 use Rattle.definition.specs.Including.{Chain, including}
 use Rattle.archive_find.specs.Finding.{bodyAt, Finds}
 use Rattle.archive_find.specs.declared.Found.the-variants.{At, Nothing}
-use Rattle.image.specs.Running.{World, world, went, stopped, counted, run, answered}
+use Rattle.image.specs.Running.{world, counted, run, answered}
 use Rattle.image.specs.declared.Step.{Step}
 use Rattle.image.specs.declared.Step.the-variants.{Go, Stop}
 use Rattle.image.specs.declared.Totals.{Totals}

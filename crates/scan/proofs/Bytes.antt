@@ -5,21 +5,13 @@ use mathlib.Core.Path.{_≡_, refl, _∙_}
 use Prim.Native.Nat.{ℕ, _≤_, _<_}
 use native.Mathlib.Omega.{arith}
 use lib.Dec.{eqb, leb}
-use borrow.Author.Tests.{le-leb, lt-leb, ne-eqb}
+use borrow.Author.Tests.{le-leb, ne-eqb}
 use Rattle.definition.specs.Bytes.{within, isDigit, isOctal, isName, isBlank}
+use Rattle.laws.proofs.Lists.{in-range, below-range, above-range}
 
 module _ (a b c : ℕ) where
   from-range : a ≤ c → within a b c ≡ leb c b
   from-range h = rw (le-leb a c h) refl
-
-  in-range : a ≤ c → c ≤ b → within a b c ≡ true
-  in-range h k = rw (le-leb a c h, le-leb c b k) refl
-
-  below-range : c < a → within a b c ≡ false
-  below-range h = rw (lt-leb a c h) refl
-
-  above-range : a ≤ b → b < c → within a b c ≡ false
-  above-range h k = rw (le-leb a c (omega arith), lt-leb c b k) refl
 
 module _ (c : ℕ) where
   pub octal : 48 ≤ c → c < 56 → isOctal c ≡ true
@@ -32,7 +24,7 @@ module _ (c : ℕ) where
 
   pub octal-above : 56 ≤ c → isOctal c ≡ false
   unfolding isOctal
-  octal-above h = above-range 48 55 c (omega arith) (omega arith)
+  octal-above h = above-range 48 55 c (omega arith)
 
   -- a name's byte, by each test of it
   by-tests : {u l d m n : Bool} → within 65 90 c ≡ u → within 97 122 c ≡ l → within 48 57 c ≡ d → eqb c 95 ≡ m → eqb c 45 ≡ n
@@ -42,7 +34,7 @@ module _ (c : ℕ) where
 
   pub name-lower : 97 ≤ c → isName c ≡ leb c 122
   name-lower h =
-      by-tests (above-range 65 90 c (omega arith) (omega arith)) (from-range 97 122 c h) (above-range 48 57 c (omega arith) (omega arith))
+      by-tests (above-range 65 90 c (omega arith)) (from-range 97 122 c h) (above-range 48 57 c (omega arith))
       (ne-eqb c 95 (λ e. omega arith)) (ne-eqb c 45 (λ e. omega arith))
       ∙ or-false _ ∙ or-false _ ∙ or-false _
 
@@ -52,7 +44,7 @@ module _ (c : ℕ) where
 
   pub name-mark : 90 < c → c < 97 → isName c ≡ eqb c 95
   name-mark h k =
-      by-tests (above-range 65 90 c (omega arith) h) (below-range 97 122 c k) (above-range 48 57 c (omega arith) (omega arith)) refl
+      by-tests (above-range 65 90 c h) (below-range 97 122 c k) (above-range 48 57 c (omega arith)) refl
       (ne-eqb c 45 (λ e. omega arith))
       ∙ or-false _
 

@@ -1,6 +1,4 @@
 -- `parser::parse_resource` meets its contract. Assumes nothing.
-use mathlib.Core.Path.{sym}
-use native.Mathlib.Omega.{arith}
 use borrow.Author.Tests.{not-true, not-false}
 use Rattle.scan.proofs.Beginnings.{begins, begins-not}
 use Rattle.definition.specs.Lists.{ascii}

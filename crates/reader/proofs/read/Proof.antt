@@ -1,6 +1,4 @@
 -- `reader::read` meets its contract: 1, 2, 3, and then the fronts of the buffers. Assumes nothing.
-use native.Mathlib.Omega.{arith}
-use lib.ListN.{length}
 use lib.Seq.{length-take-le}
 use borrow.Author.Tests.{not-true, not-false}
 use mathlib.Core.Path.{sym, _∙_}

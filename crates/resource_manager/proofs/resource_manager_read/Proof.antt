@@ -1,7 +1,6 @@
 -- `resource_manager::resource_manager_read` meets its contract. Assumes nothing.
 use mathlib.Core.Path.{ap}
 use native.Mathlib.Omega.{arith}
-use Rattle.definition.specs.Reading.{Outcome}
 use Rattle.laws.proofs.Reading.{accepted-small}
 use Rattle.resource_manager.specs.Boundary.{crossed}
 use borrow.Author.Needs.{needs}

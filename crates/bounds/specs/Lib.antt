@@ -1,0 +1,2 @@
+-- Examples of the definition at document 01's limits.
+mod Bounds
