@@ -1,0 +1,6 @@
+-- The mathematics behind the proofs of the code.
+pub mod Texts
+pub mod Rows
+pub mod Reached
+pub mod Bindings
+pub mod Marks

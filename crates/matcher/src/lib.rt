@@ -1,0 +1,224 @@
+// How well a key matches a query, and which of two matches wins: the Rust's `check_match`, `compare_matches`, and `match_entry` for one entry.
+ghost use mathlib.Core.Path.{_≡_};
+ghost use mathlib.Core.List.{[], _∷_};
+ghost use mathlib.Core.Bool.{Bool, true, false};
+ghost use mathlib.Core.Option.{none};
+ghost use Prim.Native.Nat.{ℕ, _+_, _-_, _≤_, _<_, max};
+ghost use lib.ListN.{length, take, drop, getD};
+ghost use Rattle.definition.specs.Lists.{if_then_else_, takeWhile, orElse, same, lower};
+ghost use Rattle.definition.specs.Query.{positionsOf};
+ghost use Rattle.definition.specs.Matching.{equals, markAt};
+ghost use Rattle.definition.specs.Ranking.{rankOf, better};
+ghost use Rattle.definition.specs.Image.{keyParts, isKey};
+ghost use Rattle.definition.specs.Text.{bindingOf};
+ghost use Rattle.query.specs.Splits.{namesIn, Inside};
+ghost use Rattle.matcher.specs.Rows.{rowIn, bestIn, markIn, skipOf, extended, Clear, Continued};
+ghost use Rattle.matcher.specs.Keys.{notBinding, partBetween, Bounded};
+ghost use Rattle.matcher.specs.Places.{placeOf, placed, Within, positionIn};
+
+use query::{Split, QUERY_PARTS};
+
+// The most parts of a key.
+const KEY_PARTS: usize = 16;
+
+// A row of marks, one for each position passed, if there is one. The marks after them are 0.
+pub struct Row {
+    pub live: bool,
+    pub marks: [u8; QUERY_PARTS],
+}
+
+// A key's parts in its bytes: part i stands from bound i, where its binding is, up to bound i + 1.
+pub struct Key {
+    pub bounds: [usize; KEY_PARTS + 1],
+    pub count: usize,
+}
+
+// A part of a query in its text, if there is one.
+pub struct Place {
+    pub here: bool,
+    pub start: usize,
+    pub end: usize,
+}
+
+fn same_text(a: &[u8], b: &[u8]) -> bool
+    ensures { λ r. ⌜ r ≡ same (now (a .entry)) (now (b .entry)) ⌝ }
+{
+    if a.len() != b.len() {
+        return false;
+    }
+    let mut i = 0;
+    while i < a.len() {
+        if a[i] != b[i] {
+            return false;
+        }
+        i += 1;
+    }
+    true
+}
+
+fn place_at(s: Split, i: usize) -> Place
+    requires { ⌜ s .count ≤ 32 ⌝ }
+    ensures { λ r. ⌜ r ≡ placeOf s i ⌝ }
+{
+    if i < s.count {
+        let start = s.starts[i] as usize;
+        let length = s.lengths[i] as usize;
+        Place {
+            here: true,
+            start,
+            end: start + length,
+        }
+    } else {
+        Place {
+            here: false,
+            start: 0,
+            end: 0,
+        }
+    }
+}
+
+// Is the name the query's part at a place? A missing part equals nothing.
+fn is_at(name: &[u8], text: &[u8], p: Place) -> bool
+    requires { ⌜ Within (now text) p ⌝ }
+    ensures { λ r. ⌜ r ≡ equals (now (name .entry)) (placed (now (text .entry)) p) ⌝ }
+{
+    if p.here {
+        let start = p.start;
+        let end = p.end;
+        return same_text(name, &text[start..end]);
+    }
+    false
+}
+
+fn mark_of(loose: bool, a: u8, b: u8) -> u8
+    ensures { λ r. ⌜ r ≡ (if loose then a else b) ⌝ }
+{
+    if loose { a } else { b }
+}
+
+// The mark of the key's part from `b` up to `e` at a position; 0 if it does not match there.
+fn mark(key: &[u8], b: usize, e: usize, name: &[u8], n: Place, class: &[u8], c: Place) -> u8
+    requires { ⌜ (b + 1 < e) × (e ≤ length (now key)) × Within (now name) n × Within (now class) c ⌝ }
+    ensures { λ r. ⌜ markIn r ≡ markAt (partBetween (now (key .entry)) b e) (positionIn (now (name .entry)) n (now (class .entry)) c) ⌝ }
+{
+    let loose = key[b] == b'*';
+    let s = b + 1;
+    if key[s] == b'?' {
+        return mark_of(loose, 1, 2);
+    }
+    let component = &key[s..e];
+    if is_at(component, name, n) {
+        return mark_of(loose, 5, 6);
+    }
+    if is_at(component, class, c) {
+        return mark_of(loose, 3, 4);
+    }
+    0
+}
+
+// Where the component that starts at `at` ends: at the next binding, or at the key's end.
+fn part_end(key: &[u8], at: usize) -> usize
+    requires { ⌜ at ≤ length (now key) ⌝ }
+    ensures { λ r. ⌜ r ≡ at + length (takeWhile notBinding (drop at (now (key .entry)))) ⌝ }
+{
+    let mut i = at;
+    while i < key.len() {
+        let c = key[i];
+        if c == b'.' {
+            return i;
+        }
+        if c == b'*' {
+            return i;
+        }
+        i += 1;
+    }
+    i
+}
+
+fn split_key(key: &[u8]) -> Key
+    requires { ⌜ isKey (now key) ≡ true ⌝ }
+    ensures { λ r. ⌜ Bounded (now (key .entry)) r ⌝ }
+{
+    let mut bounds = [0; KEY_PARTS + 1];
+    let mut count = 0;
+    let mut at = 0;
+    while at < key.len() {
+        at = part_end(key, at + 1);
+        count += 1;
+        bounds[count] = at;
+    }
+    Key { bounds, count }
+}
+
+// No row. Its marks are 0 all the same.
+fn no_row() -> Row
+    ensures { λ r. ⌜ (r .live ≡ false) × Clear 0 r ⌝ }
+{
+    Row {
+        live: false,
+        marks: [0; QUERY_PARTS],
+    }
+}
+
+// The row before the first position.
+fn first_row() -> Row
+    ensures { λ r. ⌜ (r .live ≡ true) × Clear 0 r ⌝ }
+{
+    Row {
+        live: true,
+        marks: [0; QUERY_PARTS],
+    }
+}
+
+// A row over a position that is skipped: the marks after it are 0 already.
+fn skip_loose(row: Row, binding: u8) -> Row
+    ensures { λ r. ⌜ ((p : ℕ) → p < 32 → Clear p row → Continued p r (extended (rowIn p row) (skipOf (bindingOf (binding ∷ []))))) ⌝ }
+{
+    if binding == b'*' {
+        return row;
+    }
+    no_row()
+}
+
+// A row over a position that is matched with mark `m`, if it is not 0.
+fn step(row: Row, m: u8, p: usize) -> Row
+    requires { ⌜ (p < 32) × Clear p row ⌝ }
+    ensures { λ r. ⌜ Continued p r (extended (rowIn p row) (markIn m)) ⌝ }
+{
+    if row.live {
+        if 0 < m {
+            let mut r = row;
+            r.marks[p] = m;
+            return r;
+        }
+    }
+    no_row()
+}
+
+// The row of the part whose binding stands at `e`, over a position: `row` skips it, or else `before`, the row of the part before, matches it.
+fn next_row(
+    row: Row,
+    before: Row,
+    key: &[u8],
+    b: usize,
+    e: usize,
+    name: &[u8],
+    n: Place,
+    class: &[u8],
+    c: Place,
+    p: usize,
+) -> Row
+    requires { ⌜ (b + 1 < e) × (e < length (now key)) × Within (now name) n × Within (now class) c × (p < 32) × Clear p row × Clear p before ⌝ }
+    ensures { λ r. ⌜ Continued p r (orElse (extended (rowIn p row) (skipOf (bindingOf (getD (now (key .entry)) e 0 ∷ [])))) (extended (rowIn p before) (markAt (partBetween (now (key .entry)) b e) (positionIn (now (name .entry)) n (now (class .entry)) c)))) ⌝ }
+{
+    if row.live {
+        if key[e] == b'*' {
+            return row;
+        }
+    }
+    if before.live {
+        let m = mark(key, b, e, name, n, class, c);
+        return step(before, m, p);
+    }
+    no_row()
+}
