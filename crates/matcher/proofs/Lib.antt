@@ -4,3 +4,5 @@ pub mod Rows
 pub mod Reached
 pub mod Bindings
 pub mod Marks
+pub mod Keys
+pub mod Splitting

@@ -1,3 +1,11 @@
+use mathlib.Core.Path.{_≡_, refl}
+use Prim.Native.Nat.{_+_, _-_, _≤_, _<_}
+use native.Mathlib.Omega.{arith}
+use lib.ListN.{length}
+use Rattle.definition.specs.Limits.{mostParts}
+use Rattle.matcher.proofs.Keys.{parts-of}
+use Rattle.matcher.proofs.Splitting.{Splitting, begun, room, next-inside, more, ended}
+use borrow.Author.Needs.{needs}
 use Rattle.matcher.proofs.split_key.Statement.{statement}
 use Rattle.matcher.proofs.split_key.Tie as tie
 use Rattle.matcher.proofs.split_key.Reads as reads
@@ -5,46 +13,69 @@ use Rattle.matcher.proofs.split_key.Lts as lts
 use Rattle.matcher.proofs.part_end.Reads as part-end-reads
 
 abbrev Inv-loop : tie.InvT-loop
-Inv-loop key bounds₀ count₀ at₀ bounds count at = ?
+Inv-loop key bounds₀ count₀ at₀ bounds count at = Splitting key bounds count at
 
 abbrev μ-loop : tie.MeasureT-loop
-μ-loop key bounds₀ count₀ at₀ bounds count at = ?
+μ-loop key bounds₀ count₀ at₀ bounds count at = length key - at
 
 -- src/lib.rt:145:5
 loop-holds : tie.Need-loop-holds Inv-loop μ-loop
-loop-holds c = ?
+loop-holds c =
+    let start-here = c .before in
+    begun (start-here .args .key .now) (parts-of _ (start-here .pre)) _ (search needs) refl
 
 -- src/lib.rt:146:28
 add-part-end : tie.Need-add-part-end Inv-loop μ-loop
-add-part-end c = ?
+add-part-end c = search needs
 
 -- src/lib.rt:146:9
 part-end-requires : tie.Need-part-end-requires Inv-loop μ-loop
-part-end-requires c κs = ?
+part-end-requires c κs = search needs
+
+-- there is room for one more part, and it ends in the key
+small : (c : tie.After-part-end Inv-loop μ-loop) → (c .before .before .loop .count < mostParts) × (c .part-end .result ≤ length (c .before .before .before .before .args .key .now))
+small c =
+    let start-here = c .before .before .before .before in
+    let loop-here = c .before .before in
+    let key = start-here .args .key .now in
+    let K = parts-of key (start-here .pre) in
+    let w = loop-here .loop in
+    let h : w .at < length key = search needs in
+    let f = room key K (w .bounds) (w .count) (w .at) (w .inv) h in
+    let g = next-inside key K (w .bounds) (w .count) (w .at) (w .inv) h in
+    (omega (arith, K .few), omega (arith, c .part-end .ensures))
 
 -- src/lib.rt:147:9
 add-count : tie.Need-add-count Inv-loop μ-loop
-add-count c = ?
+add-count c = omega (arith, small c)
 
 -- src/lib.rt:148:9
 mul-bounds : tie.Need-mul-bounds Inv-loop μ-loop
-mul-bounds c = ?
+mul-bounds c = omega (arith, small c)
 
 -- src/lib.rt:148:9
 array-write-bounds : tie.Need-array-write-bounds Inv-loop μ-loop
-array-write-bounds c = ?
+array-write-bounds c = omega (arith, small c)
 
 -- src/lib.rt:145:5
 loop-less : tie.Need-loop-less Inv-loop μ-loop
-loop-less c = ?
+loop-less c = omega (arith, small c)
 
 -- src/lib.rt:145:5
 loop-again : tie.Need-loop-again Inv-loop μ-loop
-loop-again c = ?
+loop-again c =
+    let start-here = c .before .before .before .before in
+    let loop-here = c .before .before in
+    let w = loop-here .loop in
+    more (start-here .args .key .now) (parts-of _ (start-here .pre)) (w .bounds) (w .count) (w .at) (w .inv) (search needs) (c .part-end .result) (c .part-end .ensures)
 
 -- src/lib.rt:138:1
 returns : tie.Need-returns Inv-loop μ-loop
-returns c = ?
+returns c =
+    let start-here = c .before .before .before in
+    let loop-here = c .before in
+    let w = loop-here .loop in
+    ended (start-here .args .key .now) (parts-of _ (start-here .pre)) (w .bounds) (w .count) (w .at) (w .inv) (search needs)
 
 pub split-key-spec : {M : Type 1} → statement M
 split-key-spec =
