@@ -6,3 +6,5 @@ pub mod Bindings
 pub mod Marks
 pub mod Keys
 pub mod Splitting
+pub mod Positions
+pub mod Walking

@@ -12,7 +12,7 @@ ghost use Rattle.definition.specs.Ranking.{rankOf, better};
 ghost use Rattle.definition.specs.Image.{keyParts, isKey};
 ghost use Rattle.definition.specs.Text.{bindingOf};
 ghost use Rattle.query.specs.Splits.{namesIn, Inside};
-ghost use Rattle.matcher.specs.Rows.{rowIn, bestIn, markIn, skipOf, extended, Clear, Continued};
+ghost use Rattle.matcher.specs.Rows.{rowIn, bestIn, markIn, skipOf, extended, Clear, Continued, Reaches};
 ghost use Rattle.matcher.specs.Keys.{notBinding, partBetween, Bounded};
 ghost use Rattle.matcher.specs.Places.{placeOf, placed, Within, positionIn};
 
@@ -221,4 +221,38 @@ fn next_row(
         return step(before, m, p);
     }
     no_row()
+}
+
+// For each part of the key the best row that reaches it, over all positions but the last; the row of the last part.
+fn check_match(key: &[u8], k: Key, name: &[u8], names: Split, class: &[u8], classes: Split, last: usize) -> Row
+    requires { ⌜ Bounded (now key) k × Inside (now name) names × Inside (now class) classes × (last + 1 ≡ max (names .count) (classes .count)) ⌝ }
+    ensures { λ r. ⌜ Reaches (keyParts (now (key .entry))) (positionsOf (namesIn (now (name .entry)) names) (namesIn (now (class .entry)) classes)) (k .count - 1) last r ⌝ }
+{
+    let top = k.count - 1;
+    let at = k.bounds[0];
+    let binding = key[at];
+    let blank = no_row();
+    let mut rows = [blank; KEY_PARTS];
+    let first = first_row();
+    rows[0] = first;
+    let mut p = 0;
+    'positions: while p < last {
+        let n = place_at(names, p);
+        let c = place_at(classes, p);
+        let mut i = top;
+        'parts: while 0 < i {
+            i -= 1;
+            let b = k.bounds[i];
+            let e = k.bounds[i + 1];
+            let before = rows[i];
+            let row = rows[i + 1];
+            let r = next_row(row, before, key, b, e, name, n, class, c, p);
+            rows[i + 1] = r;
+        }
+        let row = rows[0];
+        let r = skip_loose(row, binding);
+        rows[0] = r;
+        p += 1;
+    }
+    rows[top]
 }
