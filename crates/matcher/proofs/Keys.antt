@@ -83,6 +83,14 @@ parts-of key h =
       named = a .1;
     }
 
+ends-some : (ps : List Part) → endsInName ps ≡ true → 0 < length ps
+unfolding endsInName
+ends-some [] e = absurd (not-both e refl)
+ends-some (p ∷ ps) e = omega arith
+
+pub some-part : (key : List ℕ) → Parts key (keyParts key) → 0 < length (keyParts key)
+some-part key K = ends-some (keyParts key) (K .named)
+
 -- ---- A part in a key
 
 first : (t : List ℕ) (n : ℕ) → getD (drop n t) 0 0 ≡ getD t n 0

@@ -8,3 +8,4 @@ pub mod Keys
 pub mod Splitting
 pub mod Positions
 pub mod Walking
+pub mod Ends

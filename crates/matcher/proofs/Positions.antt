@@ -1,6 +1,6 @@
 -- A query's positions, one by one. Assumes nothing.
 use mathlib.Core.Bool.{Bool, true, false}
-use mathlib.Core.List.{List, [], _∷_, map}
+use mathlib.Core.List.{List, [], _∷_, _++_, map}
 use mathlib.Core.Option.{Option, some, none}
 use mathlib.Core.Path.{_≡_, refl, sym, ap, _∙_}
 use Prim.Native.Nat.{ℕ, zero, suc, _+_, _-_, _≤_, _<_, max}
@@ -8,7 +8,7 @@ use native.Mathlib.Omega.{arith}
 use native.Mathlib.Numerals.{add-one}
 use native.Mathlib.Decide.{decLt}
 use lib.Dec.{ltb}
-use lib.ListN.{length, getD, take, drop, length-map, drop-of-length-le}
+use lib.ListN.{length, getD, take, drop, length-map, drop-of-length-le, take-append-drop}
 use borrow.Author.Tests.{lt-ltb, le-ltb}
 use Rattle.definition.specs.Lists.{if_then_else_}
 use Rattle.definition.specs.Query.{Position, positionsOf}
@@ -104,3 +104,8 @@ module _ (name : List ℕ) (names : Split) (class : List ℕ) (classes : Split) 
   queried-last last e =
       let z : drop (last + 1) queried ≡ [] = drop-of-length-le queried {i = last + 1} (omega (arith, length-queried)) in
       queried-at last (omega arith) ∙ rw z refl
+
+  -- all positions but the last, and the last
+  pub queried-ends : (last : ℕ) → last + 1 ≡ max (names .count) (classes .count)
+      → queried ≡ take last queried ++ (positionIn name (placeOf names last) class (placeOf classes last) ∷ [])
+  queried-ends last e = sym (take-append-drop last queried) ∙ ap (λ (l : List Position). take last queried ++ l) (queried-last last e)

@@ -1,5 +1,5 @@
 -- For each part of a key the best row that reaches it, over one position after another. Assumes nothing.
-use mathlib.Core.List.{List, [], _∷_, _++_}
+use mathlib.Core.List.{List, [], _∷_, _++_, append-nil}
 use mathlib.Core.Option.{Option, some, none}
 use mathlib.Core.Path.{_≡_, refl, sym, ap, _∙_}
 use Prim.Native.Nat.{ℕ, zero, suc, _+_, _≤_, _<_}
@@ -53,30 +53,66 @@ joined-skip (some r) tight s = refl
 joined-skip (some r) loose none = refl
 joined-skip (some r) loose (some s) = ap some (sym (append-snoc r 0 s))
 
+joined-end : (r : Option (List ℕ)) → joined r (some []) ≡ r
+unfolding joined
+joined-end none = refl
+joined-end (some r) = ap some (append-nil r)
+
 joined-first : (s : Option (List ℕ)) → joined (some []) s ≡ s
 unfolding joined
 joined-first none = refl
 joined-first (some s) = refl
 
--- ---- More parts than positions
+-- ---- Where no alignment is
+
+some-left : {A : Type 0} (xs : List A) (x : A) → 0 < length (xs ++ (x ∷ []))
+some-left [] x = omega arith
+some-left (y ∷ xs) x = omega arith
+
+unmet : (m : Option ℕ) (r : Option (List ℕ)) → r ≡ none → meetRow m r ≡ none
+unfolding meetRow
+unmet none r e = refl
+unmet (some m) r e = rw e refl
+
+neither : (a : Option (List ℕ)) (b : Binding) (r : Option (List ℕ)) → a ≡ none → r ≡ none → orElse a (skipRow b r) ≡ none
+unfolding orElse skipRow
+neither a tight r e f = rw e refl
+neither a loose r e f = rw (e, f) refl
 
 pub rank-short : (ks : List Part) (qs : List Position) → length qs < length ks → rankOf ks qs ≡ none
-unfolding rankOf orElse meetRow skipRow
+unfolding rankOf
 rank-short [] qs h = absurd (omega arith)
 rank-short (k ∷ ks) [] h = refl
-rank-short (k ∷ ks) (q ∷ qs) h = at (markAt k q) (k .binding) (rank-short ks qs (omega arith)) (rank-short (k ∷ ks) qs (omega arith))
-  where
-    at : (m : Option ℕ) (b : Binding) → rankOf ks qs ≡ none → rankOf (k ∷ ks) qs ≡ none
-        → orElse (meetRow m (rankOf ks qs)) (skipRow b (rankOf (k ∷ ks) qs)) ≡ none
-    at none tight e f = refl
-    at none loose e f = rw f refl
-    at (some m) tight e f = rw e refl
-    at (some m) loose e f = rw (e, f) refl
+rank-short (k ∷ ks) (q ∷ qs) h =
+    neither _ (k .binding) _ (unmet (markAt k q) (rankOf ks qs) (rank-short ks qs (omega arith))) (rank-short (k ∷ ks) qs (omega arith))
 
 pub rank-past : (qs : List Position) → 0 < length qs → rankOf [] qs ≡ none
 unfolding rankOf
 rank-past [] h = absurd (omega arith)
 rank-past (q ∷ qs) h = refl
+
+-- the last part has no mark at the last position
+pub rank-last : (ks : List Part) (p : Part) (qs : List Position) (q : Position) → markAt p q ≡ none → rankOf (ks ++ (p ∷ [])) (qs ++ (q ∷ [])) ≡ none
+unfolding rankOf
+rank-last [] p [] q e = neither _ (p .binding) _ (unfold meetRow in rw e refl) refl
+rank-last [] p (r ∷ qs) q e =
+    neither _ (p .binding) _ (unmet (markAt p r) _ (rank-past (qs ++ (q ∷ [])) (some-left qs q))) (rank-last [] p qs q e)
+rank-last (k ∷ ks) p [] q e =
+    neither _ (k .binding) _ (unmet (markAt k q) _ (rank-short (ks ++ (p ∷ [])) [] (some-left ks p))) refl
+rank-last (k ∷ ks) p (r ∷ qs) q e =
+    neither _ (k .binding) _ (unmet (markAt k r) _ (rank-last ks p qs q e)) (rank-last (k ∷ ks) p qs q e)
+
+-- the last part at the last position
+pub rank-one : (p : Part) (q : Position) → rankOf (p ∷ []) (q ∷ []) ≡ meetRow (markAt p q) (some [])
+unfolding rankOf skipRow
+rank-one p q = at (p .binding) ∙ or-none (meetRow (markAt p q) (some []))
+  where
+    at : (b : Binding) → orElse (meetRow (markAt p q) (some [])) (skipRow b none) ≡ orElse (meetRow (markAt p q) (some [])) none
+    at tight = refl
+    at loose = refl
+
+pub joined-one : (r : Option (List ℕ)) (m : Option ℕ) → joined r (meetRow m (some [])) ≡ extended r m
+joined-one r m = joined-meet r m (some []) ∙ joined-end (extended r m)
 
 -- ---- The last of n that there is
 

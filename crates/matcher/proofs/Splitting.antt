@@ -8,13 +8,13 @@ use native.Mathlib.Numerals.{add-one}
 use lib.ListN.{length, getD, drop, set, length-set, length-drop, drop-of-length-le}
 use lib.Seq.{drop-cons, getD-set-same, getD-set-other}
 use Rattle.definition.specs.Lists.{takeWhile}
-use Rattle.definition.specs.Text.{Part, endsInName}
+use Rattle.definition.specs.Text.{Part}
 use Rattle.definition.specs.Image.{componentBytes, keyOf, keyParts}
-use Rattle.laws.proofs.Lists.{not-both, Order, below, equal, above, order, all-getD}
+use Rattle.laws.proofs.Lists.{Order, below, equal, above, order, all-getD}
 use Rattle.laws.proofs.Keys.{isLegal}
 use Rattle.matcher.specs.Keys.{notBinding, partBetween, noPart, Bounded}
 use Rattle.matcher.specs.declared.Key.{Key}
-use Rattle.matcher.proofs.Keys.{Parts, part-run, part-some, part-rest, part-inside, part-is}
+use Rattle.matcher.proofs.Keys.{Parts, some-part, part-run, part-some, part-rest, part-inside, part-is}
 
 pub record Splitting (key bounds : List ℕ) (count at : ℕ) : Type 0 where
   pub upto : at ≤ length key
@@ -30,11 +30,6 @@ nothing-written : (ps : List Part) → length (keyOf ps) ≡ 0 → length ps ≡
 unfolding keyOf
 nothing-written [] e = refl
 nothing-written (p ∷ ps) e = absurd (omega arith)
-
-some-part : (ps : List Part) → endsInName ps ≡ true → 0 < length ps
-unfolding endsInName
-some-part [] e = absurd (not-both e refl)
-some-part (p ∷ ps) e = omega arith
 
 module _ (key : List ℕ) (K : Parts key (keyParts key)) where
   pub begun : (bounds : List ℕ) → length bounds ≡ 17 → getD bounds 0 0 ≡ 0 → Splitting key bounds 0 0
@@ -60,7 +55,7 @@ module _ (key : List ℕ) (K : Parts key (keyParts key)) where
         record {
           count = z;
           few = omega (arith, K .few);
-          some = omega (arith, some-part (keyParts key) (K .named));
+          some = omega (arith, some-part key K);
           part = S .part;
           rises = S .rises;
           inside = S .inside;

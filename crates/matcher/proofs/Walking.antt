@@ -6,8 +6,8 @@ use mathlib.Core.Path.{_≡_, refl, sym, ap, _∙_}
 use Prim.Native.Nat.{ℕ, zero, suc, _+_, _-_, _≤_, _<_}
 use native.Mathlib.Omega.{arith}
 use native.Mathlib.Numerals.{add-one}
-use lib.ListN.{length, getD, take, drop, set, replicate, getD-replicate, length-set, length-drop, length-replicate}
-use lib.Seq.{getD-set-same, getD-set-other}
+use lib.ListN.{length, getD, take, drop, set, replicate, getD-replicate, length-set, length-drop, length-replicate, drop-of-length-le}
+use lib.Seq.{drop-cons, getD-set-same, getD-set-other}
 use Rattle.definition.specs.Lists.{orElse}
 use Rattle.definition.specs.Text.{Part, bindingOf}
 use Rattle.definition.specs.Query.{Position}
@@ -15,12 +15,12 @@ use Rattle.definition.specs.Matching.{markAt}
 use Rattle.definition.specs.Ranking.{rankOf}
 use Rattle.definition.specs.Image.{keyParts}
 use Rattle.laws.proofs.Lists.{Order, below, equal, above, order}
-use Rattle.matcher.specs.Rows.{rowIn, skipOf, extended, Clear, Continued, Reaches}
+use Rattle.matcher.specs.Rows.{rowIn, markIn, skipOf, extended, Clear, Continued, Reaches}
 use Rattle.matcher.specs.Keys.{partBetween, noPart, Bounded}
 use Rattle.matcher.specs.declared.Row.{Row}
 use Rattle.matcher.specs.declared.Key.{Key}
 use Rattle.matcher.proofs.Rows.{row-none, clear-from}
-use Rattle.matcher.proofs.Reached.{part, reached, reached-first, reached-turned, reached-last}
+use Rattle.matcher.proofs.Reached.{part, reached, rank-short, rank-one, joined-one, reached-first, reached-turned, reached-last}
 
 -- what an index past the rows has
 abbrev pub blank : Row
@@ -110,7 +110,7 @@ module _ (ps : List Part) (qs : List Position) (top : ℕ) (z : suc top ≡ leng
   passing-more p old rows q r P T e h k = record {
     size = length-set rows 0 r ∙ T .size;
     row = P .row ∙ ap (reached ps top (rowAt p old)) e
-      ∙ reached-turned ps top (rowAt p old) (rowAt (p + 1) (set rows 0 r)) q (drop (p + 1) qs) z (omega (arith, length-drop (p + 1) qs)) first next;
+        ∙ reached-turned ps top (rowAt p old) (rowAt (p + 1) (set rows 0 r)) q (drop (p + 1) qs) z (omega (arith, length-drop (p + 1) qs)) first next;
     clear = clear;
   }
     where
@@ -186,3 +186,24 @@ module _ (key : List ℕ) (k : Key) (B : Bounded key k) (qs : List Position) (p 
       let g = T .same 0 (omega arith) in
       let d = c (rw g (P .clear 0 (omega arith))) in
       passing-more (keyParts key) qs (k .count - 1) parts-count p old rows q r P (rw f at T) e h (rw (g, binding-at key k B 0 (B .some)) at d)
+
+  pub last-bounds : (getD (k .bounds) (k .count - 1) 0 + 1 < getD (k .bounds) (k .count) 0) × (getD (k .bounds) (k .count) 0 ≤ length key)
+  last-bounds =
+      let z : k .count - 1 + 1 ≡ k .count = omega (arith, B .some) in
+      (rw z at (B .rises (k .count - 1) (omega (arith, B .some))), B .inside (k .count) (omega arith))
+
+  -- the last part at the last position
+  pub found-last : (q : Position) (row r : Row) (m : ℕ) → Reaches (keyParts key) qs (k .count - 1) p row → drop p qs ≡ q ∷ []
+      → markIn m ≡ markAt (partBetween key (getD (k .bounds) (k .count - 1) 0) (getD (k .bounds) (k .count) 0)) q
+      → Continued p r (extended (rowIn p row) (markIn m)) → rowIn (p + 1) r ≡ rankOf (keyParts key) qs
+  found-last q row r m R e f c =
+      let z : k .count - 1 + 1 ≡ k .count = omega (arith, B .some) in
+      let last : part (keyParts key) (k .count - 1) ≡ partBetween key (getD (k .bounds) (k .count - 1) 0) (getD (k .bounds) (k .count) 0) =
+      B .part (k .count - 1) (omega (arith, B .some)) ∙ ap (λ (i : ℕ). partBetween key (getD (k .bounds) (k .count - 1) 0) (getD (k .bounds) i 0)) z in
+      let g : drop (k .count - 1) (keyParts key) ≡ part (keyParts key) (k .count - 1) ∷ [] =
+      drop-cons (keyParts key) (k .count - 1) noPart (omega (arith, parts-count))
+      ∙ ap (λ (l : List Part). part (keyParts key) (k .count - 1) ∷ l) (drop-of-length-le (keyParts key) {i = suc (k .count - 1)} (omega (arith, parts-count))) in
+      c .marks ∙ rw (f, ← last) (sym (R .row ∙ rw (e, g, rank-one) (joined-one (rowIn p row) _)))
+
+pub none-short : (n : ℕ) (r : Row) (ps : List Part) (qs : List Position) → r .live ≡ false → length qs < length ps → rowIn n r ≡ rankOf ps qs
+none-short n r ps qs e h = row-none n r e ∙ sym (rank-short ps qs h)

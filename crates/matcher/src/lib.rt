@@ -1,12 +1,13 @@
 // How well a key matches a query, and which of two matches wins: the Rust's `check_match`, `compare_matches`, and `match_entry` for one entry.
 ghost use mathlib.Core.Path.{_≡_};
-ghost use mathlib.Core.List.{[], _∷_};
+ghost use mathlib.Core.List.{List, [], _∷_, _++_};
 ghost use mathlib.Core.Bool.{Bool, true, false};
 ghost use mathlib.Core.Option.{none};
 ghost use Prim.Native.Nat.{ℕ, _+_, _-_, _≤_, _<_, max};
 ghost use lib.ListN.{length, take, drop, getD};
 ghost use Rattle.definition.specs.Lists.{if_then_else_, takeWhile, orElse, same, lower};
-ghost use Rattle.definition.specs.Query.{positionsOf};
+ghost use Rattle.definition.specs.Bytes.{isBinding};
+ghost use Rattle.definition.specs.Query.{Position, positionsOf};
 ghost use Rattle.definition.specs.Matching.{equals, markAt};
 ghost use Rattle.definition.specs.Ranking.{rankOf, better};
 ghost use Rattle.definition.specs.Image.{keyParts, isKey};
@@ -15,8 +16,8 @@ ghost use Rattle.query.specs.Splits.{namesIn, Inside};
 ghost use Rattle.matcher.specs.Rows.{rowIn, bestIn, markIn, skipOf, extended, Clear, Continued, Reaches};
 ghost use Rattle.matcher.specs.Keys.{notBinding, partBetween, Bounded};
 ghost use Rattle.matcher.specs.Places.{placeOf, placed, Within, positionIn};
-
-use query::{Split, QUERY_PARTS};
+use query::QUERY_PARTS;
+use query::Split;
 
 // The most parts of a key.
 const KEY_PARTS: usize = 16;
@@ -224,7 +225,15 @@ fn next_row(
 }
 
 // For each part of the key the best row that reaches it, over all positions but the last; the row of the last part.
-fn check_match(key: &[u8], k: Key, name: &[u8], names: Split, class: &[u8], classes: Split, last: usize) -> Row
+fn check_match(
+    key: &[u8],
+    k: Key,
+    name: &[u8],
+    names: Split,
+    class: &[u8],
+    classes: Split,
+    last: usize,
+) -> Row
     requires { ⌜ Bounded (now key) k × Inside (now name) names × Inside (now class) classes × (last + 1 ≡ max (names .count) (classes .count)) ⌝ }
     ensures { λ r. ⌜ Reaches (keyParts (now (key .entry))) (positionsOf (namesIn (now (name .entry)) names) (namesIn (now (class .entry)) classes)) (k .count - 1) last r ⌝ }
 {
@@ -255,4 +264,118 @@ fn check_match(key: &[u8], k: Key, name: &[u8], names: Split, class: &[u8], clas
         p += 1;
     }
     rows[top]
+}
+
+// Does the key end in a binding and the name, from the last byte on?
+fn ends_in(key: &[u8], name: &[u8]) -> bool
+    ensures { λ r. ⌜ (r ≡ false → (front : List ℕ) (b : ℕ) → isBinding b ≡ true → now (key .entry) ≡ front ++ b ∷ now (name .entry) → ⊥) ⌝ }
+{
+    let n = name.len();
+    if key.len() <= n {
+        return false;
+    }
+    let at = key.len() - n;
+    let mut i = n;
+    while 0 < i {
+        i -= 1;
+        if key[at + i] != name[i] {
+            return false;
+        }
+    }
+    let b = key[at - 1];
+    if b == b'.' {
+        return true;
+    }
+    b == b'*'
+}
+
+// Does the key end in the query's part at a place? A missing part equals nothing.
+fn ends_at(key: &[u8], text: &[u8], p: Place) -> bool
+    requires { ⌜ Within (now text) p ⌝ }
+    ensures { λ r. ⌜ (r ≡ false → (front : List ℕ) (b : ℕ) (n : List ℕ) → isBinding b ≡ true → now (key .entry) ≡ front ++ b ∷ n → equals n (placed (now (text .entry)) p) ≡ false) ⌝ }
+{
+    if p.here {
+        let start = p.start;
+        let end = p.end;
+        return ends_in(key, &text[start..end]);
+    }
+    false
+}
+
+// May the key's last part, which is a name, meet the last position? This refuses most keys before they are split.
+fn may_match(key: &[u8], name: &[u8], n: Place, class: &[u8], c: Place) -> bool
+    requires { ⌜ (isKey (now key) ≡ true) × Within (now name) n × Within (now class) c ⌝ }
+    ensures { λ r. ⌜ (r ≡ false → (qs : List Position) → rankOf (keyParts (now (key .entry))) (qs ++ positionIn (now (name .entry)) n (now (class .entry)) c ∷ []) ≡ none) ⌝ }
+{
+    if ends_at(key, name, n) {
+        return true;
+    }
+    ends_at(key, class, c)
+}
+
+fn longer(a: usize, b: usize) -> usize
+    ensures { λ r. ⌜ r ≡ max a b ⌝ }
+{
+    if a < b { b } else { a }
+}
+
+// The highest row of a key, of as many marks as the query has positions.
+pub fn match_key(key: &[u8], name: &[u8], names: Split, class: &[u8], classes: Split) -> Row
+    requires { ⌜ (isKey (now key) ≡ true) × Inside (now name) names × Inside (now class) classes ⌝ }
+    ensures { λ r. ⌜ rowIn (max (names .count) (classes .count)) r ≡ rankOf (keyParts (now (key .entry))) (positionsOf (namesIn (now (name .entry)) names) (namesIn (now (class .entry)) classes)) ⌝ }
+{
+    let len = longer(names.count, classes.count);
+    if len == 0 {
+        return no_row();
+    }
+    let last = len - 1;
+    let n = place_at(names, last);
+    let c = place_at(classes, last);
+    if !may_match(key, name, n, class, c) {
+        return no_row();
+    }
+    let k = split_key(key);
+    let count = k.count;
+    if len < count {
+        return no_row();
+    }
+    let b = k.bounds[count - 1];
+    let e = k.bounds[count];
+    let m = mark(key, b, e, name, n, class, c);
+    let row = check_match(key, k, name, names, class, classes, last);
+    step(row, m, last)
+}
+
+// Is the first row lower than the second? The first difference of their marks from the left decides.
+fn is_lower(a: Row, b: Row, len: usize) -> bool
+    requires { ⌜ len ≤ 32 ⌝ }
+    ensures { λ r. ⌜ r ≡ lower (take len (a .marks)) (take len (b .marks)) ⌝ }
+{
+    let mut i = 0;
+    while i < len {
+        let x = a.marks[i];
+        let y = b.marks[i];
+        if x < y {
+            return true;
+        }
+        if y < x {
+            return false;
+        }
+        i += 1;
+    }
+    false
+}
+
+// Does the row of a later entry win over the best so far? Of equals the last wins.
+pub fn wins(r: Row, best: Row, len: usize) -> bool
+    requires { ⌜ len ≤ 32 ⌝ }
+    ensures { λ w. ⌜ ((i at : ℕ) → better i (rowIn len r) (bestIn len at best) ≡ (if w then bestIn len i r else bestIn len at best)) ⌝ }
+{
+    if r.live {
+        if best.live {
+            return !is_lower(r, best, len);
+        }
+        return true;
+    }
+    false
 }

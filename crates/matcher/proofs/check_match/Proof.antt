@@ -143,10 +143,15 @@ next-row-requires c κs =
     let w = parts-here .parts in
     let h : 0 < w .i = parts-test-here .parts-test .taken in
     let b = bounds-at (a .key .now) (a .t2) B _ _ _ _ (w .i) (w .inv) h in
-    let clear = turning-clear (a .key .now) (a .t2) B _ _ _ _ (w .i) (w .inv) h (positions-here .positions .inv .1 .clear) in
-    (b .0, b .1, rw (place-at-here .place-at .ensures) (place-within _ _ _ (start-here .pre .1)), rw (place-at2-here .place-at2 .ensures) (place-within _ _ _ (start-here .pre .2)),
+    let clear = turning-clear (a .key .now) (a .t2) B _ _ _ _ (w .i) (w .inv) h (positions-here .positions .inv .1 .clear) in (
+      b .0,
+      b .1,
+      rw (place-at-here .place-at .ensures) (place-within _ _ _ (start-here .pre .1)),
+      rw (place-at2-here .place-at2 .ensures) (place-within _ _ _ (start-here .pre .2)),
       omega (arith, positions-test-here .positions-test .taken, start-here .pre .1 .few, start-here .pre .2 .few, start-here .pre .3),
-      clear (w .i - 1 + 1) (omega arith), clear (w .i - 1) (omega arith))
+      clear (w .i - 1 + 1) (omega arith),
+      clear (w .i - 1) (omega arith),
+    )
 
 -- src/lib.rt:250:18
 add-rows : tie.Need-add-rows Inv-parts μ-parts Inv-positions μ-positions
@@ -217,12 +222,13 @@ positions-again c =
     let a = start-here .args in
     let p = positions-here .positions .p in
     let h : p < a .last = positions-test-here .positions-test .taken in
-    let l = length-queried (a .name .now) (a .names) (a .class .now) (a .classes) in
-    (omega arith,
+    let l = length-queried (a .name .now) (a .names) (a .class .now) (a .classes) in (
+      omega arith,
       passing-next (a .key .now) (a .t2) (start-here .pre .0) (queried (a .name .now) (a .names) (a .class .now) (a .classes)) p _ _ _ _ (positions-here .positions .inv .1) (parts-here .parts .inv)
-      (parts-test-here .parts-test .left)
-      (rw (place-at-here .place-at .ensures, place-at2-here .place-at2 .ensures) (queried-at (a .name .now) (a .names) (a .class .now) (a .classes) p (omega (arith, start-here .pre .3))))
-      (omega (arith, start-here .pre .3)) (c .skip-loose .result) (c .skip-loose .ensures p (omega (arith, start-here .pre .1 .few, start-here .pre .2 .few, start-here .pre .3))))
+          (parts-test-here .parts-test .left)
+          (rw (place-at-here .place-at .ensures, place-at2-here .place-at2 .ensures) (queried-at (a .name .now) (a .names) (a .class .now) (a .classes) p (omega (arith, start-here .pre .3))))
+          (omega (arith, start-here .pre .3)) (c .skip-loose .result) (c .skip-loose .ensures p (omega (arith, start-here .pre .1 .few, start-here .pre .2 .few, start-here .pre .3))),
+    )
 
 -- src/lib.rt:257:5
 mul-result : tie.Need-mul-result Inv-parts μ-parts Inv-positions μ-positions
