@@ -3,11 +3,11 @@ use mathlib.Core.Bool.{Bool, true, false}
 use mathlib.Core.List.{List, [], _∷_, _++_, append-assoc, append-nil}
 use mathlib.Core.Option.{Option, some, none}
 use mathlib.Core.Path.{_≡_, refl, sym, ap, _∙_}
-use Prim.Native.Nat.{ℕ, zero, suc, _+_, _-_, _≤_, _<_}
+use Prim.Native.Nat.{ℕ, suc, _+_, _-_, _<_, max}
 use native.Mathlib.Omega.{arith}
-use native.Mathlib.Numerals.{add-one}
-use lib.ListN.{length, getD, length-append}
-use lib.Seq.{append-snoc, getD-append-seam, getD-append-add}
+use native.Mathlib.Decide.{decLt}
+use lib.ListN.{length, getD, take, length-append}
+use lib.Seq.{getD-append-seam, getD-append-add}
 use borrow.Author.Tests.{ne-eqb}
 use Rattle.definition.specs.Lists.{same}
 use Rattle.definition.specs.Bytes.{dot, star, isBinding}
@@ -16,9 +16,13 @@ use Rattle.definition.specs.Query.{Position}
 use Rattle.definition.specs.Matching.{equals, matchAt, markAt}
 use Rattle.definition.specs.Ranking.{rankOf}
 use Rattle.definition.specs.Image.{bindingByte, keyOf, keyParts, isKey}
+use Rattle.query.specs.declared.Split.{Split}
 use Rattle.laws.proofs.Lists.{not-both, same-eq}
-use Rattle.matcher.proofs.Keys.{parts-of}
-use Rattle.matcher.proofs.Reached.{rank-last}
+use Rattle.matcher.specs.Places.{placeOf, placed, positionIn}
+use Rattle.matcher.specs.declared.Place.{Place}
+use Rattle.matcher.proofs.Keys.{parts-of, some-part}
+use Rattle.matcher.proofs.Reached.{rank-last, rank-short}
+use Rattle.matcher.proofs.Positions.{queried, length-queried, queried-ends}
 
 -- ---- The key's end
 
@@ -112,3 +116,18 @@ end-misses key h q f g qs =
   where
     unmatched : (p : Part) (q : Position) (n : List ℕ) → p .component ≡ name n → equals n (q .instance) ≡ false → equals n (q .class) ≡ false → markAt p q ≡ none
     unmatched p q n e i c = unfold markAt matchAt in rw (e, i, c) refl
+
+-- neither the name nor the class has the key's last part at the last position
+pub refused : (key : List ℕ) → isKey key ≡ true → (t : List ℕ) (n : Place) (u : List ℕ) (c : Place) → Misses key (placed t n) → Misses key (placed u c)
+    → (names classes : Split) → n ≡ placeOf names (max (names .count) (classes .count) - 1) → c ≡ placeOf classes (max (names .count) (classes .count) - 1)
+    → rankOf (keyParts key) (queried t names u classes) ≡ none
+refused key h t n u c f g names classes d e = at (decLt 0 (max (names .count) (classes .count)))
+  where
+    at : Dec (0 < max (names .count) (classes .count)) → rankOf (keyParts key) (queried t names u classes) ≡ none
+    at (yes z) =
+        let k : max (names .count) (classes .count) - 1 + 1 ≡ max (names .count) (classes .count) = omega arith in
+        ap (rankOf (keyParts key)) (queried-ends t names u classes (max (names .count) (classes .count) - 1) k)
+        ∙ rw (← d, ← e) (end-misses key h (positionIn t n u c) f g (take (max (names .count) (classes .count) - 1) (queried t names u classes)))
+    at (no z) =
+        rank-short (keyParts key) (queried t names u classes)
+        (omega (arith, length-queried t names u classes, some-part key (parts-of key h)))

@@ -4,10 +4,11 @@ ghost use mathlib.Core.List.{List, [], _∷_, _++_};
 ghost use mathlib.Core.Bool.{Bool, true, false};
 ghost use mathlib.Core.Option.{none};
 ghost use Prim.Native.Nat.{ℕ, _+_, _-_, _≤_, _<_, max};
+ghost use lib.Dec.{ltb};
 ghost use lib.ListN.{length, take, drop, getD};
 ghost use Rattle.definition.specs.Lists.{if_then_else_, takeWhile, orElse, same, lower};
 ghost use Rattle.definition.specs.Bytes.{isBinding};
-ghost use Rattle.definition.specs.Query.{Position, positionsOf};
+ghost use Rattle.definition.specs.Query.{positionsOf};
 ghost use Rattle.definition.specs.Matching.{equals, markAt};
 ghost use Rattle.definition.specs.Ranking.{rankOf, better};
 ghost use Rattle.definition.specs.Image.{keyParts, isKey};
@@ -57,25 +58,42 @@ fn same_text(a: &[u8], b: &[u8]) -> bool
     true
 }
 
+// The part at `i`, if there are more than `i`.
+fn place_of(i: usize, count: usize, start: u16, length: u16) -> Place
+    ensures { λ r. ⌜ r ≡ (if ltb i count then record { here = true; start = start; end = start + length } else record { here = false; start = 0; end = 0 }) ⌝ }
+{
+    if i < count {
+        let at = start as usize;
+        let size = length as usize;
+        return Place {
+            here: true,
+            start: at,
+            end: at + size,
+        };
+    }
+    Place {
+        here: false,
+        start: 0,
+        end: 0,
+    }
+}
+
 fn place_at(s: Split, i: usize) -> Place
-    requires { ⌜ s .count ≤ 32 ⌝ }
+    requires { ⌜ i < 32 ⌝ }
     ensures { λ r. ⌜ r ≡ placeOf s i ⌝ }
 {
-    if i < s.count {
-        let start = s.starts[i] as usize;
-        let length = s.lengths[i] as usize;
-        Place {
-            here: true,
-            start,
-            end: start + length,
-        }
-    } else {
-        Place {
-            here: false,
-            start: 0,
-            end: 0,
-        }
+    place_of(i, s.count, s.starts[i], s.lengths[i])
+}
+
+// The part at the last of `len` positions.
+pub fn last_part(s: Split, len: usize) -> Place
+    requires { ⌜ len ≤ 32 ⌝ }
+    ensures { λ r. ⌜ r ≡ placeOf s (len - 1) ⌝ }
+{
+    if len == 0 {
+        return place_at(s, 0);
     }
+    place_at(s, len - 1)
 }
 
 // Is the name the query's part at a place? A missing part equals nothing.
@@ -246,8 +264,9 @@ fn check_match(
     rows[0] = first;
     let mut p = 0;
     'positions: while p < last {
-        let n = place_at(names, p);
-        let c = place_at(classes, p);
+        // The arrays are read here: a call that takes a split copies it.
+        let n = place_of(p, names.count, names.starts[p], names.lengths[p]);
+        let c = place_of(p, classes.count, classes.starts[p], classes.lengths[p]);
         let mut i = top;
         'parts: while 0 < i {
             i -= 1;
@@ -302,10 +321,10 @@ fn ends_at(key: &[u8], text: &[u8], p: Place) -> bool
     false
 }
 
-// May the key's last part, which is a name, meet the last position? This refuses most keys before they are split.
-fn may_match(key: &[u8], name: &[u8], n: Place, class: &[u8], c: Place) -> bool
+// May the key match? Its last part is a name and must meet the last position. This refuses most keys before they are split.
+pub fn may_match(key: &[u8], name: &[u8], n: Place, class: &[u8], c: Place) -> bool
     requires { ⌜ (isKey (now key) ≡ true) × Within (now name) n × Within (now class) c ⌝ }
-    ensures { λ r. ⌜ (r ≡ false → (qs : List Position) → rankOf (keyParts (now (key .entry))) (qs ++ positionIn (now (name .entry)) n (now (class .entry)) c ∷ []) ≡ none) ⌝ }
+    ensures { λ r. ⌜ (r ≡ false → (names classes : Split) → n ≡ placeOf names (max (names .count) (classes .count) - 1) → c ≡ placeOf classes (max (names .count) (classes .count) - 1) → rankOf (keyParts (now (key .entry))) (positionsOf (namesIn (now (name .entry)) names) (namesIn (now (class .entry)) classes)) ≡ none) ⌝ }
 {
     if ends_at(key, name, n) {
         return true;
@@ -325,22 +344,16 @@ pub fn match_key(key: &[u8], name: &[u8], names: Split, class: &[u8], classes: S
     ensures { λ r. ⌜ rowIn (max (names .count) (classes .count)) r ≡ rankOf (keyParts (now (key .entry))) (positionsOf (namesIn (now (name .entry)) names) (namesIn (now (class .entry)) classes)) ⌝ }
 {
     let len = longer(names.count, classes.count);
-    if len == 0 {
-        return no_row();
-    }
-    let last = len - 1;
-    let n = place_at(names, last);
-    let c = place_at(classes, last);
-    if !may_match(key, name, n, class, c) {
-        return no_row();
-    }
     let k = split_key(key);
     let count = k.count;
     if len < count {
         return no_row();
     }
+    let last = len - 1;
     let b = k.bounds[count - 1];
     let e = k.bounds[count];
+    let n = place_at(names, last);
+    let c = place_at(classes, last);
     let m = mark(key, b, e, name, n, class, c);
     let row = check_match(key, k, name, names, class, classes, last);
     step(row, m, last)

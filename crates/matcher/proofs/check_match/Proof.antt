@@ -7,6 +7,7 @@ use Rattle.matcher.specs.Places.{placeOf, positionIn}
 use Rattle.matcher.proofs.Positions.{queried, length-queried, queried-at, queried-last, place-within}
 use Rattle.matcher.proofs.Walking.{Passing, Turning, turning-first, turning-more, passing-first, passing-more, passing-last, binding-at, bounds-at, turning-clear, turning-next, parts-count, passing-next}
 use borrow.Author.Needs.{needs}
+use Rattle.matcher.proofs.place_at.Reads as place-at-reads
 use Rattle.matcher.proofs.check_match.Statement.{statement}
 use Rattle.matcher.proofs.check_match.Tie as tie
 use Rattle.matcher.proofs.check_match.Reads as reads
@@ -14,31 +15,31 @@ use Rattle.matcher.proofs.check_match.Lts as lts
 use Rattle.matcher.proofs.first_row.Reads as first-row-reads
 use Rattle.matcher.proofs.next_row.Reads as next-row-reads
 use Rattle.matcher.proofs.no_row.Reads as no-row-reads
-use Rattle.matcher.proofs.place_at.Reads as place-at-reads
+use Rattle.matcher.proofs.place_of.Reads as place-of-reads
 use Rattle.matcher.proofs.skip_loose.Reads as skip-loose-reads
 
 abbrev Inv-parts : tie.InvT-parts
-Inv-parts key name names class classes last k top at binding rows₀ p n c i₀ rows i = Turning (keyParts key) (positionIn name n class c) top p rows₀ rows i
+Inv-parts key name class last k names classes top at binding rows₀ p n c i₀ rows i = Turning (keyParts key) (positionIn name n class c) top p rows₀ rows i
 
 abbrev μ-parts : tie.MeasureT-parts
-μ-parts key name names class classes last k top at binding rows₀ p n c i₀ rows i = i
+μ-parts key name class last k names classes top at binding rows₀ p n c i₀ rows i = i
 
 abbrev Inv-positions : tie.InvT-positions
-Inv-positions key name names class classes last k top at binding rows₀ p₀ rows p = (p ≤ last) × Passing (keyParts key) (queried name names class classes) top p rows
+Inv-positions key name class last k names classes top at binding rows₀ p₀ rows p = (p ≤ last) × Passing (keyParts key) (queried name names class classes) top p rows
 
 abbrev μ-positions : tie.MeasureT-positions
-μ-positions key name names class classes last k top at binding rows₀ p₀ rows p = last - p
+μ-positions key name class last k names classes top at binding rows₀ p₀ rows p = last - p
 
--- src/lib.rt:231:15
+-- src/lib.rt:258:15
 sub-top : tie.Need-sub-top Inv-parts μ-parts Inv-positions μ-positions
 sub-top c = search needs
 
--- src/lib.rt:232:17
+-- src/lib.rt:259:14
 element-copy-out-at :
     tie.Need-element-copy-out-at Inv-parts μ-parts Inv-positions μ-positions
 element-copy-out-at c = search needs
 
--- src/lib.rt:233:19
+-- src/lib.rt:260:19
 shared-slice-read-binding :
     tie.Need-shared-slice-read-binding Inv-parts μ-parts Inv-positions μ-positions
 shared-slice-read-binding c =
@@ -46,19 +47,19 @@ shared-slice-read-binding c =
     let B = start-here .pre .0 in
     omega (arith, B .rises 0 (B .some), B .inside 1 (B .some))
 
--- src/lib.rt:234:9
+-- src/lib.rt:261:9
 no-row-requires : tie.Need-no-row-requires Inv-parts μ-parts Inv-positions μ-positions
 no-row-requires c κs = search needs
 
--- src/lib.rt:236:9
+-- src/lib.rt:263:9
 first-row-requires : tie.Need-first-row-requires Inv-parts μ-parts Inv-positions μ-positions
 first-row-requires c κs = search needs
 
--- src/lib.rt:237:5
+-- src/lib.rt:264:5
 array-set-from-rows : tie.Need-array-set-from-rows Inv-parts μ-parts Inv-positions μ-positions
 array-set-from-rows c = search needs
 
--- src/lib.rt:239:5
+-- src/lib.rt:266:5
 positions-holds : tie.Need-positions-holds Inv-parts μ-parts Inv-positions μ-positions
 positions-holds c =
     let start-here = c .before .before .before .before .before .before .before in
@@ -68,74 +69,134 @@ positions-holds c =
     let z : suc (a .t2 .count - 1) ≡ length (keyParts (a .key .now)) = omega (arith, B .count, B .some) in
     let none = no-row-here .no-row .ensures in
     let first = c .first-row .ensures in
-    (omega arith, passing-first (keyParts (a .key .now)) (queried (a .name .now) (a .names) (a .class .now) (a .classes)) (a .t2 .count - 1) z _ _ (none .0) (none .1) (first .0) (first .1))
+    (omega arith, passing-first (keyParts (a .key .now)) (queried (a .name .now) (a .t4) (a .class .now) (a .t6)) (a .t2 .count - 1) z _ _ (none .0) (none .1) (first .0) (first .1))
 
--- src/lib.rt:240:13
-place-at-requires : tie.Need-place-at-requires Inv-parts μ-parts Inv-positions μ-positions
-place-at-requires c κs = search needs
+-- src/lib.rt:268:42
+mul-place-of : tie.Need-mul-place-of Inv-parts μ-parts Inv-positions μ-positions
+mul-place-of c =
+    let start-here = c .before .before .before .before .before .before .before .before .before in
+    let positions-test-here = c in
+    omega (arith, positions-test-here .positions-test .taken, start-here .pre .1 .few, start-here .pre .2 .few, start-here .pre .3)
 
--- src/lib.rt:241:13
-place-at-requires-2 : tie.Need-place-at-requires-2 Inv-parts μ-parts Inv-positions μ-positions
-place-at-requires-2 c κs = search needs
+-- src/lib.rt:268:42
+element-copy-out-place-of :
+    tie.Need-element-copy-out-place-of Inv-parts μ-parts Inv-positions μ-positions
+element-copy-out-place-of c =
+    let start-here = c .before .before .before .before .before .before .before .before .before in
+    let positions-test-here = c in
+    omega (arith, positions-test-here .positions-test .taken, start-here .pre .1 .few, start-here .pre .2 .few, start-here .pre .3)
 
--- src/lib.rt:243:9
+-- src/lib.rt:268:59
+mul-place-of-2 : tie.Need-mul-place-of-2 Inv-parts μ-parts Inv-positions μ-positions
+mul-place-of-2 c =
+    let start-here = c .before .before .before .before .before .before .before .before .before .before in
+    let positions-test-here = c .before in
+    omega (arith, positions-test-here .positions-test .taken, start-here .pre .1 .few, start-here .pre .2 .few, start-here .pre .3)
+
+-- src/lib.rt:268:59
+element-copy-out-place-of-2 :
+    tie.Need-element-copy-out-place-of-2 Inv-parts μ-parts Inv-positions μ-positions
+element-copy-out-place-of-2 c =
+    let start-here = c .before .before .before .before .before .before .before .before .before .before in
+    let positions-test-here = c .before in
+    omega (arith, positions-test-here .positions-test .taken, start-here .pre .1 .few, start-here .pre .2 .few, start-here .pre .3)
+
+-- src/lib.rt:268:13
+place-of-requires : tie.Need-place-of-requires Inv-parts μ-parts Inv-positions μ-positions
+place-of-requires c κs = search needs
+
+-- src/lib.rt:269:44
+mul-place-of-3 : tie.Need-mul-place-of-3 Inv-parts μ-parts Inv-positions μ-positions
+mul-place-of-3 c =
+    let start-here = c .before .before .before .before .before .before .before .before .before .before .before .before in
+    let positions-test-here = c .before .before .before in
+    omega (arith, positions-test-here .positions-test .taken, start-here .pre .1 .few, start-here .pre .2 .few, start-here .pre .3)
+
+-- src/lib.rt:269:44
+element-copy-out-place-of-3 :
+    tie.Need-element-copy-out-place-of-3 Inv-parts μ-parts Inv-positions μ-positions
+element-copy-out-place-of-3 c =
+    let start-here = c .before .before .before .before .before .before .before .before .before .before .before .before in
+    let positions-test-here = c .before .before .before in
+    omega (arith, positions-test-here .positions-test .taken, start-here .pre .1 .few, start-here .pre .2 .few, start-here .pre .3)
+
+-- src/lib.rt:269:63
+mul-place-of-4 : tie.Need-mul-place-of-4 Inv-parts μ-parts Inv-positions μ-positions
+mul-place-of-4 c =
+    let start-here = c .before .before .before .before .before .before .before .before .before .before .before .before .before in
+    let positions-test-here = c .before .before .before .before in
+    omega (arith, positions-test-here .positions-test .taken, start-here .pre .1 .few, start-here .pre .2 .few, start-here .pre .3)
+
+-- src/lib.rt:269:63
+element-copy-out-place-of-4 :
+    tie.Need-element-copy-out-place-of-4 Inv-parts μ-parts Inv-positions μ-positions
+element-copy-out-place-of-4 c =
+    let start-here = c .before .before .before .before .before .before .before .before .before .before .before .before .before in
+    let positions-test-here = c .before .before .before .before in
+    omega (arith, positions-test-here .positions-test .taken, start-here .pre .1 .few, start-here .pre .2 .few, start-here .pre .3)
+
+-- src/lib.rt:269:13
+place-of-requires-2 : tie.Need-place-of-requires-2 Inv-parts μ-parts Inv-positions μ-positions
+place-of-requires-2 c κs = search needs
+
+-- src/lib.rt:271:9
 parts-holds : tie.Need-parts-holds Inv-parts μ-parts Inv-positions μ-positions
 parts-holds c =
-    let positions-here = c .before .before .before in
+    let positions-here = c .before .before .before .before .before .before .before in
     turning-first _ _ _ _ _ (positions-here .positions .inv .1 .size)
 
--- src/lib.rt:244:13
+-- src/lib.rt:272:13
 sub-i : tie.Need-sub-i Inv-parts μ-parts Inv-positions μ-positions
 sub-i c = search needs
 
--- src/lib.rt:245:21
+-- src/lib.rt:273:21
 mul-b : tie.Need-mul-b Inv-parts μ-parts Inv-positions μ-positions
 mul-b c = search needs
 
--- src/lib.rt:245:21
+-- src/lib.rt:273:21
 element-copy-out-b : tie.Need-element-copy-out-b Inv-parts μ-parts Inv-positions μ-positions
 element-copy-out-b c = search needs
 
--- src/lib.rt:246:30
+-- src/lib.rt:274:30
 add-e : tie.Need-add-e Inv-parts μ-parts Inv-positions μ-positions
 add-e c = search needs
 
--- src/lib.rt:246:21
+-- src/lib.rt:274:21
 mul-e : tie.Need-mul-e Inv-parts μ-parts Inv-positions μ-positions
 mul-e c = search needs
 
--- src/lib.rt:246:21
+-- src/lib.rt:274:21
 element-copy-out-e : tie.Need-element-copy-out-e Inv-parts μ-parts Inv-positions μ-positions
 element-copy-out-e c = search needs
 
--- src/lib.rt:247:26
+-- src/lib.rt:275:26
 mul-before : tie.Need-mul-before Inv-parts μ-parts Inv-positions μ-positions
 mul-before c = search needs
 
--- src/lib.rt:247:26
+-- src/lib.rt:275:26
 array-copy-out-before : tie.Need-array-copy-out-before Inv-parts μ-parts Inv-positions μ-positions
 array-copy-out-before c = search needs
 
--- src/lib.rt:248:28
+-- src/lib.rt:276:28
 add-row : tie.Need-add-row Inv-parts μ-parts Inv-positions μ-positions
 add-row c = search needs
 
--- src/lib.rt:248:23
+-- src/lib.rt:276:23
 mul-row : tie.Need-mul-row Inv-parts μ-parts Inv-positions μ-positions
 mul-row c = search needs
 
--- src/lib.rt:248:23
+-- src/lib.rt:276:23
 array-copy-out-row : tie.Need-array-copy-out-row Inv-parts μ-parts Inv-positions μ-positions
 array-copy-out-row c = search needs
 
--- src/lib.rt:249:17
+-- src/lib.rt:277:17
 next-row-requires : tie.Need-next-row-requires Inv-parts μ-parts Inv-positions μ-positions
 next-row-requires c κs =
-    let start-here = c .before .before .before .before .before .before .before .before .before .before .before .before .before .before .before .before .before in
-    let positions-here = c .before .before .before .before .before .before .before .before .before in
-    let positions-test-here = c .before .before .before .before .before .before .before .before in
-    let place-at-here = c .before .before .before .before .before .before .before in
-    let place-at2-here = c .before .before .before .before .before .before in
+    let start-here = c .before .before .before .before .before .before .before .before .before .before .before .before .before .before .before .before .before .before .before .before .before in
+    let positions-here = c .before .before .before .before .before .before .before .before .before .before .before .before .before in
+    let positions-test-here = c .before .before .before .before .before .before .before .before .before .before .before .before in
+    let place-of-here = c .before .before .before .before .before .before .before .before .before in
+    let place-of2-here = c .before .before .before .before .before .before in
     let parts-here = c .before .before .before .before .before in
     let parts-test-here = c .before .before .before .before in
     let a = start-here .args in
@@ -146,99 +207,102 @@ next-row-requires c κs =
     let clear = turning-clear (a .key .now) (a .t2) B _ _ _ _ (w .i) (w .inv) h (positions-here .positions .inv .1 .clear) in (
       b .0,
       b .1,
-      rw (place-at-here .place-at .ensures) (place-within _ _ _ (start-here .pre .1)),
-      rw (place-at2-here .place-at2 .ensures) (place-within _ _ _ (start-here .pre .2)),
+      rw (place-of-here .place-of .ensures) (place-within _ _ _ (start-here .pre .1)),
+      rw (place-of2-here .place-of2 .ensures) (place-within _ _ _ (start-here .pre .2)),
       omega (arith, positions-test-here .positions-test .taken, start-here .pre .1 .few, start-here .pre .2 .few, start-here .pre .3),
       clear (w .i - 1 + 1) (omega arith),
       clear (w .i - 1) (omega arith),
     )
 
--- src/lib.rt:250:18
+-- src/lib.rt:278:18
 add-rows : tie.Need-add-rows Inv-parts μ-parts Inv-positions μ-positions
 add-rows c =
-    let start-here = c .before .before .before .before .before .before .before .before .before .before .before .before .before .before .before .before .before .before in
+    let start-here = c .before .before .before .before .before .before .before .before .before .before .before .before .before .before .before .before .before .before .before .before .before .before in
     let parts-here = c .before .before .before .before .before .before in
     omega (arith, parts-here .parts .inv .upto, start-here .pre .0 .few)
 
--- src/lib.rt:250:13
+-- src/lib.rt:278:13
 mul-rows : tie.Need-mul-rows Inv-parts μ-parts Inv-positions μ-positions
 mul-rows c =
-    let start-here = c .before .before .before .before .before .before .before .before .before .before .before .before .before .before .before .before .before .before in
+    let start-here = c .before .before .before .before .before .before .before .before .before .before .before .before .before .before .before .before .before .before .before .before .before .before in
     let parts-here = c .before .before .before .before .before .before in
     omega (arith, parts-here .parts .inv .upto, start-here .pre .0 .few)
 
--- src/lib.rt:250:13
+-- src/lib.rt:278:13
 array-set-from-rows-2 : tie.Need-array-set-from-rows-2 Inv-parts μ-parts Inv-positions μ-positions
 array-set-from-rows-2 c =
-    let start-here = c .before .before .before .before .before .before .before .before .before .before .before .before .before .before .before .before .before .before in
+    let start-here = c .before .before .before .before .before .before .before .before .before .before .before .before .before .before .before .before .before .before .before .before .before .before in
     let parts-here = c .before .before .before .before .before .before in
     let parts-test-here = c .before .before .before .before .before in
     omega (arith, parts-here .parts .inv .upto, parts-test-here .parts-test .taken, start-here .pre .0 .few)
 
--- src/lib.rt:243:9
+-- src/lib.rt:271:9
 parts-less : tie.Need-parts-less Inv-parts μ-parts Inv-positions μ-positions
 parts-less c = search needs
 
--- src/lib.rt:243:9
+-- src/lib.rt:271:9
 parts-again : tie.Need-parts-again Inv-parts μ-parts Inv-positions μ-positions
 parts-again c =
-    let start-here = c .before .before .before .before .before .before .before .before .before .before .before .before .before .before .before .before .before .before in
+    let start-here = c .before .before .before .before .before .before .before .before .before .before .before .before .before .before .before .before .before .before .before .before .before .before in
     let parts-here = c .before .before .before .before .before .before in
     let parts-test-here = c .before .before .before .before .before in
     let a = start-here .args in
     let w = parts-here .parts in
     turning-next (a .key .now) (a .t2) (start-here .pre .0) _ _ _ _ (w .i) (w .inv) (parts-test-here .parts-test .taken) (c .next-row .result) (c .next-row .ensures)
 
--- src/lib.rt:252:19
+-- src/lib.rt:280:19
 array-copy-out-row-2 : tie.Need-array-copy-out-row-2 Inv-parts μ-parts Inv-positions μ-positions
 array-copy-out-row-2 c = search needs
 
--- src/lib.rt:253:13
+-- src/lib.rt:281:13
 skip-loose-requires : tie.Need-skip-loose-requires Inv-parts μ-parts Inv-positions μ-positions
 skip-loose-requires c κs = search needs
 
--- src/lib.rt:254:9
+-- src/lib.rt:282:9
 array-set-from-rows-3 : tie.Need-array-set-from-rows-3 Inv-parts μ-parts Inv-positions μ-positions
 array-set-from-rows-3 c = search needs
 
--- src/lib.rt:255:9
+-- src/lib.rt:283:9
 add-p : tie.Need-add-p Inv-parts μ-parts Inv-positions μ-positions
-add-p c = search needs
+add-p c =
+    let start-here = c .before .before .before .before .before .before .before .before .before .before .before .before .before .before .before .before .before .before .before in
+    let positions-test-here = c .before .before .before .before .before .before .before .before .before .before in
+    omega (arith, positions-test-here .positions-test .taken, start-here .pre .1 .few, start-here .pre .2 .few, start-here .pre .3)
 
--- src/lib.rt:239:5
+-- src/lib.rt:266:5
 positions-less : tie.Need-positions-less Inv-parts μ-parts Inv-positions μ-positions
 positions-less c = search needs
 
--- src/lib.rt:239:5
+-- src/lib.rt:266:5
 positions-again : tie.Need-positions-again Inv-parts μ-parts Inv-positions μ-positions
 positions-again c =
-    let start-here = c .before .before .before .before .before .before .before .before .before .before .before .before .before .before .before in
-    let positions-here = c .before .before .before .before .before .before .before in
-    let positions-test-here = c .before .before .before .before .before .before in
-    let place-at-here = c .before .before .before .before .before in
-    let place-at2-here = c .before .before .before .before in
+    let start-here = c .before .before .before .before .before .before .before .before .before .before .before .before .before .before .before .before .before .before .before in
+    let positions-here = c .before .before .before .before .before .before .before .before .before .before .before in
+    let positions-test-here = c .before .before .before .before .before .before .before .before .before .before in
+    let place-of-here = c .before .before .before .before .before .before .before in
+    let place-of2-here = c .before .before .before .before in
     let parts-here = c .before .before .before in
     let parts-test-here = c .before .before in
     let a = start-here .args in
     let p = positions-here .positions .p in
     let h : p < a .last = positions-test-here .positions-test .taken in
-    let l = length-queried (a .name .now) (a .names) (a .class .now) (a .classes) in (
+    let l = length-queried (a .name .now) (a .t4) (a .class .now) (a .t6) in (
       omega arith,
-      passing-next (a .key .now) (a .t2) (start-here .pre .0) (queried (a .name .now) (a .names) (a .class .now) (a .classes)) p _ _ _ _ (positions-here .positions .inv .1) (parts-here .parts .inv)
+      passing-next (a .key .now) (a .t2) (start-here .pre .0) (queried (a .name .now) (a .t4) (a .class .now) (a .t6)) p _ _ _ _ (positions-here .positions .inv .1) (parts-here .parts .inv)
           (parts-test-here .parts-test .left)
-          (rw (place-at-here .place-at .ensures, place-at2-here .place-at2 .ensures) (queried-at (a .name .now) (a .names) (a .class .now) (a .classes) p (omega (arith, start-here .pre .3))))
+          (rw (place-of-here .place-of .ensures, place-of2-here .place-of2 .ensures) (queried-at (a .name .now) (a .t4) (a .class .now) (a .t6) p (omega (arith, start-here .pre .3))))
           (omega (arith, start-here .pre .3)) (c .skip-loose .result) (c .skip-loose .ensures p (omega (arith, start-here .pre .1 .few, start-here .pre .2 .few, start-here .pre .3))),
     )
 
--- src/lib.rt:257:5
+-- src/lib.rt:285:5
 mul-result : tie.Need-mul-result Inv-parts μ-parts Inv-positions μ-positions
 mul-result c = search needs
 
--- src/lib.rt:257:5
+-- src/lib.rt:285:5
 array-copy-out-result : tie.Need-array-copy-out-result Inv-parts μ-parts Inv-positions μ-positions
 array-copy-out-result c = search needs
 
--- src/lib.rt:227:1
+-- src/lib.rt:246:1
 returns : tie.Need-returns Inv-parts μ-parts Inv-positions μ-positions
 returns c =
     let start-here = c .before .before .before .before .before .before .before .before .before .before in
@@ -247,9 +311,9 @@ returns c =
     let a = start-here .args in
     let w = positions-here .positions in
     let z : w .p ≡ a .last = omega (arith, positions-test-here .positions-test .left) in
-    let qs = queried (a .name .now) (a .names) (a .class .now) (a .classes) in
+    let qs = queried (a .name .now) (a .t4) (a .class .now) (a .t6) in
     passing-last (keyParts (a .key .now)) qs (a .t2 .count - 1) (parts-count (a .key .now) (a .t2) (start-here .pre .0) qs 0) (w .p) (a .last) (w .rows) _ z (w .inv .1)
-    (queried-last (a .name .now) (a .names) (a .class .now) (a .classes) (a .last) (start-here .pre .3))
+    (queried-last (a .name .now) (a .t4) (a .class .now) (a .t6) (a .last) (start-here .pre .3))
 
 pub check-match-spec : {M : Type 1} → statement M
 check-match-spec =
@@ -266,8 +330,16 @@ check-match-spec =
     first-row-requires
     array-set-from-rows
     positions-holds
-    place-at-requires
-    place-at-requires-2
+    mul-place-of
+    element-copy-out-place-of
+    mul-place-of-2
+    element-copy-out-place-of-2
+    place-of-requires
+    mul-place-of-3
+    element-copy-out-place-of-3
+    mul-place-of-4
+    element-copy-out-place-of-4
+    place-of-requires-2
     parts-holds
     sub-i
     mul-b

@@ -1,7 +1,6 @@
 use mathlib.Core.Path.{refl}
 use Rattle.laws.proofs.Lists.{not-both}
-use Rattle.matcher.specs.Places.{positionIn}
-use Rattle.matcher.proofs.Ends.{end-misses}
+use Rattle.matcher.proofs.Ends.{refused}
 use borrow.Author.Needs.{needs}
 use Rattle.matcher.proofs.may_match.Statement.{statement}
 use Rattle.matcher.proofs.may_match.Tie as tie
@@ -9,26 +8,26 @@ use Rattle.matcher.proofs.may_match.Reads as reads
 use Rattle.matcher.proofs.may_match.Lts as lts
 use Rattle.matcher.proofs.ends_at.Reads as ends-at-reads
 
--- src/lib.rt:302:8
+-- src/lib.rt:329:8
 ends-at-requires : tie.Need-ends-at-requires
 ends-at-requires c κs = search needs
 
--- src/lib.rt:303:9
+-- src/lib.rt:330:9
 returns : tie.Need-returns
 returns c f = absurd (not-both refl f)
 
--- src/lib.rt:305:5
+-- src/lib.rt:332:5
 ends-at-requires-2 : tie.Need-ends-at-requires-2
 ends-at-requires-2 c κs = search needs
 
--- src/lib.rt:298:1
+-- src/lib.rt:325:1
 returns-2 : tie.Need-returns-2
-returns-2 c f qs =
+returns-2 c f =
     let start-here = c .before .before .before .before .before .before in
     let ends-at-here = c .before .before in
     let if1-here = c .before in
     let a = start-here .args in
-    end-misses (a .key .now) (start-here .pre .0) (positionIn (a .name .now) (a .n) (a .class .now) (a .c)) (ends-at-here .ends-at .ensures (if1-here .if1 .left)) (c .ends-at2 .ensures f) qs
+    refused (a .key .now) (start-here .pre .0) (a .name .now) (a .n) (a .class .now) (a .c) (ends-at-here .ends-at .ensures (if1-here .if1 .left)) (c .ends-at2 .ensures f)
 
 pub may-match-spec : {M : Type 1} → statement M
 may-match-spec = tie.close (tie.spec ends-at-requires returns ends-at-requires-2 returns-2)
