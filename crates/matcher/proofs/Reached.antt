@@ -11,11 +11,16 @@ use Rattle.definition.specs.Text.{Binding, tight, loose, Part}
 use Rattle.definition.specs.Query.{Position}
 use Rattle.definition.specs.Matching.{markAt}
 use Rattle.definition.specs.Ranking.{meetRow, skipRow, rankOf}
-use Rattle.matcher.specs.Rows.{skipOf, extended, joined}
+use Rattle.matcher.specs.Rows.{skipOf, extended}
 use Rattle.matcher.specs.Keys.{noPart}
 use Rattle.matcher.proofs.Rows.{or-none}
 
 -- ---- Rows and what follows them
+
+unfoldable pub joined : Option (List ℕ) → Option (List ℕ) → Option (List ℕ)
+joined none s = none
+joined (some r) none = none
+joined (some r) (some s) = some (r ++ s)
 
 or-assoc : {A : Type 0} (a b c : Option A) → orElse (orElse a b) c ≡ orElse a (orElse b c)
 unfolding orElse
@@ -103,7 +108,7 @@ rank-last (k ∷ ks) p (r ∷ qs) q e =
     neither _ (k .binding) _ (unmet (markAt k r) _ (rank-last ks p qs q e)) (rank-last (k ∷ ks) p qs q e)
 
 -- the last part at the last position
-pub rank-one : (p : Part) (q : Position) → rankOf (p ∷ []) (q ∷ []) ≡ meetRow (markAt p q) (some [])
+rank-one : (p : Part) (q : Position) → rankOf (p ∷ []) (q ∷ []) ≡ meetRow (markAt p q) (some [])
 unfolding rankOf skipRow
 rank-one p q = at (p .binding) ∙ or-none (meetRow (markAt p q) (some []))
   where
@@ -111,7 +116,7 @@ rank-one p q = at (p .binding) ∙ or-none (meetRow (markAt p q) (some []))
     at tight = refl
     at loose = refl
 
-pub joined-one : (r : Option (List ℕ)) (m : Option ℕ) → joined r (meetRow m (some [])) ≡ extended r m
+joined-one : (r : Option (List ℕ)) (m : Option ℕ) → joined r (meetRow m (some [])) ≡ extended r m
 joined-one r m = joined-meet r m (some []) ∙ joined-end (extended r m)
 
 -- ---- The last of n that there is
@@ -198,10 +203,14 @@ module _ (ks : List Part) where
       m-last : m top ≡ none
       m-last = rw (drop-of-length-le ks {i = suc top} (omega arith), rank-past qs l) (joined-none _)
 
+  -- one position is left: only the last part leads to an alignment
   pub reached-last : (top : ℕ) (rows : ℕ → Option (List ℕ)) (q : Position) → suc top ≡ length ks
-      → reached top rows (q ∷ []) ≡ joined (rows top) (rankOf (drop top ks) (q ∷ []))
+      → reached top rows (q ∷ []) ≡ extended (rows top) (markAt (part top) q)
   unfolding reached
-  reached-last top rows q z = latest-last top (λ j. joined (rows j) (rankOf (drop j ks) (q ∷ []))) few
+  reached-last top rows q z =
+      let last : drop top ks ≡ part top ∷ [] =
+      drop-cons ks top noPart (omega arith) ∙ ap (λ (l : List Part). part top ∷ l) (drop-of-length-le ks {i = suc top} (omega arith)) in
+      latest-last top (λ j. joined (rows j) (rankOf (drop j ks) (q ∷ []))) few ∙ rw (last, rank-one) (joined-one (rows top) (markAt (part top) q))
     where
       few : (j : ℕ) → j < top → joined (rows j) (rankOf (drop j ks) (q ∷ [])) ≡ none
       few j h = rw (rank-short (drop j ks) (q ∷ []) (omega (arith, length-drop j ks))) (joined-none (rows j))

@@ -13,7 +13,7 @@ use Rattle.definition.specs.Lists.{if_then_else_, any, orElse, lower}
 use Rattle.definition.specs.Bytes.{star}
 use Rattle.definition.specs.Text.{tight, loose, bindingOf}
 use Rattle.definition.specs.Ranking.{better}
-use Rattle.matcher.specs.Rows.{rowIn, bestIn, markIn, skipOf, extended, Clear, Continued, joined}
+use Rattle.matcher.specs.Rows.{rowIn, bestIn, markIn, skipOf, extended, Clear, Continued}
 use Rattle.matcher.specs.declared.Row.{Row}
 
 -- ---- Which row wins

@@ -6,8 +6,8 @@ use mathlib.Core.Path.{_≡_, refl, sym, ap, _∙_}
 use Prim.Native.Nat.{ℕ, zero, suc, _+_, _-_, _≤_, _<_}
 use native.Mathlib.Omega.{arith}
 use native.Mathlib.Numerals.{add-one}
-use lib.ListN.{length, getD, take, drop, set, replicate, getD-replicate, length-set, length-drop, length-replicate, drop-of-length-le}
-use lib.Seq.{drop-cons, getD-set-same, getD-set-other}
+use lib.ListN.{length, getD, take, drop, set, replicate, getD-replicate, length-set, length-drop, length-replicate}
+use lib.Seq.{getD-set-same, getD-set-other}
 use Rattle.definition.specs.Lists.{orElse}
 use Rattle.definition.specs.Text.{Part, bindingOf}
 use Rattle.definition.specs.Query.{Position}
@@ -15,12 +15,12 @@ use Rattle.definition.specs.Matching.{markAt}
 use Rattle.definition.specs.Ranking.{rankOf}
 use Rattle.definition.specs.Image.{keyParts}
 use Rattle.laws.proofs.Lists.{Order, below, equal, above, order}
-use Rattle.matcher.specs.Rows.{rowIn, markIn, skipOf, extended, Clear, Continued, Reaches}
+use Rattle.matcher.specs.Rows.{rowIn, markIn, skipOf, extended, Clear, Continued}
 use Rattle.matcher.specs.Keys.{partBetween, noPart, Bounded}
 use Rattle.matcher.specs.declared.Row.{Row}
 use Rattle.matcher.specs.declared.Key.{Key}
 use Rattle.matcher.proofs.Rows.{row-none, clear-from}
-use Rattle.matcher.proofs.Reached.{part, reached, rank-short, rank-one, joined-one, reached-first, reached-turned, reached-last}
+use Rattle.matcher.proofs.Reached.{part, reached, rank-short, reached-first, reached-turned, reached-last}
 
 -- what an index past the rows has
 abbrev pub blank : Row
@@ -130,15 +130,6 @@ module _ (ps : List Part) (qs : List Position) (top : ℕ) (z : suc top ≡ leng
       clear zero l = rw new (k .clear)
       clear (suc j) l = rw (← add-one j, other j) (T .turned-row j (omega arith) (omega arith) .clear)
 
-  pub passing-last : (p last : ℕ) (rows : List Row) (q : Position) → p ≡ last → Passing ps qs top p rows → drop last qs ≡ q ∷ []
-      → Reaches ps qs top last (getD rows top blank)
-  passing-last p last rows q f P e =
-      let R : Passing ps qs top last rows = rw f at P in
-      record {
-        row = R .row ∙ ap (reached ps top (rowAt last rows)) e ∙ reached-last ps top (rowAt last rows) q z ∙ rw (← e) refl;
-        clear = R .clear top (omega arith);
-      }
-
 -- ---- What the bounds say
 
 module _ (key : List ℕ) (k : Key) (B : Bounded key k) (i : ℕ) (h : i < k .count) where
@@ -187,23 +178,16 @@ module _ (key : List ℕ) (k : Key) (B : Bounded key k) (qs : List Position) (p 
       let d = c (rw g (P .clear 0 (omega arith))) in
       passing-more (keyParts key) qs (k .count - 1) parts-count p old rows q r P (rw f at T) e h (rw (g, binding-at key k B 0 (B .some)) at d)
 
-  pub last-bounds : (getD (k .bounds) (k .count - 1) 0 + 1 < getD (k .bounds) (k .count) 0) × (getD (k .bounds) (k .count) 0 ≤ length key)
-  last-bounds =
-      let z : k .count - 1 + 1 ≡ k .count = omega (arith, B .some) in
-      (rw z at (B .rises (k .count - 1) (omega (arith, B .some))), B .inside (k .count) (omega arith))
+  pub last-bounds : (getD (k .bounds) (k .count - 1) 0 + 1 < getD (k .bounds) (k .count - 1 + 1) 0) × (getD (k .bounds) (k .count - 1 + 1) 0 ≤ length key)
+  last-bounds = (B .rises (k .count - 1) (omega (arith, B .some)), B .inside (k .count - 1 + 1) (omega (arith, B .some)))
 
   -- the last part at the last position
-  pub found-last : (q : Position) (row r : Row) (m : ℕ) → Reaches (keyParts key) qs (k .count - 1) p row → drop p qs ≡ q ∷ []
-      → markIn m ≡ markAt (partBetween key (getD (k .bounds) (k .count - 1) 0) (getD (k .bounds) (k .count) 0)) q
-      → Continued p r (extended (rowIn p row) (markIn m)) → rowIn (p + 1) r ≡ rankOf (keyParts key) qs
-  found-last q row r m R e f c =
-      let z : k .count - 1 + 1 ≡ k .count = omega (arith, B .some) in
-      let last : part (keyParts key) (k .count - 1) ≡ partBetween key (getD (k .bounds) (k .count - 1) 0) (getD (k .bounds) (k .count) 0) =
-      B .part (k .count - 1) (omega (arith, B .some)) ∙ ap (λ (i : ℕ). partBetween key (getD (k .bounds) (k .count - 1) 0) (getD (k .bounds) i 0)) z in
-      let g : drop (k .count - 1) (keyParts key) ≡ part (keyParts key) (k .count - 1) ∷ [] =
-      drop-cons (keyParts key) (k .count - 1) noPart (omega (arith, parts-count))
-      ∙ ap (λ (l : List Part). part (keyParts key) (k .count - 1) ∷ l) (drop-of-length-le (keyParts key) {i = suc (k .count - 1)} (omega (arith, parts-count))) in
-      c .marks ∙ rw (f, ← last) (sym (R .row ∙ rw (e, g, rank-one) (joined-one (rowIn p row) _)))
+  pub passing-last : (rows : List Row) (q : Position) (r : Row) (m : ℕ) → Passing (keyParts key) qs (k .count - 1) p rows → drop p qs ≡ q ∷ []
+      → markIn m ≡ markAt (partBetween key (getD (k .bounds) (k .count - 1) 0) (getD (k .bounds) (k .count - 1 + 1) 0)) q
+      → Continued p r (extended (rowAt p rows (k .count - 1)) (markIn m)) → rowIn (p + 1) r ≡ rankOf (keyParts key) qs
+  passing-last rows q r m P e f c =
+      c .marks ∙ rw (f, ← B .part (k .count - 1) (omega (arith, B .some)))
+      (sym (P .row ∙ ap (reached (keyParts key) (k .count - 1) (rowAt p rows)) e ∙ reached-last (keyParts key) (k .count - 1) (rowAt p rows) q parts-count))
 
 pub none-short : (n : ℕ) (r : Row) (ps : List Part) (qs : List Position) → r .live ≡ false → length qs < length ps → rowIn n r ≡ rankOf ps qs
 none-short n r ps qs e h = row-none n r e ∙ sym (rank-short ps qs h)

@@ -4,12 +4,11 @@ use mathlib.Core.List.{List, [], _∷_, _++_}
 use mathlib.Core.Option.{Option, some, none}
 use mathlib.Core.Path.{_≡_}
 use Prim.Native.Nat.{ℕ, zero, suc, _+_, _≤_}
-use lib.ListN.{take, drop, getD}
+use lib.ListN.{take, getD}
 use Rattle.definition.specs.Lists.{if_then_else_}
-use Rattle.definition.specs.Text.{Binding, tight, loose, Part}
-use Rattle.definition.specs.Query.{Position}
+use Rattle.definition.specs.Text.{Binding, tight, loose}
 use Rattle.definition.specs.Matching.{skipMark}
-use Rattle.definition.specs.Ranking.{rankOf, Best, noEntry, best}
+use Rattle.definition.specs.Ranking.{Best, noEntry, best}
 use Rattle.matcher.specs.declared.Row.{Row}
 
 -- the first n marks of a row, if there is one
@@ -44,14 +43,3 @@ Clear p r = (i : ℕ) → p ≤ i → getD (r .marks) i 0 ≡ 0
 pub record Continued (p : ℕ) (r : Row) (row : Option (List ℕ)) : Type 0 where
   pub marks : rowIn (p + 1) r ≡ row
   pub clear : Clear (p + 1) r
-
--- a row and what follows it
-unfoldable pub joined : Option (List ℕ) → Option (List ℕ) → Option (List ℕ)
-joined none s = none
-joined (some r) none = none
-joined (some r) (some s) = some (r ++ s)
-
--- the row leads to the key's highest row, by the part at `top` at position `last`
-pub record Reaches (key : List Part) (qs : List Position) (top last : ℕ) (r : Row) : Type 0 where
-  pub row : rankOf key qs ≡ joined (rowIn last r) (rankOf (drop top key) (drop last qs))
-  pub clear : Clear last r

@@ -14,7 +14,7 @@ ghost use Rattle.definition.specs.Ranking.{rankOf, better};
 ghost use Rattle.definition.specs.Image.{keyParts, isKey};
 ghost use Rattle.definition.specs.Text.{bindingOf};
 ghost use Rattle.query.specs.Splits.{namesIn, Inside};
-ghost use Rattle.matcher.specs.Rows.{rowIn, bestIn, markIn, skipOf, extended, Clear, Continued, Reaches};
+ghost use Rattle.matcher.specs.Rows.{rowIn, bestIn, markIn, skipOf, extended, Clear, Continued};
 ghost use Rattle.matcher.specs.Keys.{notBinding, partBetween, Bounded};
 ghost use Rattle.matcher.specs.Places.{placeOf, placed, Within, positionIn};
 use query::QUERY_PARTS;
@@ -242,7 +242,7 @@ fn next_row(
     no_row()
 }
 
-// For each part of the key the best row that reaches it, over all positions but the last; the row of the last part.
+// For each part of the key the best row that reaches it, position by position; what the last part, which must meet the last position, gives there.
 fn check_match(
     key: &[u8],
     k: Key,
@@ -253,7 +253,7 @@ fn check_match(
     last: usize,
 ) -> Row
     requires { ⌜ Bounded (now key) k × Inside (now name) names × Inside (now class) classes × (last + 1 ≡ max (names .count) (classes .count)) ⌝ }
-    ensures { λ r. ⌜ Reaches (keyParts (now (key .entry))) (positionsOf (namesIn (now (name .entry)) names) (namesIn (now (class .entry)) classes)) (k .count - 1) last r ⌝ }
+    ensures { λ r. ⌜ rowIn (last + 1) r ≡ rankOf (keyParts (now (key .entry))) (positionsOf (namesIn (now (name .entry)) names) (namesIn (now (class .entry)) classes)) ⌝ }
 {
     let top = k.count - 1;
     let at = k.bounds[0];
@@ -282,7 +282,13 @@ fn check_match(
         rows[0] = r;
         p += 1;
     }
-    rows[top]
+    let n = place_of(p, names.count, names.starts[p], names.lengths[p]);
+    let c = place_of(p, classes.count, classes.starts[p], classes.lengths[p]);
+    let b = k.bounds[top];
+    let e = k.bounds[top + 1];
+    let m = mark(key, b, e, name, n, class, c);
+    let row = rows[top];
+    step(row, m, p)
 }
 
 // Does the key end in a binding and the name, from the last byte on?
@@ -345,18 +351,10 @@ pub fn match_key(key: &[u8], name: &[u8], names: Split, class: &[u8], classes: S
 {
     let len = longer(names.count, classes.count);
     let k = split_key(key);
-    let count = k.count;
-    if len < count {
+    if len < k.count {
         return no_row();
     }
-    let last = len - 1;
-    let b = k.bounds[count - 1];
-    let e = k.bounds[count];
-    let n = place_at(names, last);
-    let c = place_at(classes, last);
-    let m = mark(key, b, e, name, n, class, c);
-    let row = check_match(key, k, name, names, class, classes, last);
-    step(row, m, last)
+    check_match(key, k, name, names, class, classes, len - 1)
 }
 
 // Is the first row lower than the second? The first difference of their marks from the left decides.
