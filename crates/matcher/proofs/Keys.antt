@@ -1,24 +1,22 @@
 -- A key is what its parts write, and how a loop finds them in it. Assumes nothing.
 use mathlib.Core.Bool.{Bool, true, false, _&&_, not}
 use mathlib.Core.List.{List, [], _∷_, _++_}
-use mathlib.Core.Path.{_≡_, refl, sym, ap, subst, _∙_}
+use mathlib.Core.Path.{_≡_, refl, sym, ap, _∙_}
 use Prim.Native.Nat.{ℕ, zero, suc, _+_, _-_, _≤_, _<_}
 use native.Mathlib.Omega.{arith}
-use native.Mathlib.Numerals.{add-one}
 use lib.Dec.{eqb, leb}
-use lib.ListN.{length, getD, take, drop, set, length-set, length-drop, length-append, drop-of-length-le}
-use lib.Seq.{drop-cons, drop-drop, take-append-seam, drop-append-seam, getD-drop, getD-set-same, getD-set-other}
-use borrow.Author.Tests.{eqb-true, eqb-false, leb-true, ne-eqb}
-use Rattle.definition.specs.Lists.{if_then_else_, all, any, takeWhile, dropWhile, isEmpty}
-use Rattle.definition.specs.Parsing.{Parse, nothing, found, Parsed, parsed, continued, atMost, many}
+use lib.ListN.{length, getD, drop, length-drop, length-append}
+use lib.Seq.{drop-drop, take-append-seam, drop-append-seam, getD-drop}
+use borrow.Author.Tests.{eqb-true, leb-true, ne-eqb}
+use Rattle.definition.specs.Lists.{all, any, takeWhile, isEmpty}
+use Rattle.definition.specs.Parsing.{Parse, nothing, found, continued, atMost, many}
 use Rattle.definition.specs.Limits.{mostParts}
 use Rattle.definition.specs.Bytes.{dot, star, question, isDigit, isName, isBinding}
 use Rattle.definition.specs.Text.{Binding, tight, loose, Component, wildcard, name, Part, bindingOf, componentAt, endsInName}
 use Rattle.definition.specs.Image.{bindingByte, componentBytes, keyOf, storedPartAt, keyParts, isKey}
-use Rattle.laws.proofs.Lists.{not-both, and-true, Order, below, equal, above, order, takeWhile-dropWhile, takeWhile-append, all-getD}
+use Rattle.laws.proofs.Lists.{not-both, and-true, takeWhile-dropWhile, takeWhile-append}
 use Rattle.laws.proofs.Keys.{isLegalComponent, isLegal, Finds, if-either, stored-parts-legal}
-use Rattle.matcher.specs.Keys.{notBinding, componentOf, partBetween, noPart, Bounded}
-use Rattle.matcher.specs.declared.Key.{Key}
+use Rattle.matcher.specs.Keys.{notBinding, componentOf, partBetween}
 
 -- ---- A key is what its parts write
 

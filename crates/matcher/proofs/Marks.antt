@@ -1,8 +1,8 @@
 -- The mark of a key's part at a position. Assumes nothing.
 use mathlib.Core.Bool.{Bool, true, false}
 use mathlib.Core.List.{List, [], _∷_}
-use mathlib.Core.Option.{some, none}
-use mathlib.Core.Path.{_≡_, refl, sym, ap, _∙_}
+use mathlib.Core.Option.{some}
+use mathlib.Core.Path.{_≡_, refl, ap, _∙_}
 use Prim.Native.Nat.{ℕ, _+_, _-_, _<_}
 use native.Mathlib.Omega.{arith}
 use lib.Dec.{eqb}
@@ -11,7 +11,7 @@ use lib.Seq.{getD-take, getD-drop}
 use borrow.Author.Tests.{eqb-true, eqb-false, eq-eqb, ne-eqb}
 use Rattle.definition.specs.Lists.{if_then_else_}
 use Rattle.definition.specs.Bytes.{star, question}
-use Rattle.definition.specs.Text.{tight, loose, wildcard, name, bindingOf}
+use Rattle.definition.specs.Text.{tight, loose, bindingOf}
 use Rattle.definition.specs.Query.{Position}
 use Rattle.definition.specs.Matching.{Match, byWildcard, byClass, byInstance, equals, matchAt, markOf, markAt}
 use Rattle.matcher.specs.Rows.{markIn}

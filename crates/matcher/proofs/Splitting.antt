@@ -2,7 +2,7 @@
 use mathlib.Core.Bool.{true}
 use mathlib.Core.List.{List, [], _∷_}
 use mathlib.Core.Path.{_≡_, refl, sym, ap, _∙_}
-use Prim.Native.Nat.{ℕ, zero, suc, _+_, _≤_, _<_}
+use Prim.Native.Nat.{ℕ, suc, _+_, _≤_, _<_}
 use native.Mathlib.Omega.{arith}
 use native.Mathlib.Numerals.{add-one}
 use lib.ListN.{length, getD, drop, set, length-set, length-drop, drop-of-length-le}
@@ -13,7 +13,6 @@ use Rattle.definition.specs.Image.{componentBytes, keyOf, keyParts}
 use Rattle.laws.proofs.Lists.{Order, below, equal, above, order, all-getD}
 use Rattle.laws.proofs.Keys.{isLegal}
 use Rattle.matcher.specs.Keys.{notBinding, partBetween, noPart, Bounded}
-use Rattle.matcher.specs.declared.Key.{Key}
 use Rattle.matcher.proofs.Keys.{Parts, some-part, part-run, part-some, part-rest, part-inside, part-is}
 
 pub record Splitting (key bounds : List ℕ) (count at : ℕ) : Type 0 where

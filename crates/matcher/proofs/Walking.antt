@@ -6,7 +6,7 @@ use mathlib.Core.Path.{_≡_, refl, sym, ap, _∙_}
 use Prim.Native.Nat.{ℕ, zero, suc, _+_, _-_, _≤_, _<_}
 use native.Mathlib.Omega.{arith}
 use native.Mathlib.Numerals.{add-one}
-use lib.ListN.{length, getD, take, drop, set, replicate, getD-replicate, length-set, length-drop, length-replicate}
+use lib.ListN.{length, getD, drop, set, replicate, length-set, length-drop, length-replicate}
 use lib.Seq.{getD-set-same, getD-set-other}
 use Rattle.definition.specs.Lists.{orElse}
 use Rattle.definition.specs.Text.{Part, bindingOf}
@@ -16,10 +16,10 @@ use Rattle.definition.specs.Ranking.{rankOf}
 use Rattle.definition.specs.Image.{keyParts}
 use Rattle.laws.proofs.Lists.{Order, below, equal, above, order}
 use Rattle.matcher.specs.Rows.{rowIn, markIn, skipOf, extended, Clear, Continued}
-use Rattle.matcher.specs.Keys.{partBetween, noPart, Bounded}
+use Rattle.matcher.specs.Keys.{partBetween, Bounded}
 use Rattle.matcher.specs.declared.Row.{Row}
 use Rattle.matcher.specs.declared.Key.{Key}
-use Rattle.matcher.proofs.Rows.{row-none, clear-from}
+use Rattle.matcher.proofs.Rows.{row-none}
 use Rattle.matcher.proofs.Reached.{part, reached, rank-short, reached-first, reached-turned, reached-last}
 
 -- what an index past the rows has

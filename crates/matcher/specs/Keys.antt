@@ -1,5 +1,5 @@
 -- What the code's parts of a key stand for.
-use mathlib.Core.Bool.{Bool, true, false, not}
+use mathlib.Core.Bool.{Bool, not}
 use mathlib.Core.List.{List, [], _∷_}
 use Prim.Native.Nat.{ℕ, _+_, _-_, _≤_, _<_}
 use mathlib.Core.Path.{_≡_}
@@ -8,7 +8,7 @@ use lib.ListN.{length, getD, take, drop}
 use Rattle.definition.specs.Lists.{if_then_else_}
 use Rattle.definition.specs.Limits.{mostParts}
 use Rattle.definition.specs.Bytes.{question, isBinding}
-use Rattle.definition.specs.Text.{Binding, tight, Component, wildcard, name, Part, bindingOf}
+use Rattle.definition.specs.Text.{tight, Component, wildcard, name, Part, bindingOf}
 use Rattle.definition.specs.Image.{keyParts}
 use Rattle.matcher.specs.declared.Key.{Key}
 

@@ -1,26 +1,16 @@
 use mathlib.Core.List.{[]}
-use mathlib.Core.Path.{_≡_, refl, sym, ap, _∙_}
-use Prim.Native.Nat.{ℕ, suc, _+_, _-_, _≤_, _<_, max}
+use mathlib.Core.Path.{_≡_, sym, ap, _∙_}
+use Prim.Native.Nat.{ℕ, suc, _+_, _-_, _≤_, _<_}
 use native.Mathlib.Omega.{arith}
-use lib.ListN.{length, getD}
+use lib.ListN.{length}
 use Rattle.definition.specs.Image.{keyParts}
 use Rattle.matcher.specs.Rows.{rowIn}
-use Rattle.matcher.specs.Places.{placeOf, positionIn}
+use Rattle.matcher.specs.Places.{positionIn}
 use Rattle.matcher.proofs.Positions.{queried, length-queried, queried-at, queried-last, place-within}
-use Rattle.matcher.proofs.Walking.{Passing, Turning, turning-first, turning-more, passing-first, passing-more, passing-last, last-bounds, bounds-at, turning-clear, turning-next, parts-count, passing-next}
+use Rattle.matcher.proofs.Walking.{Passing, Turning, turning-first, passing-first, passing-last, last-bounds, bounds-at, turning-clear, turning-next, passing-next}
 use borrow.Author.Needs.{needs}
-use Rattle.matcher.proofs.place_at.Reads as place-at-reads
 use Rattle.matcher.proofs.check_match.Statement.{statement}
 use Rattle.matcher.proofs.check_match.Tie as tie
-use Rattle.matcher.proofs.check_match.Reads as reads
-use Rattle.matcher.proofs.check_match.Lts as lts
-use Rattle.matcher.proofs.first_row.Reads as first-row-reads
-use Rattle.matcher.proofs.mark.Reads as mark-reads
-use Rattle.matcher.proofs.next_row.Reads as next-row-reads
-use Rattle.matcher.proofs.no_row.Reads as no-row-reads
-use Rattle.matcher.proofs.place_of.Reads as place-of-reads
-use Rattle.matcher.proofs.skip_loose.Reads as skip-loose-reads
-use Rattle.matcher.proofs.step.Reads as step-reads
 
 abbrev Inv-parts : tie.InvT-parts
 Inv-parts key name class last k names classes top at binding rows₀ p n c i₀ rows i = Turning (keyParts key) (positionIn name n class c) top p rows₀ rows i
@@ -34,15 +24,12 @@ Inv-positions key name class last k names classes top at binding rows₀ p₀ ro
 abbrev μ-positions : tie.MeasureT-positions
 μ-positions key name class last k names classes top at binding rows₀ p₀ rows p = last - p
 
--- src/lib.rt:250:15
 sub-top : tie.Need-sub-top Inv-parts μ-parts Inv-positions μ-positions
 sub-top c = search needs
 
--- src/lib.rt:251:14
 element-copy-out-at : tie.Need-element-copy-out-at Inv-parts μ-parts Inv-positions μ-positions
 element-copy-out-at c = search needs
 
--- src/lib.rt:252:19
 shared-slice-read-binding :
     tie.Need-shared-slice-read-binding Inv-parts μ-parts Inv-positions μ-positions
 shared-slice-read-binding c =
@@ -50,19 +37,15 @@ shared-slice-read-binding c =
     let B = start-here .pre .0 in
     omega (arith, B .rises 0 (B .some), B .inside 1 (B .some))
 
--- src/lib.rt:253:9
 no-row-requires : tie.Need-no-row-requires Inv-parts μ-parts Inv-positions μ-positions
 no-row-requires c κs = search needs
 
--- src/lib.rt:255:9
 first-row-requires : tie.Need-first-row-requires Inv-parts μ-parts Inv-positions μ-positions
 first-row-requires c κs = search needs
 
--- src/lib.rt:256:5
 array-set-from-rows : tie.Need-array-set-from-rows Inv-parts μ-parts Inv-positions μ-positions
 array-set-from-rows c = search needs
 
--- src/lib.rt:258:5
 positions-holds : tie.Need-positions-holds Inv-parts μ-parts Inv-positions μ-positions
 positions-holds c =
     let start-here = c .before .before .before .before .before .before .before in
@@ -74,14 +57,12 @@ positions-holds c =
     let first = c .first-row .ensures in
     (omega arith, passing-first (keyParts (a .key .now)) (queried (a .name .now) (a .t4) (a .class .now) (a .t6)) (a .t2 .count - 1) z _ _ (none .0) (none .1) (first .0) (first .1))
 
--- src/lib.rt:260:42
 mul-place-of : tie.Need-mul-place-of Inv-parts μ-parts Inv-positions μ-positions
 mul-place-of c =
     let start-here = c .before .before .before .before .before .before .before .before .before in
     let positions-test-here = c in
     omega (arith, positions-test-here .positions-test .taken, start-here .pre .1 .few, start-here .pre .2 .few, start-here .pre .3)
 
--- src/lib.rt:260:42
 element-copy-out-place-of :
     tie.Need-element-copy-out-place-of Inv-parts μ-parts Inv-positions μ-positions
 element-copy-out-place-of c =
@@ -89,14 +70,12 @@ element-copy-out-place-of c =
     let positions-test-here = c in
     omega (arith, positions-test-here .positions-test .taken, start-here .pre .1 .few, start-here .pre .2 .few, start-here .pre .3)
 
--- src/lib.rt:260:59
 mul-place-of-2 : tie.Need-mul-place-of-2 Inv-parts μ-parts Inv-positions μ-positions
 mul-place-of-2 c =
     let start-here = c .before .before .before .before .before .before .before .before .before .before in
     let positions-test-here = c .before in
     omega (arith, positions-test-here .positions-test .taken, start-here .pre .1 .few, start-here .pre .2 .few, start-here .pre .3)
 
--- src/lib.rt:260:59
 element-copy-out-place-of-2 :
     tie.Need-element-copy-out-place-of-2 Inv-parts μ-parts Inv-positions μ-positions
 element-copy-out-place-of-2 c =
@@ -104,18 +83,15 @@ element-copy-out-place-of-2 c =
     let positions-test-here = c .before in
     omega (arith, positions-test-here .positions-test .taken, start-here .pre .1 .few, start-here .pre .2 .few, start-here .pre .3)
 
--- src/lib.rt:260:13
 place-of-requires : tie.Need-place-of-requires Inv-parts μ-parts Inv-positions μ-positions
 place-of-requires c κs = search needs
 
--- src/lib.rt:261:44
 mul-place-of-3 : tie.Need-mul-place-of-3 Inv-parts μ-parts Inv-positions μ-positions
 mul-place-of-3 c =
     let start-here = c .before .before .before .before .before .before .before .before .before .before .before .before in
     let positions-test-here = c .before .before .before in
     omega (arith, positions-test-here .positions-test .taken, start-here .pre .1 .few, start-here .pre .2 .few, start-here .pre .3)
 
--- src/lib.rt:261:44
 element-copy-out-place-of-3 :
     tie.Need-element-copy-out-place-of-3 Inv-parts μ-parts Inv-positions μ-positions
 element-copy-out-place-of-3 c =
@@ -123,14 +99,12 @@ element-copy-out-place-of-3 c =
     let positions-test-here = c .before .before .before in
     omega (arith, positions-test-here .positions-test .taken, start-here .pre .1 .few, start-here .pre .2 .few, start-here .pre .3)
 
--- src/lib.rt:261:63
 mul-place-of-4 : tie.Need-mul-place-of-4 Inv-parts μ-parts Inv-positions μ-positions
 mul-place-of-4 c =
     let start-here = c .before .before .before .before .before .before .before .before .before .before .before .before .before in
     let positions-test-here = c .before .before .before .before in
     omega (arith, positions-test-here .positions-test .taken, start-here .pre .1 .few, start-here .pre .2 .few, start-here .pre .3)
 
--- src/lib.rt:261:63
 element-copy-out-place-of-4 :
     tie.Need-element-copy-out-place-of-4 Inv-parts μ-parts Inv-positions μ-positions
 element-copy-out-place-of-4 c =
@@ -138,61 +112,47 @@ element-copy-out-place-of-4 c =
     let positions-test-here = c .before .before .before .before in
     omega (arith, positions-test-here .positions-test .taken, start-here .pre .1 .few, start-here .pre .2 .few, start-here .pre .3)
 
--- src/lib.rt:261:13
 place-of-requires-2 : tie.Need-place-of-requires-2 Inv-parts μ-parts Inv-positions μ-positions
 place-of-requires-2 c κs = search needs
 
--- src/lib.rt:263:9
 parts-holds : tie.Need-parts-holds Inv-parts μ-parts Inv-positions μ-positions
 parts-holds c =
     let positions-here = c .before .before .before .before .before .before .before in
     turning-first _ _ _ _ _ (positions-here .positions .inv .1 .size)
 
--- src/lib.rt:264:13
 sub-i : tie.Need-sub-i Inv-parts μ-parts Inv-positions μ-positions
 sub-i c = search needs
 
--- src/lib.rt:265:21
 mul-b : tie.Need-mul-b Inv-parts μ-parts Inv-positions μ-positions
 mul-b c = search needs
 
--- src/lib.rt:265:21
 element-copy-out-b : tie.Need-element-copy-out-b Inv-parts μ-parts Inv-positions μ-positions
 element-copy-out-b c = search needs
 
--- src/lib.rt:266:30
 add-e : tie.Need-add-e Inv-parts μ-parts Inv-positions μ-positions
 add-e c = search needs
 
--- src/lib.rt:266:21
 mul-e : tie.Need-mul-e Inv-parts μ-parts Inv-positions μ-positions
 mul-e c = search needs
 
--- src/lib.rt:266:21
 element-copy-out-e : tie.Need-element-copy-out-e Inv-parts μ-parts Inv-positions μ-positions
 element-copy-out-e c = search needs
 
--- src/lib.rt:267:26
 mul-before : tie.Need-mul-before Inv-parts μ-parts Inv-positions μ-positions
 mul-before c = search needs
 
--- src/lib.rt:267:26
 array-copy-out-before : tie.Need-array-copy-out-before Inv-parts μ-parts Inv-positions μ-positions
 array-copy-out-before c = search needs
 
--- src/lib.rt:268:28
 add-row : tie.Need-add-row Inv-parts μ-parts Inv-positions μ-positions
 add-row c = search needs
 
--- src/lib.rt:268:23
 mul-row : tie.Need-mul-row Inv-parts μ-parts Inv-positions μ-positions
 mul-row c = search needs
 
--- src/lib.rt:268:23
 array-copy-out-row : tie.Need-array-copy-out-row Inv-parts μ-parts Inv-positions μ-positions
 array-copy-out-row c = search needs
 
--- src/lib.rt:269:17
 next-row-requires : tie.Need-next-row-requires Inv-parts μ-parts Inv-positions μ-positions
 next-row-requires c κs =
     let start-here = c .before .before .before .before .before .before .before .before .before .before .before .before .before .before .before .before .before .before .before .before .before in
@@ -217,21 +177,18 @@ next-row-requires c κs =
       clear (w .i - 1) (omega arith),
     )
 
--- src/lib.rt:270:18
 add-rows : tie.Need-add-rows Inv-parts μ-parts Inv-positions μ-positions
 add-rows c =
     let start-here = c .before .before .before .before .before .before .before .before .before .before .before .before .before .before .before .before .before .before .before .before .before .before in
     let parts-here = c .before .before .before .before .before .before in
     omega (arith, parts-here .parts .inv .upto, start-here .pre .0 .few)
 
--- src/lib.rt:270:13
 mul-rows : tie.Need-mul-rows Inv-parts μ-parts Inv-positions μ-positions
 mul-rows c =
     let start-here = c .before .before .before .before .before .before .before .before .before .before .before .before .before .before .before .before .before .before .before .before .before .before in
     let parts-here = c .before .before .before .before .before .before in
     omega (arith, parts-here .parts .inv .upto, start-here .pre .0 .few)
 
--- src/lib.rt:270:13
 array-set-from-rows-2 : tie.Need-array-set-from-rows-2 Inv-parts μ-parts Inv-positions μ-positions
 array-set-from-rows-2 c =
     let start-here = c .before .before .before .before .before .before .before .before .before .before .before .before .before .before .before .before .before .before .before .before .before .before in
@@ -239,11 +196,9 @@ array-set-from-rows-2 c =
     let parts-test-here = c .before .before .before .before .before in
     omega (arith, parts-here .parts .inv .upto, parts-test-here .parts-test .taken, start-here .pre .0 .few)
 
--- src/lib.rt:263:9
 parts-less : tie.Need-parts-less Inv-parts μ-parts Inv-positions μ-positions
 parts-less c = search needs
 
--- src/lib.rt:263:9
 parts-again : tie.Need-parts-again Inv-parts μ-parts Inv-positions μ-positions
 parts-again c =
     let start-here = c .before .before .before .before .before .before .before .before .before .before .before .before .before .before .before .before .before .before .before .before .before .before in
@@ -253,30 +208,24 @@ parts-again c =
     let w = parts-here .parts in
     turning-next (a .key .now) (a .t2) (start-here .pre .0) _ _ _ _ (w .i) (w .inv) (parts-test-here .parts-test .taken) (c .next-row .result) (c .next-row .ensures)
 
--- src/lib.rt:272:19
 array-copy-out-row-2 : tie.Need-array-copy-out-row-2 Inv-parts μ-parts Inv-positions μ-positions
 array-copy-out-row-2 c = search needs
 
--- src/lib.rt:273:13
 skip-loose-requires : tie.Need-skip-loose-requires Inv-parts μ-parts Inv-positions μ-positions
 skip-loose-requires c κs = search needs
 
--- src/lib.rt:274:9
 array-set-from-rows-3 : tie.Need-array-set-from-rows-3 Inv-parts μ-parts Inv-positions μ-positions
 array-set-from-rows-3 c = search needs
 
--- src/lib.rt:275:9
 add-p : tie.Need-add-p Inv-parts μ-parts Inv-positions μ-positions
 add-p c =
     let start-here = c .before .before .before .before .before .before .before .before .before .before .before .before .before .before .before .before .before .before .before in
     let positions-test-here = c .before .before .before .before .before .before .before .before .before .before in
     omega (arith, positions-test-here .positions-test .taken, start-here .pre .1 .few, start-here .pre .2 .few, start-here .pre .3)
 
--- src/lib.rt:258:5
 positions-less : tie.Need-positions-less Inv-parts μ-parts Inv-positions μ-positions
 positions-less c = search needs
 
--- src/lib.rt:258:5
 positions-again : tie.Need-positions-again Inv-parts μ-parts Inv-positions μ-positions
 positions-again c =
     let start-here = c .before .before .before .before .before .before .before .before .before .before .before .before .before .before .before .before .before .before .before in
@@ -297,14 +246,12 @@ positions-again c =
           (omega (arith, start-here .pre .3)) (c .skip-loose .result) (c .skip-loose .ensures p (omega (arith, start-here .pre .1 .few, start-here .pre .2 .few, start-here .pre .3))),
     )
 
--- src/lib.rt:277:38
 mul-place-of-5 : tie.Need-mul-place-of-5 Inv-parts μ-parts Inv-positions μ-positions
 mul-place-of-5 c =
     let start-here = c .before .before .before .before .before .before .before .before .before in
     let positions-here = c .before in
     omega (arith, positions-here .positions .inv .0, start-here .pre .1 .few, start-here .pre .2 .few, start-here .pre .3)
 
--- src/lib.rt:277:38
 element-copy-out-place-of-5 :
     tie.Need-element-copy-out-place-of-5 Inv-parts μ-parts Inv-positions μ-positions
 element-copy-out-place-of-5 c =
@@ -312,14 +259,12 @@ element-copy-out-place-of-5 c =
     let positions-here = c .before in
     omega (arith, positions-here .positions .inv .0, start-here .pre .1 .few, start-here .pre .2 .few, start-here .pre .3)
 
--- src/lib.rt:277:55
 mul-place-of-6 : tie.Need-mul-place-of-6 Inv-parts μ-parts Inv-positions μ-positions
 mul-place-of-6 c =
     let start-here = c .before .before .before .before .before .before .before .before .before .before in
     let positions-here = c .before .before in
     omega (arith, positions-here .positions .inv .0, start-here .pre .1 .few, start-here .pre .2 .few, start-here .pre .3)
 
--- src/lib.rt:277:55
 element-copy-out-place-of-6 :
     tie.Need-element-copy-out-place-of-6 Inv-parts μ-parts Inv-positions μ-positions
 element-copy-out-place-of-6 c =
@@ -327,18 +272,15 @@ element-copy-out-place-of-6 c =
     let positions-here = c .before .before in
     omega (arith, positions-here .positions .inv .0, start-here .pre .1 .few, start-here .pre .2 .few, start-here .pre .3)
 
--- src/lib.rt:277:9
 place-of-requires-3 : tie.Need-place-of-requires-3 Inv-parts μ-parts Inv-positions μ-positions
 place-of-requires-3 c κs = search needs
 
--- src/lib.rt:278:40
 mul-place-of-7 : tie.Need-mul-place-of-7 Inv-parts μ-parts Inv-positions μ-positions
 mul-place-of-7 c =
     let start-here = c .before .before .before .before .before .before .before .before .before .before .before .before in
     let positions-here = c .before .before .before .before in
     omega (arith, positions-here .positions .inv .0, start-here .pre .1 .few, start-here .pre .2 .few, start-here .pre .3)
 
--- src/lib.rt:278:40
 element-copy-out-place-of-7 :
     tie.Need-element-copy-out-place-of-7 Inv-parts μ-parts Inv-positions μ-positions
 element-copy-out-place-of-7 c =
@@ -346,14 +288,12 @@ element-copy-out-place-of-7 c =
     let positions-here = c .before .before .before .before in
     omega (arith, positions-here .positions .inv .0, start-here .pre .1 .few, start-here .pre .2 .few, start-here .pre .3)
 
--- src/lib.rt:278:59
 mul-place-of-8 : tie.Need-mul-place-of-8 Inv-parts μ-parts Inv-positions μ-positions
 mul-place-of-8 c =
     let start-here = c .before .before .before .before .before .before .before .before .before .before .before .before .before in
     let positions-here = c .before .before .before .before .before in
     omega (arith, positions-here .positions .inv .0, start-here .pre .1 .few, start-here .pre .2 .few, start-here .pre .3)
 
--- src/lib.rt:278:59
 element-copy-out-place-of-8 :
     tie.Need-element-copy-out-place-of-8 Inv-parts μ-parts Inv-positions μ-positions
 element-copy-out-place-of-8 c =
@@ -361,41 +301,34 @@ element-copy-out-place-of-8 c =
     let positions-here = c .before .before .before .before .before in
     omega (arith, positions-here .positions .inv .0, start-here .pre .1 .few, start-here .pre .2 .few, start-here .pre .3)
 
--- src/lib.rt:278:9
 place-of-requires-4 : tie.Need-place-of-requires-4 Inv-parts μ-parts Inv-positions μ-positions
 place-of-requires-4 c κs = search needs
 
--- src/lib.rt:279:13
 mul-b-2 : tie.Need-mul-b-2 Inv-parts μ-parts Inv-positions μ-positions
 mul-b-2 c =
     let start-here = c .before .before .before .before .before .before .before .before .before .before .before .before .before .before .before in
     omega (arith, start-here .pre .0 .few, start-here .pre .0 .some)
 
--- src/lib.rt:279:13
 element-copy-out-b-2 : tie.Need-element-copy-out-b-2 Inv-parts μ-parts Inv-positions μ-positions
 element-copy-out-b-2 c =
     let start-here = c .before .before .before .before .before .before .before .before .before .before .before .before .before .before .before in
     omega (arith, start-here .pre .0 .few, start-here .pre .0 .some)
 
--- src/lib.rt:280:22
 add-e-2 : tie.Need-add-e-2 Inv-parts μ-parts Inv-positions μ-positions
 add-e-2 c =
     let start-here = c .before .before .before .before .before .before .before .before .before .before .before .before .before .before .before .before in
     omega (arith, start-here .pre .0 .few, start-here .pre .0 .some)
 
--- src/lib.rt:280:13
 mul-e-2 : tie.Need-mul-e-2 Inv-parts μ-parts Inv-positions μ-positions
 mul-e-2 c =
     let start-here = c .before .before .before .before .before .before .before .before .before .before .before .before .before .before .before .before in
     omega (arith, start-here .pre .0 .few, start-here .pre .0 .some)
 
--- src/lib.rt:280:13
 element-copy-out-e-2 : tie.Need-element-copy-out-e-2 Inv-parts μ-parts Inv-positions μ-positions
 element-copy-out-e-2 c =
     let start-here = c .before .before .before .before .before .before .before .before .before .before .before .before .before .before .before .before in
     omega (arith, start-here .pre .0 .few, start-here .pre .0 .some)
 
--- src/lib.rt:281:9
 mark-requires : tie.Need-mark-requires Inv-parts μ-parts Inv-positions μ-positions
 mark-requires c κs =
     let start-here = c .before .before .before .before .before .before .before .before .before .before .before .before .before .before .before .before .before in
@@ -405,19 +338,16 @@ mark-requires c κs =
     let b = last-bounds (a .key .now) (a .t2) (start-here .pre .0) [] 0 in
     (b .0, b .1, rw (place-of3-here .place-of3 .ensures) (place-within _ _ _ (start-here .pre .1)), rw (place-of4-here .place-of4 .ensures) (place-within _ _ _ (start-here .pre .2)))
 
--- src/lib.rt:282:15
 mul-row-2 : tie.Need-mul-row-2 Inv-parts μ-parts Inv-positions μ-positions
 mul-row-2 c =
     let start-here = c .before .before .before .before .before .before .before .before .before .before .before .before .before .before .before .before .before .before in
     omega (arith, start-here .pre .0 .few, start-here .pre .0 .some)
 
--- src/lib.rt:282:15
 array-copy-out-row-3 : tie.Need-array-copy-out-row-3 Inv-parts μ-parts Inv-positions μ-positions
 array-copy-out-row-3 c =
     let start-here = c .before .before .before .before .before .before .before .before .before .before .before .before .before .before .before .before .before .before in
     omega (arith, start-here .pre .0 .few, start-here .pre .0 .some)
 
--- src/lib.rt:283:5
 step-requires : tie.Need-step-requires Inv-parts μ-parts Inv-positions μ-positions
 step-requires c κs =
     let start-here = c .before .before .before .before .before .before .before .before .before .before .before .before .before .before .before .before .before .before .before in
@@ -425,7 +355,6 @@ step-requires c κs =
     let w = positions-here .positions in
     (omega (arith, w .inv .0, start-here .pre .1 .few, start-here .pre .2 .few, start-here .pre .3), w .inv .1 .clear _ (omega arith))
 
--- src/lib.rt:246:1
 returns : tie.Need-returns Inv-parts μ-parts Inv-positions μ-positions
 returns c =
     let start-here = c .before .before .before .before .before .before .before .before .before .before .before .before .before .before .before .before .before .before .before .before in

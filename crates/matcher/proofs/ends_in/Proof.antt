@@ -1,15 +1,12 @@
-use mathlib.Core.Path.{_≡_, refl}
-use Prim.Native.Nat.{_-_, _≤_, _<_}
+use mathlib.Core.Path.{refl}
+use Prim.Native.Nat.{_-_, _≤_}
 use native.Mathlib.Omega.{arith}
-use lib.ListN.{length}
 use borrow.Author.Tests.{eqb-false}
 use Rattle.laws.proofs.Lists.{not-both}
 use Rattle.matcher.proofs.Ends.{long, binds-before, same-bytes, no-binding}
 use borrow.Author.Needs.{needs}
 use Rattle.matcher.proofs.ends_in.Statement.{statement}
 use Rattle.matcher.proofs.ends_in.Tie as tie
-use Rattle.matcher.proofs.ends_in.Reads as reads
-use Rattle.matcher.proofs.ends_in.Lts as lts
 
 abbrev Inv-loop : tie.InvT-loop
 Inv-loop key name n at i₀ i = i ≤ n
@@ -17,38 +14,30 @@ Inv-loop key name n at i₀ i = i ≤ n
 abbrev μ-loop : tie.MeasureT-loop
 μ-loop key name n at i₀ i = i
 
--- src/lib.rt:267:9
 returns : tie.Need-returns Inv-loop μ-loop
 returns c f front b h e =
     let start-here = c .before in
     let a = start-here .args in
     omega (arith, long (a .key .now) front b (a .name .now) e, c .if1 .taken)
 
--- src/lib.rt:269:14
 sub-at : tie.Need-sub-at Inv-loop μ-loop
 sub-at c = search needs
 
--- src/lib.rt:271:5
 loop-holds : tie.Need-loop-holds Inv-loop μ-loop
 loop-holds c = search needs
 
--- src/lib.rt:272:9
 sub-i : tie.Need-sub-i Inv-loop μ-loop
 sub-i c = search needs
 
--- src/lib.rt:273:16
 add-if2 : tie.Need-add-if2 Inv-loop μ-loop
 add-if2 c = search needs
 
--- src/lib.rt:273:12
 shared-slice-read-if2 : tie.Need-shared-slice-read-if2 Inv-loop μ-loop
 shared-slice-read-if2 c = search needs
 
--- src/lib.rt:273:27
 shared-slice-read-if2-2 : tie.Need-shared-slice-read-if2-2 Inv-loop μ-loop
 shared-slice-read-if2-2 c = search needs
 
--- src/lib.rt:274:13
 returns-2 : tie.Need-returns-2 Inv-loop μ-loop
 returns-2 c f front b h e =
     let start-here = c .before .before .before .before .before .before in
@@ -56,27 +45,21 @@ returns-2 c f front b h e =
     let a = start-here .args in
     c .if2 .taken (same-bytes (a .key .now) front b (a .name .now) e (loop-here .loop .i - 1))
 
--- src/lib.rt:271:5
 loop-less : tie.Need-loop-less Inv-loop μ-loop
 loop-less c = search needs
 
--- src/lib.rt:271:5
 loop-again : tie.Need-loop-again Inv-loop μ-loop
 loop-again c = search needs
 
--- src/lib.rt:277:17
 sub-b : tie.Need-sub-b Inv-loop μ-loop
 sub-b c = search needs
 
--- src/lib.rt:277:13
 shared-slice-read-b : tie.Need-shared-slice-read-b Inv-loop μ-loop
 shared-slice-read-b c = search needs
 
--- src/lib.rt:279:9
 returns-3 : tie.Need-returns-3 Inv-loop μ-loop
 returns-3 c f front b h e = not-both refl f
 
--- src/lib.rt:262:1
 returns-4 : tie.Need-returns-4 Inv-loop μ-loop
 returns-4 c f front b h e =
     let start-here = c .before .before .before .before .before in

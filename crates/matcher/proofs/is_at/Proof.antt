@@ -3,34 +3,25 @@ use Rattle.definition.specs.Matching.{equals}
 use borrow.Author.Needs.{needs}
 use Rattle.matcher.proofs.is_at.Statement.{statement}
 use Rattle.matcher.proofs.is_at.Tie as tie
-use Rattle.matcher.proofs.is_at.Reads as reads
-use Rattle.matcher.proofs.is_at.Lts as lts
-use Rattle.matcher.proofs.same_text.Reads as same-text-reads
 
--- src/lib.rt:88:32
 sub-same-text : tie.Need-sub-same-text
 sub-same-text c = search needs
 
--- src/lib.rt:88:32
 part-same-text-start : tie.Need-part-same-text-start
 part-same-text-start c = search needs
 
--- src/lib.rt:88:32
 part-same-text-end : tie.Need-part-same-text-end
 part-same-text-end c = search needs
 
--- src/lib.rt:88:9
 same-text-requires : tie.Need-same-text-requires
 same-text-requires c κs = search needs
 
--- src/lib.rt:88:9
 returns : tie.Need-returns
 unfolding equals
 returns c =
     let if1-here = c .before .before in
     rw (if1-here .if1 .taken) (c .same-text .ensures)
 
--- src/lib.rt:81:1
 returns-2 : tie.Need-returns-2
 unfolding equals
 returns-2 c = rw (c .if1 .left) refl

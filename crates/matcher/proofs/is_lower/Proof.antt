@@ -1,14 +1,12 @@
 use mathlib.Core.Path.{_≡_, sym, _∙_}
-use Prim.Native.Nat.{ℕ, _+_, _-_, _≤_, _<_}
+use Prim.Native.Nat.{_-_, _≤_, _<_}
 use native.Mathlib.Omega.{arith}
-use lib.ListN.{length, getD, take, drop}
+use lib.ListN.{length, take, drop}
 use Rattle.definition.specs.Lists.{lower}
 use Rattle.matcher.proofs.Texts.{lower-at, higher-at, equal-at, equal-end}
 use borrow.Author.Needs.{needs}
 use Rattle.matcher.proofs.is_lower.Statement.{statement}
 use Rattle.matcher.proofs.is_lower.Tie as tie
-use Rattle.matcher.proofs.is_lower.Reads as reads
-use Rattle.matcher.proofs.is_lower.Lts as lts
 
 abbrev Inv-loop : tie.InvT-loop
 Inv-loop len a b i₀ i = (i ≤ len) × (lower (drop i (take len (a .marks))) (drop i (take len (b .marks))) ≡ lower (take len (a .marks)) (take len (b .marks)))
@@ -16,19 +14,15 @@ Inv-loop len a b i₀ i = (i ≤ len) × (lower (drop i (take len (a .marks))) (
 abbrev μ-loop : tie.MeasureT-loop
 μ-loop len a b i₀ i = len - i
 
--- src/lib.rt:347:5
 loop-holds : tie.Need-loop-holds Inv-loop μ-loop
 loop-holds c = search needs
 
--- src/lib.rt:348:17
 element-copy-out-x : tie.Need-element-copy-out-x Inv-loop μ-loop
 element-copy-out-x c = search needs
 
--- src/lib.rt:349:17
 element-copy-out-y : tie.Need-element-copy-out-y Inv-loop μ-loop
 element-copy-out-y c = search needs
 
--- src/lib.rt:351:13
 returns : tie.Need-returns Inv-loop μ-loop
 returns c =
     let start-here = c .before .before .before .before .before in
@@ -42,7 +36,6 @@ returns c =
     let g : a .len ≤ length (a .t2 .marks) = omega arith in
     sym (lower-at (a .t1 .marks) (a .t2 .marks) (a .len) (w .i) h f g (c .if1 .taken)) ∙ w .inv .1
 
--- src/lib.rt:354:13
 returns-2 : tie.Need-returns-2 Inv-loop μ-loop
 returns-2 c =
     let start-here = c .before .before .before .before .before .before in
@@ -56,15 +49,12 @@ returns-2 c =
     let g : a .len ≤ length (a .t2 .marks) = omega arith in
     sym (higher-at (a .t1 .marks) (a .t2 .marks) (a .len) (w .i) h f g (c .if2 .taken)) ∙ w .inv .1
 
--- src/lib.rt:356:9
 add-i : tie.Need-add-i Inv-loop μ-loop
 add-i c = search needs
 
--- src/lib.rt:347:5
 loop-less : tie.Need-loop-less Inv-loop μ-loop
 loop-less c = search needs
 
--- src/lib.rt:347:5
 loop-again : tie.Need-loop-again Inv-loop μ-loop
 loop-again c =
     let start-here = c .before .before .before .before .before .before in
@@ -78,7 +68,6 @@ loop-again c =
     let g : a .len ≤ length (a .t2 .marks) = omega arith in
     (search needs, sym (equal-at (a .t1 .marks) (a .t2 .marks) (a .len) (w .i) h f g (omega arith)) ∙ w .inv .1)
 
--- src/lib.rt:342:1
 returns-3 : tie.Need-returns-3 Inv-loop μ-loop
 returns-3 c =
     let start-here = c .before .before in

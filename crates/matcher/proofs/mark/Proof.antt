@@ -1,31 +1,22 @@
-use mathlib.Core.Path.{_≡_, sym, _∙_}
+use mathlib.Core.Path.{sym, _∙_}
 use Rattle.matcher.specs.Places.{positionIn}
 use Rattle.matcher.proofs.Marks.{by-wildcard, by-instance, by-class, by-none}
 use borrow.Author.Needs.{needs}
 use Rattle.matcher.proofs.mark.Statement.{statement}
 use Rattle.matcher.proofs.mark.Tie as tie
-use Rattle.matcher.proofs.mark.Reads as reads
-use Rattle.matcher.proofs.mark.Lts as lts
-use Rattle.matcher.proofs.is_at.Reads as is-at-reads
-use Rattle.matcher.proofs.mark_of.Reads as mark-of-reads
 
--- src/lib.rt:104:17
 shared-slice-read-loose : tie.Need-shared-slice-read-loose
 shared-slice-read-loose c = search needs
 
--- src/lib.rt:105:13
 add-s : tie.Need-add-s
 add-s c = search needs
 
--- src/lib.rt:106:8
 shared-slice-read-if1 : tie.Need-shared-slice-read-if1
 shared-slice-read-if1 c = search needs
 
--- src/lib.rt:107:9
 mark-of-requires : tie.Need-mark-of-requires
 mark-of-requires c κs = search needs
 
--- src/lib.rt:107:9
 returns : tie.Need-returns
 returns c =
     let start-here = c .before .before .before .before .before .before .before in
@@ -34,27 +25,21 @@ returns c =
     let q = positionIn (a .name .now) (a .n) (a .class .now) (a .c) in
     by-wildcard (a .key .now) (a .b) (a .e) (start-here .pre .0) q _ (if1-here .if1 .taken) (c .mark-of .ensures)
 
--- src/lib.rt:109:21
 sub-component : tie.Need-sub-component
 sub-component c = search needs
 
--- src/lib.rt:109:21
 part-component-start : tie.Need-part-component-start
 part-component-start c = search needs
 
--- src/lib.rt:109:21
 part-component-end : tie.Need-part-component-end
 part-component-end c = search needs
 
--- src/lib.rt:110:8
 is-at-requires : tie.Need-is-at-requires
 is-at-requires c κs = search needs
 
--- src/lib.rt:111:9
 mark-of-requires-2 : tie.Need-mark-of-requires-2
 mark-of-requires-2 c κs = search needs
 
--- src/lib.rt:111:9
 returns-2 : tie.Need-returns-2
 returns-2 c =
     let start-here = c .before .before .before .before .before .before .before .before .before .before in
@@ -65,15 +50,12 @@ returns-2 c =
     let q = positionIn (a .name .now) (a .n) (a .class .now) (a .c) in
     by-instance (a .key .now) (a .b) (a .e) (start-here .pre .0) q (if1-here .if1 .left) _ (sym (is-at-here .is-at .ensures) ∙ if2-here .if2 .taken) (c .mark-of2 .ensures)
 
--- src/lib.rt:113:8
 is-at-requires-2 : tie.Need-is-at-requires-2
 is-at-requires-2 c κs = search needs
 
--- src/lib.rt:114:9
 mark-of-requires-3 : tie.Need-mark-of-requires-3
 mark-of-requires-3 c κs = search needs
 
--- src/lib.rt:114:9
 returns-3 : tie.Need-returns-3
 returns-3 c =
     let start-here = c .before .before .before .before .before .before .before .before .before .before .before .before in
@@ -87,7 +69,6 @@ returns-3 c =
     by-class (a .key .now) (a .b) (a .e) (start-here .pre .0) q (if1-here .if1 .left) (sym (is-at-here .is-at .ensures) ∙ if2-here .if2 .left) _
     (sym (is-at2-here .is-at2 .ensures) ∙ if3-here .if3 .taken) (c .mark-of3 .ensures)
 
--- src/lib.rt:100:1
 returns-4 : tie.Need-returns-4
 returns-4 c =
     let start-here = c .before .before .before .before .before .before .before .before .before .before .before in

@@ -8,26 +8,16 @@ use Rattle.matcher.proofs.Walking.{none-short}
 use borrow.Author.Needs.{needs}
 use Rattle.matcher.proofs.match_key.Statement.{statement}
 use Rattle.matcher.proofs.match_key.Tie as tie
-use Rattle.matcher.proofs.match_key.Reads as reads
-use Rattle.matcher.proofs.match_key.Lts as lts
-use Rattle.matcher.proofs.check_match.Reads as check-match-reads
-use Rattle.matcher.proofs.longer.Reads as longer-reads
-use Rattle.matcher.proofs.no_row.Reads as no-row-reads
-use Rattle.matcher.proofs.split_key.Reads as split-key-reads
 
--- src/lib.rt:344:9
 longer-requires : tie.Need-longer-requires
 longer-requires c κs = search needs
 
--- src/lib.rt:345:9
 split-key-requires : tie.Need-split-key-requires
 split-key-requires c κs = search needs
 
--- src/lib.rt:347:9
 no-row-requires : tie.Need-no-row-requires
 no-row-requires c κs = search needs
 
--- src/lib.rt:347:9
 returns : tie.Need-returns
 returns c =
     let start-here = c .before .before .before .before .before .before .before .before in
@@ -38,15 +28,12 @@ returns c =
     none-short _ _ (keyParts (a .key .now)) (queried (a .name .now) (a .names) (a .class .now) (a .classes)) (c .no-row .ensures .0)
     (omega (arith, length-queried (a .name .now) (a .names) (a .class .now) (a .classes), longer-here .longer .ensures, if1-here .if1 .taken, split-key-here .split-key .ensures .count))
 
--- src/lib.rt:349:54
 sub-check-match : tie.Need-sub-check-match
 sub-check-match c = search needs
 
--- src/lib.rt:349:5
 check-match-requires : tie.Need-check-match-requires
 check-match-requires c κs = search needs
 
--- src/lib.rt:340:1
 returns-2 : tie.Need-returns-2
 returns-2 c =
     let start-here = c .before .before .before .before .before .before .before .before in

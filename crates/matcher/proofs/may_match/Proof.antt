@@ -4,23 +4,16 @@ use Rattle.matcher.proofs.Ends.{refused}
 use borrow.Author.Needs.{needs}
 use Rattle.matcher.proofs.may_match.Statement.{statement}
 use Rattle.matcher.proofs.may_match.Tie as tie
-use Rattle.matcher.proofs.may_match.Reads as reads
-use Rattle.matcher.proofs.may_match.Lts as lts
-use Rattle.matcher.proofs.ends_at.Reads as ends-at-reads
 
--- src/lib.rt:329:8
 ends-at-requires : tie.Need-ends-at-requires
 ends-at-requires c κs = search needs
 
--- src/lib.rt:330:9
 returns : tie.Need-returns
 returns c f = absurd (not-both refl f)
 
--- src/lib.rt:332:5
 ends-at-requires-2 : tie.Need-ends-at-requires-2
 ends-at-requires-2 c κs = search needs
 
--- src/lib.rt:325:1
 returns-2 : tie.Need-returns-2
 returns-2 c f =
     let start-here = c .before .before .before .before .before .before in

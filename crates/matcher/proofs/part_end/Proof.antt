@@ -1,4 +1,4 @@
-use mathlib.Core.Path.{_≡_, sym, _∙_}
+use mathlib.Core.Path.{_≡_}
 use Prim.Native.Nat.{_+_, _-_, _≤_, _<_}
 use native.Mathlib.Omega.{arith}
 use lib.ListN.{length, drop}
@@ -9,8 +9,6 @@ use Rattle.matcher.proofs.Bindings.{dot-binds, star-binds, name-goes-on
 use borrow.Author.Needs.{needs}
 use Rattle.matcher.proofs.part_end.Statement.{statement}
 use Rattle.matcher.proofs.part_end.Tie as tie
-use Rattle.matcher.proofs.part_end.Reads as reads
-use Rattle.matcher.proofs.part_end.Lts as lts
 
 abbrev Inv-loop : tie.InvT-loop
 Inv-loop key at i₀ i = (at ≤ i) × (i ≤ length key) × (at + length (takeWhile notBinding (drop at key)) ≡ i + length (takeWhile notBinding (drop i key)))
@@ -18,15 +16,12 @@ Inv-loop key at i₀ i = (at ≤ i) × (i ≤ length key) × (at + length (takeW
 abbrev μ-loop : tie.MeasureT-loop
 μ-loop key at i₀ i = length key - i
 
--- src/lib.rt:125:5
 loop-holds : tie.Need-loop-holds Inv-loop μ-loop
 loop-holds c = search needs
 
--- src/lib.rt:126:17
 shared-slice-read-c : tie.Need-shared-slice-read-c Inv-loop μ-loop
 shared-slice-read-c c = search needs
 
--- src/lib.rt:128:13
 returns : tie.Need-returns Inv-loop μ-loop
 returns c =
     let start-here = c .before .before .before .before in
@@ -36,7 +31,6 @@ returns c =
     let h : i < length t = search needs in
     omega (arith, loop-here .loop .inv .2, run-stop notBinding t i 0 h (dot-binds _ (c .if1 .taken)))
 
--- src/lib.rt:131:13
 returns-2 : tie.Need-returns-2 Inv-loop μ-loop
 returns-2 c =
     let start-here = c .before .before .before .before .before in
@@ -46,15 +40,12 @@ returns-2 c =
     let h : i < length t = search needs in
     omega (arith, loop-here .loop .inv .2, run-stop notBinding t i 0 h (star-binds _ (c .if2 .taken)))
 
--- src/lib.rt:133:9
 add-i : tie.Need-add-i Inv-loop μ-loop
 add-i c = search needs
 
--- src/lib.rt:125:5
 loop-less : tie.Need-loop-less Inv-loop μ-loop
 loop-less c = search needs
 
--- src/lib.rt:125:5
 loop-again : tie.Need-loop-again Inv-loop μ-loop
 loop-again c =
     let start-here = c .before .before .before .before .before in
@@ -65,7 +56,6 @@ loop-again c =
     let e = run-more notBinding t i 0 h (name-goes-on _ (c .before .if1 .left) (c .if2 .left)) in
     (search needs, search needs, omega (arith, loop-here .loop .inv .2))
 
--- src/lib.rt:120:1
 returns-3 : tie.Need-returns-3 Inv-loop μ-loop
 returns-3 c =
     let start-here = c .before .before in

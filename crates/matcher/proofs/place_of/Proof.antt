@@ -2,18 +2,13 @@ use borrow.Author.Tests.{lt-ltb, le-ltb}
 use borrow.Author.Needs.{needs}
 use Rattle.matcher.proofs.place_of.Statement.{statement}
 use Rattle.matcher.proofs.place_of.Tie as tie
-use Rattle.matcher.proofs.place_of.Reads as reads
-use Rattle.matcher.proofs.place_of.Lts as lts
 
--- src/lib.rt:71:18
 add-t8 : tie.Need-add-t8
 add-t8 c = search needs
 
--- src/lib.rt:68:9
 returns : tie.Need-returns
 returns c = simp (lt-ltb _ _ (c .if1 .taken))
 
--- src/lib.rt:62:1
 returns-2 : tie.Need-returns-2
 returns-2 c = simp (le-ltb _ _ (c .if1 .left))
 

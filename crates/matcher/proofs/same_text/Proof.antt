@@ -1,5 +1,5 @@
 use mathlib.Core.Path.{_≡_, sym, _∙_}
-use Prim.Native.Nat.{_+_, _-_, _≤_, _<_}
+use Prim.Native.Nat.{_-_, _≤_, _<_}
 use native.Mathlib.Omega.{arith}
 use lib.ListN.{length, drop}
 use Rattle.definition.specs.Lists.{same}
@@ -7,8 +7,6 @@ use Rattle.matcher.proofs.Texts.{same-lengths, same-on, same-not, same-
 use borrow.Author.Needs.{needs}
 use Rattle.matcher.proofs.same_text.Statement.{statement}
 use Rattle.matcher.proofs.same_text.Tie as tie
-use Rattle.matcher.proofs.same_text.Reads as reads
-use Rattle.matcher.proofs.same_text.Lts as lts
 
 abbrev Inv-loop : tie.InvT-loop
 Inv-loop a b i₀ i = (i ≤ length a) × (length a ≡ length b) × (same (drop i a) (drop i b) ≡ same a b)
@@ -16,23 +14,18 @@ Inv-loop a b i₀ i = (i ≤ length a) × (length a ≡ length b) × (same (drop
 abbrev μ-loop : tie.MeasureT-loop
 μ-loop a b i₀ i = length a - i
 
--- src/lib.rt:47:9
 returns : tie.Need-returns Inv-loop μ-loop
 returns c = sym (same-lengths _ _ (c .if1 .taken))
 
--- src/lib.rt:50:5
 loop-holds : tie.Need-loop-holds Inv-loop μ-loop
 loop-holds c = search needs
 
--- src/lib.rt:51:12
 shared-slice-read-if2 : tie.Need-shared-slice-read-if2 Inv-loop μ-loop
 shared-slice-read-if2 c = search needs
 
--- src/lib.rt:51:20
 shared-slice-read-if2-2 : tie.Need-shared-slice-read-if2-2 Inv-loop μ-loop
 shared-slice-read-if2-2 c = search needs
 
--- src/lib.rt:52:13
 returns-2 : tie.Need-returns-2 Inv-loop μ-loop
 returns-2 c =
     let start-here = c .before .before .before .before .before .before in
@@ -43,15 +36,12 @@ returns-2 c =
     let k : w .i < length (a .b .now) = omega arith in
     sym (same-not (a .a .now) (a .b .now) (w .i) h k (c .if2 .taken)) ∙ w .inv .2
 
--- src/lib.rt:54:9
 add-i : tie.Need-add-i Inv-loop μ-loop
 add-i c = search needs
 
--- src/lib.rt:50:5
 loop-less : tie.Need-loop-less Inv-loop μ-loop
 loop-less c = search needs
 
--- src/lib.rt:50:5
 loop-again : tie.Need-loop-again Inv-loop μ-loop
 loop-again c =
     let start-here = c .before .before .before .before .before .before in
@@ -62,7 +52,6 @@ loop-again c =
     let k : w .i < length (a .b .now) = omega arith in
     (search needs, w .inv .1, sym (same-on (a .a .now) (a .b .now) (w .i) h k (c .if2 .left)) ∙ w .inv .2)
 
--- src/lib.rt:43:1
 returns-3 : tie.Need-returns-3 Inv-loop μ-loop
 returns-3 c =
     let start-here = c .before .before .before in

@@ -1,5 +1,5 @@
-use mathlib.Core.Path.{_≡_, refl}
-use Prim.Native.Nat.{_+_, _-_, _≤_, _<_}
+use mathlib.Core.Path.{refl}
+use Prim.Native.Nat.{_-_, _≤_, _<_}
 use native.Mathlib.Omega.{arith}
 use lib.ListN.{length}
 use Rattle.definition.specs.Limits.{mostParts}
@@ -8,9 +8,6 @@ use Rattle.matcher.proofs.Splitting.{Splitting, begun, room, next-insid
 use borrow.Author.Needs.{needs}
 use Rattle.matcher.proofs.split_key.Statement.{statement}
 use Rattle.matcher.proofs.split_key.Tie as tie
-use Rattle.matcher.proofs.split_key.Reads as reads
-use Rattle.matcher.proofs.split_key.Lts as lts
-use Rattle.matcher.proofs.part_end.Reads as part-end-reads
 
 abbrev Inv-loop : tie.InvT-loop
 Inv-loop key bounds₀ count₀ at₀ bounds count at = Splitting key bounds count at
@@ -18,17 +15,14 @@ Inv-loop key bounds₀ count₀ at₀ bounds count at = Splitting key bounds cou
 abbrev μ-loop : tie.MeasureT-loop
 μ-loop key bounds₀ count₀ at₀ bounds count at = length key - at
 
--- src/lib.rt:145:5
 loop-holds : tie.Need-loop-holds Inv-loop μ-loop
 loop-holds c =
     let start-here = c .before in
     begun (start-here .args .key .now) (parts-of _ (start-here .pre)) _ (search needs) refl
 
--- src/lib.rt:146:28
 add-part-end : tie.Need-add-part-end Inv-loop μ-loop
 add-part-end c = search needs
 
--- src/lib.rt:146:9
 part-end-requires : tie.Need-part-end-requires Inv-loop μ-loop
 part-end-requires c κs = search needs
 
@@ -45,23 +39,18 @@ small c =
     let g = next-inside key K (w .bounds) (w .count) (w .at) (w .inv) h in
     (omega (arith, K .few), omega (arith, c .part-end .ensures))
 
--- src/lib.rt:147:9
 add-count : tie.Need-add-count Inv-loop μ-loop
 add-count c = omega (arith, small c)
 
--- src/lib.rt:148:9
 mul-bounds : tie.Need-mul-bounds Inv-loop μ-loop
 mul-bounds c = omega (arith, small c)
 
--- src/lib.rt:148:9
 array-write-bounds : tie.Need-array-write-bounds Inv-loop μ-loop
 array-write-bounds c = omega (arith, small c)
 
--- src/lib.rt:145:5
 loop-less : tie.Need-loop-less Inv-loop μ-loop
 loop-less c = omega (arith, small c)
 
--- src/lib.rt:145:5
 loop-again : tie.Need-loop-again Inv-loop μ-loop
 loop-again c =
     let start-here = c .before .before .before .before in
@@ -69,7 +58,6 @@ loop-again c =
     let w = loop-here .loop in
     more (start-here .args .key .now) (parts-of _ (start-here .pre)) (w .bounds) (w .count) (w .at) (w .inv) (search needs) (c .part-end .result) (c .part-end .ensures)
 
--- src/lib.rt:138:1
 returns : tie.Need-returns Inv-loop μ-loop
 returns c =
     let start-here = c .before .before .before in

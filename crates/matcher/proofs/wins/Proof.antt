@@ -2,15 +2,10 @@ use Rattle.matcher.proofs.Rows.{wins-over, wins-alone, wins-never}
 use borrow.Author.Needs.{needs}
 use Rattle.matcher.proofs.wins.Statement.{statement}
 use Rattle.matcher.proofs.wins.Tie as tie
-use Rattle.matcher.proofs.wins.Reads as reads
-use Rattle.matcher.proofs.wins.Lts as lts
-use Rattle.matcher.proofs.is_lower.Reads as is-lower-reads
 
--- src/lib.rt:368:21
 is-lower-requires : tie.Need-is-lower-requires
 is-lower-requires c κs = search needs
 
--- src/lib.rt:368:13
 returns : tie.Need-returns
 returns c i at =
     let start-here = c .before .before .before in
@@ -19,7 +14,6 @@ returns c i at =
     let a = start-here .args in
     wins-over (a .len) i at (a .r) (a .best) (c .is-lower .result) (if1-here .if1 .taken) (if2-here .if2 .taken) (c .is-lower .ensures)
 
--- src/lib.rt:370:9
 returns-2 : tie.Need-returns-2
 returns-2 c i at =
     let start-here = c .before .before in
@@ -27,7 +21,6 @@ returns-2 c i at =
     let a = start-here .args in
     wins-alone (a .len) i at (a .r) (a .best) (if1-here .if1 .taken) (c .if2 .left)
 
--- src/lib.rt:362:1
 returns-3 : tie.Need-returns-3
 returns-3 c i at =
     let start-here = c .before in
