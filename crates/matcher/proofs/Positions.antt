@@ -12,7 +12,7 @@ use borrow.Author.Tests.{lt-ltb, le-ltb}
 use Rattle.definition.specs.Query.{Position, positionsOf}
 use Rattle.query.specs.Splits.{each, partIn, namesIn, Inside}
 use Rattle.query.specs.declared.Split.{Split}
-use Rattle.matcher.specs.Places.{placeOf, placed, Within, positionIn}
+use Rattle.matcher.specs.Places.{placeOf, placed, Within, positionIn, queried}
 
 -- the i-th, if there is one
 unfoldable nth : {A : Type 0} → List A → ℕ → Option A
@@ -83,27 +83,24 @@ module _ (t : List ℕ) (s : Split) (i : ℕ) where
 -- ---- The positions of a split query
 
 module _ (name : List ℕ) (names : Split) (class : List ℕ) (classes : Split) where
-  abbrev pub queried : List Position
-  queried = positionsOf (namesIn name names) (namesIn class classes)
-
-  pub length-queried : length queried ≡ max (names .count) (classes .count)
+  pub length-queried : length (queried name names class classes) ≡ max (names .count) (classes .count)
   unfolding namesIn
   length-queried = length-positions _ _ ∙ rw (length-each (names .count) (partIn name names), length-each (classes .count) (partIn class classes)) refl
 
   pub queried-at : (i : ℕ) → i < max (names .count) (classes .count)
-      → drop i queried ≡ positionIn name (placeOf names i) class (placeOf classes i) ∷ drop (i + 1) queried
+      → drop i (queried name names class classes) ≡ positionIn name (placeOf names i) class (placeOf classes i) ∷ drop (i + 1) (queried name names class classes)
   queried-at i h =
       let k : i < max (length (namesIn name names)) (length (namesIn class classes)) = unfold namesIn in rw (length-each (names .count) (partIn name names), length-each (classes .count) (partIn class classes)) h in
       position-at (namesIn name names) (namesIn class classes) i k
       ∙ rw (placed-is name names i, placed-is class classes i, add-one) refl
 
   pub queried-last : (last : ℕ) → last + 1 ≡ max (names .count) (classes .count)
-      → drop last queried ≡ positionIn name (placeOf names last) class (placeOf classes last) ∷ []
+      → drop last (queried name names class classes) ≡ positionIn name (placeOf names last) class (placeOf classes last) ∷ []
   queried-last last e =
-      let z : drop (last + 1) queried ≡ [] = drop-of-length-le queried {i = last + 1} (omega (arith, length-queried)) in
+      let z : drop (last + 1) (queried name names class classes) ≡ [] = drop-of-length-le (queried name names class classes) {i = last + 1} (omega (arith, length-queried)) in
       queried-at last (omega arith) ∙ rw z refl
 
   -- all positions but the last, and the last
   pub queried-ends : (last : ℕ) → last + 1 ≡ max (names .count) (classes .count)
-      → queried ≡ take last queried ++ (positionIn name (placeOf names last) class (placeOf classes last) ∷ [])
-  queried-ends last e = sym (take-append-drop last queried) ∙ ap (λ (l : List Position). take last queried ++ l) (queried-last last e)
+      → (queried name names class classes) ≡ take last (queried name names class classes) ++ (positionIn name (placeOf names last) class (placeOf classes last) ∷ [])
+  queried-ends last e = sym (take-append-drop last (queried name names class classes)) ∙ ap (λ (l : List Position). take last (queried name names class classes) ++ l) (queried-last last e)

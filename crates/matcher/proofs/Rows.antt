@@ -12,7 +12,7 @@ use borrow.Author.Tests.{eq-eqb, ne-eqb}
 use Rattle.definition.specs.Lists.{if_then_else_, any, orElse, lower}
 use Rattle.definition.specs.Bytes.{star}
 use Rattle.definition.specs.Text.{tight, loose, bindingOf}
-use Rattle.definition.specs.Ranking.{better}
+use Rattle.definition.specs.Ranking.{noEntry, better}
 use Rattle.matcher.specs.Rows.{rowIn, bestIn, markIn, skipOf, extended, Clear, Continued}
 use Rattle.matcher.specs.declared.Row.{Row}
 
@@ -35,6 +35,10 @@ module _ (n i at : ℕ) (r top : Row) where
   pub wins-never : r .live ≡ false → better i (rowIn n r) (bestIn n at top) ≡ bestIn n at top
   unfolding rowIn better
   wins-never e = rw e refl
+
+pub none-best : (n at : ℕ) (r : Row) → r .live ≡ false → bestIn n at r ≡ noEntry
+unfolding bestIn
+none-best n at r e = rw e refl
 
 -- ---- A row over one more position
 

@@ -6,7 +6,8 @@ use Prim.Native.Nat.{ℕ, _+_, _-_, _≤_}
 use lib.Dec.{ltb}
 use lib.ListN.{length, getD, take, drop}
 use Rattle.definition.specs.Lists.{if_then_else_}
-use Rattle.definition.specs.Query.{Position}
+use Rattle.definition.specs.Query.{Position, positionsOf}
+use Rattle.query.specs.Splits.{namesIn}
 use Rattle.query.specs.declared.Split.{Split}
 use Rattle.matcher.specs.declared.Place.{Place}
 
@@ -27,3 +28,7 @@ pub record Within (t : List ℕ) (p : Place) : Type 0 where
 
 abbrev pub positionIn : List ℕ → Place → List ℕ → Place → Position
 positionIn name n class c = record { instance = placed name n; class = placed class c }
+
+-- the positions of a split query
+abbrev pub queried : List ℕ → Split → List ℕ → Split → List Position
+queried name names class classes = positionsOf (namesIn name names) (namesIn class classes)

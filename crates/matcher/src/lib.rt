@@ -8,15 +8,14 @@ ghost use lib.Dec.{ltb};
 ghost use lib.ListN.{length, take, drop, getD};
 ghost use Rattle.definition.specs.Lists.{if_then_else_, takeWhile, orElse, same, lower};
 ghost use Rattle.definition.specs.Bytes.{isBinding};
-ghost use Rattle.definition.specs.Query.{positionsOf};
 ghost use Rattle.definition.specs.Matching.{equals, markAt};
 ghost use Rattle.definition.specs.Ranking.{rankOf, better};
 ghost use Rattle.definition.specs.Image.{keyParts, isKey};
 ghost use Rattle.definition.specs.Text.{bindingOf};
-ghost use Rattle.query.specs.Splits.{namesIn, Inside};
+ghost use Rattle.query.specs.Splits.{Inside};
 ghost use Rattle.matcher.specs.Rows.{rowIn, bestIn, markIn, skipOf, extended, Clear, Continued};
 ghost use Rattle.matcher.specs.Keys.{notBinding, partBetween, Bounded};
-ghost use Rattle.matcher.specs.Places.{placeOf, placed, Within, positionIn};
+ghost use Rattle.matcher.specs.Places.{placeOf, placed, Within, positionIn, queried};
 use query::QUERY_PARTS;
 use query::Split;
 
@@ -96,6 +95,13 @@ pub fn last_part(s: Split, len: usize) -> Place
     place_at(s, len - 1)
 }
 
+// How many positions a query has.
+pub fn longer(a: usize, b: usize) -> usize
+    ensures { λ r. ⌜ r ≡ max a b ⌝ }
+{
+    if a < b { b } else { a }
+}
+
 // Is the name the query's part at a place? A missing part equals nothing.
 fn is_at(name: &[u8], text: &[u8], p: Place) -> bool
     requires { ⌜ Within (now text) p ⌝ }
@@ -170,7 +176,7 @@ fn split_key(key: &[u8]) -> Key
 }
 
 // No row. Its marks are 0 all the same.
-fn no_row() -> Row
+pub fn no_row() -> Row
     ensures { λ r. ⌜ (r .live ≡ false) × Clear 0 r ⌝ }
 {
     Row {
@@ -253,7 +259,7 @@ fn check_match(
     last: usize,
 ) -> Row
     requires { ⌜ Bounded (now key) k × Inside (now name) names × Inside (now class) classes × (last + 1 ≡ max (names .count) (classes .count)) ⌝ }
-    ensures { λ r. ⌜ rowIn (last + 1) r ≡ rankOf (keyParts (now (key .entry))) (positionsOf (namesIn (now (name .entry)) names) (namesIn (now (class .entry)) classes)) ⌝ }
+    ensures { λ r. ⌜ rowIn (last + 1) r ≡ rankOf (keyParts (now (key .entry))) (queried (now (name .entry)) names (now (class .entry)) classes) ⌝ }
 {
     let top = k.count - 1;
     let at = k.bounds[0];
@@ -330,7 +336,7 @@ fn ends_at(key: &[u8], text: &[u8], p: Place) -> bool
 // May the key match? Its last part is a name and must meet the last position. This refuses most keys before they are split.
 pub fn may_match(key: &[u8], name: &[u8], n: Place, class: &[u8], c: Place) -> bool
     requires { ⌜ (isKey (now key) ≡ true) × Within (now name) n × Within (now class) c ⌝ }
-    ensures { λ r. ⌜ (r ≡ false → (names classes : Split) → n ≡ placeOf names (max (names .count) (classes .count) - 1) → c ≡ placeOf classes (max (names .count) (classes .count) - 1) → rankOf (keyParts (now (key .entry))) (positionsOf (namesIn (now (name .entry)) names) (namesIn (now (class .entry)) classes)) ≡ none) ⌝ }
+    ensures { λ r. ⌜ (r ≡ false → (names classes : Split) → n ≡ placeOf names (max (names .count) (classes .count) - 1) → c ≡ placeOf classes (max (names .count) (classes .count) - 1) → rankOf (keyParts (now (key .entry))) (queried (now (name .entry)) names (now (class .entry)) classes) ≡ none) ⌝ }
 {
     if ends_at(key, name, n) {
         return true;
@@ -338,16 +344,10 @@ pub fn may_match(key: &[u8], name: &[u8], n: Place, class: &[u8], c: Place) -> b
     ends_at(key, class, c)
 }
 
-fn longer(a: usize, b: usize) -> usize
-    ensures { λ r. ⌜ r ≡ max a b ⌝ }
-{
-    if a < b { b } else { a }
-}
-
 // The highest row of a key, of as many marks as the query has positions.
 pub fn match_key(key: &[u8], name: &[u8], names: Split, class: &[u8], classes: Split) -> Row
     requires { ⌜ (isKey (now key) ≡ true) × Inside (now name) names × Inside (now class) classes ⌝ }
-    ensures { λ r. ⌜ rowIn (max (names .count) (classes .count)) r ≡ rankOf (keyParts (now (key .entry))) (positionsOf (namesIn (now (name .entry)) names) (namesIn (now (class .entry)) classes)) ⌝ }
+    ensures { λ r. ⌜ rowIn (max (names .count) (classes .count)) r ≡ rankOf (keyParts (now (key .entry))) (queried (now (name .entry)) names (now (class .entry)) classes) ⌝ }
 {
     let len = longer(names.count, classes.count);
     let k = split_key(key);

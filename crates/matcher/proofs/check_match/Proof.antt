@@ -5,8 +5,8 @@ use native.Mathlib.Omega.{arith}
 use lib.ListN.{length}
 use Rattle.definition.specs.Image.{keyParts}
 use Rattle.matcher.specs.Rows.{rowIn}
-use Rattle.matcher.specs.Places.{positionIn}
-use Rattle.matcher.proofs.Positions.{queried, length-queried, queried-at, queried-last, place-within}
+use Rattle.matcher.specs.Places.{positionIn, queried}
+use Rattle.matcher.proofs.Positions.{length-queried, queried-at, queried-last, place-within}
 use Rattle.matcher.proofs.Walking.{Passing, Turning, turning-first, passing-first, passing-last, last-bounds, bounds-at, turning-clear, turning-next, passing-next}
 use borrow.Author.Needs.{needs}
 use Rattle.matcher.proofs.check_match.Statement.{statement}

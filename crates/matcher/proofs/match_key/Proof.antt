@@ -3,7 +3,8 @@ use Prim.Native.Nat.{ℕ, _+_, _-_, max}
 use native.Mathlib.Omega.{arith}
 use Rattle.definition.specs.Image.{keyParts}
 use Rattle.matcher.specs.Rows.{rowIn}
-use Rattle.matcher.proofs.Positions.{queried, length-queried}
+use Rattle.matcher.specs.Places.{queried}
+use Rattle.matcher.proofs.Positions.{length-queried}
 use Rattle.matcher.proofs.Walking.{none-short}
 use borrow.Author.Needs.{needs}
 use Rattle.matcher.proofs.match_key.Statement.{statement}
