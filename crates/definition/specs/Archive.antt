@@ -102,7 +102,7 @@ folderOf (c ∷ t) = if any (eqb slash) t then c ∷ folderOf t else []
 unfoldable pub pathOf : List ℕ → List ℕ → List ℕ
 pathOf folder name = if isEmpty folder then name else folder ++ slash ∷ name
 
--- the body of the file with that name
+-- the body of the file with that name. Departure: a name that is not UTF-8 is never opened; here no file has such a name
 unfoldable pub bodyOf : List File → List ℕ → Option (List ℕ)
 bodyOf [] n = none
 bodyOf (f ∷ fs) n = if same (f .name) n then some (f .body) else bodyOf fs n

@@ -15,7 +15,8 @@ pub data Event : Type 0 where
   opened : Chain → Event
   entered : Chain → Entry → Event
 
--- the lines of a text with that chain, where `including` reads an include; its events stand at the include's place
+-- the lines of a text with that chain, where `including` reads an include; its events stand at the include's place.
+-- Departure: a file's last line ends with the file, and is not joined with what follows the include
 unfoldable pub eventsOf : (List ℕ → List Event) → Chain → List Line → List Event
 eventsOf including chain [] = []
 eventsOf including chain (skipped ∷ ls) = eventsOf including chain ls
@@ -45,7 +46,7 @@ pub record Entered : Type 0 where
   pub chain : Chain
   pub entry : Entry
 
--- each entry with its chain of includes
+-- each entry with its chain of includes. Departure: two entries of one name are both kept
 unfoldable pub entriesOf : List Event → List Entered
 entriesOf [] = []
 entriesOf (opened ch ∷ es) = entriesOf es

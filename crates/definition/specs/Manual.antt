@@ -1,4 +1,4 @@
--- Worked examples of the manual and of X(7), and the smallest input for each departure of the Rust, by evaluating the definition.
+-- Worked examples of the manual and of X(7), and of the departures of the Rust, by evaluating the definition.
 use mathlib.Core.List.{List, [], _∷_}
 use mathlib.Core.Option.{Option, some, none}
 use mathlib.Core.Path.{_≡_, refl}
@@ -54,8 +54,37 @@ departures :
     × (answer "a.b:1" "a" "x.b" ≡ some (ascii "1"))
     × (answer "a.b:1" "x.b" "a" ≡ some (ascii "1"))
     × (answer "a.b:1" "a..b." "A.B" ≡ some (ascii "1"))
+    × (answer "a:1" "a" "" ≡ some (ascii "1"))
+    × (answer "A:1" "" "A" ≡ some (ascii "1"))
+unfolding definition written entriesWith entries answer
+departures = (refl, refl, refl, refl, refl, refl, refl, refl, refl, refl, refl, refl, refl)
+
+-- each mark against the one below it, the higher first: the rules' order at one level (15.2, rules 1 to 3)
+ranks :
+    (answer "*?.b:1\n*b:2" "a.b" "A.B" ≡ some (ascii "1"))
+    × (answer "?.b:1\n*?.b:2" "a.b" "A.B" ≡ some (ascii "1"))
+    × (answer "*A.b:1\n?.b:2" "a.b" "A.B" ≡ some (ascii "1"))
+    × (answer "A.b:1\n*A.b:2" "a.b" "A.B" ≡ some (ascii "1"))
+    × (answer "*a.b:1\nA.b:2" "a.b" "A.B" ≡ some (ascii "1"))
+    × (answer "a.b:1\n*a.b:2" "a.b" "A.B" ≡ some (ascii "1"))
+    -- from the left, and not by the number of parts matched
+    × (answer "a*d:1\n*b.c.d:2" "a.b.c.d" "" ≡ some (ascii "1"))
+    -- of one key the highest row: `*a*b` meets the first `a`
+    × (answer "*a*b:1\n?*b:2" "a.a.b" "" ≡ some (ascii "1"))
+unfolding definition written entriesWith entries answer
+ranks = (refl, refl, refl, refl, refl, refl, refl, refl)
+
+more :
+    -- a missing file, and the empty name
+    (entriesWith (file "p" "b:1" ∷ []) "#include \"q\"\n#include \"\"\na:1" ≡ line ".a" "1" ∷ [])
+    -- a file's text ends where the file ends
+    × (entriesWith (file "p" "b:1\\" ∷ []) "#include \"p\"\nc:2" ≡ line ".b" "1\\" ∷ line ".c" "2" ∷ [])
+    -- the folder is what stands before the last `/`
+    × (entriesWith (file "d/e/p" "#include \"q\"" ∷ file "d/e/q" "a:1" ∷ file "d/q" "a:2" ∷ []) "#include \"d/e/p\"" ≡ line ".a" "1" ∷ [])
+    × (entries "a:\\1012\\1\\\n2" ≡ line ".a" "A2\\12" ∷ [])
+    -- 15.2: no `?` in a query
     × (answer "*b:1" "a.?.b" "A.B.C" ≡ none)
     -- 15.4: a bad line does not swallow the next
     × (entries "x\\\na:1" ≡ line ".a" "1" ∷ [])
 unfolding definition written entriesWith entries answer
-departures = (refl, refl, refl, refl, refl, refl, refl, refl, refl, refl, refl, refl, refl)
+more = (refl, refl, refl, refl, refl, refl)

@@ -3,7 +3,7 @@ use mathlib.Core.Bool.{Bool, true, false}
 use mathlib.Core.List.{List, [], _∷_, _++_}
 use mathlib.Core.Option.{Option, some, none}
 use mathlib.Core.Path.{_≡_, refl}
-use Prim.Native.Nat.{ℕ, zero, suc, _+_, _*_}
+use Prim.Native.Nat.{ℕ, zero, suc, _+_, _*_, _/_, _%_}
 use Prim.Native.String.{String}
 use lib.ListN.{replicate, take, drop, getD}
 use lib.IntN.{ℤ, pos, negsuc}
@@ -54,7 +54,7 @@ readings :
     × (read (replicate 32768 10) noFiles ≡ 0)
     × (read [] [] ≡ 3)
     × (read include twice ≡ 4)
-    × (read (name 17 ++ ascii "b:") noFiles ≡ 5)
+    × (read (name 16 ++ ascii "a:") noFiles ≡ 5)
     × (read (name 15 ++ ascii "b:") noFiles ≡ 0)
     × (read (name 17 ++ ascii "b") noFiles ≡ 0)
     × (read (copies 513 (ascii "a:\n")) noFiles ≡ 6)
@@ -67,7 +67,7 @@ readings = (refl, refl, refl, refl, refl, refl, refl, refl, refl, refl, refl, re
 leaves :
     (reading (ascii "a.b: x") noFiles contents bodies
     ≡ outcome (accepted 1 0) (1 ∷ 5 ∷ 0 ∷ 4 ∷ 1 ∷ replicate 1533 0 ++ 7 ∷ 7 ∷ []) (ascii ".a.bx" ++ replicate 32763 0 ++ 7 ∷ 7 ∷ []))
-    × (reading (name 17 ++ ascii "b:") noFiles contents bodies
+    × (reading (name 16 ++ ascii "a:") noFiles contents bodies
     ≡ outcome (refused 5) (replicate 1538 0 ++ 7 ∷ 7 ∷ []) (replicate 32768 0 ++ 7 ∷ 7 ∷ []))
 unfolding definition copies contents bodies name
 leaves = (refl, refl)
@@ -187,3 +187,64 @@ archives :
     × (laidOut (archiveOf (record { name = replicate 97 97; body = [] } ∷ [])) ≡ false)
 unfolding definition named
 archives = (refl, refl, refl, refl, refl, refl, refl, refl, refl, refl, refl, refl, refl, refl, refl, refl, refl)
+
+-- n files of two-byte names, and one file of a body of n bytes
+numbered : ℕ → List File
+numbered zero = []
+numbered (suc n) = numbered n ++ record { name = (65 + n / 26) ∷ (65 + n % 26) ∷ []; body = [] } ∷ []
+
+sized : ℕ → List ℕ
+sized n = archiveOf (record { name = ascii "p"; body = replicate n 33 } ∷ [])
+
+-- 64 times `p` with its 63 `q`: 4,096 opens
+opensText : List ℕ
+opensText = copies 64 include
+
+opensFiles : List ℕ
+opensFiles = archiveOf (record { name = ascii "p"; body = copies 63 (ascii "#include \"q\"\n") } ∷ file "q" "" ∷ [])
+
+edges :
+    (laidOut (archiveOf (numbered 64)) ≡ true)
+    × (laidOut (archiveOf (numbered 65)) ≡ false)
+    × (laidOut (sized 65529) ≡ true)
+    × (laidOut (sized 65530) ≡ false)
+    × (judge start (met opensText opensFiles) ≡ within (record { opens = 4096; entries = 0; used = 0 }))
+    × (judge start (met (opensText ++ ascii "#include \"q\"") opensFiles) ≡ past 4)
+    × (read (ascii "a:" ++ replicate 32766 122) noFiles ≡ 0)
+    × (read (include ++ ascii "a:" ++ replicate 12766 122) large ≡ 0)
+    × (read (include ++ ascii "a:" ++ replicate 12767 122) large ≡ 7)
+    -- the order of the tests
+    × (reading (replicate 32769 10) [] [] bodies ≡ outcome (refused 1) [] bodies)
+    × (reading (replicate 32769 10) [] contents bodies ≡ outcome (refused 2) contents bodies)
+    × (reading [] [] contents bodies ≡ outcome (refused 3) contents bodies)
+    × (read (copies 512 (ascii "a:\n") ++ name 16 ++ ascii "b:") noFiles ≡ 5)
+    × (getBytes [] bodies (replicate 1025 97) [] ≡ refusedReply 8)
+    × (look "a:1" (replicate 1024 97) [] ≡ noValue)
+    × (toBool (ascii "on") ≡ some true)
+    × (toBool (ascii "FALSE") ≡ some false)
+    × (toBool (ascii "no") ≡ some false)
+    × (isUtf8 (0xDF ∷ 0xBF ∷ 0xE1 ∷ 0x80 ∷ 0x80 ∷ 0xEC ∷ 0xBF ∷ 0xBF ∷ 0xEE ∷ 0x80 ∷ 0x80 ∷ 0xF1 ∷ 0x80 ∷ 0x80 ∷ 0x80 ∷ 0xF3 ∷ 0xBF ∷ 0xBF ∷ 0xBF ∷ []) ≡ true)
+    × (isUtf8 (0x80 ∷ []) ≡ false)
+    × (isUtf8 (0xF5 ∷ 0x80 ∷ 0x80 ∷ 0x80 ∷ []) ≡ false)
+unfolding definition copies contents bodies numberOf read name include large look numbered sized opensText opensFiles
+edges = (refl, refl, refl, refl, refl, refl, refl, refl, refl, refl, refl, refl, refl, refl, refl, refl, refl, refl, refl, refl, refl)
+
+-- n rows of a key `.a` and no value, from `at` on
+rowsFor : ℕ → ℕ → List ℕ
+rowsFor zero at = []
+rowsFor (suc n) at = at ∷ 2 ∷ 0 ∷ rowsFor n (at + 2)
+
+-- an image of n such entries
+alike : ℕ → Reply Place
+alike n = getBytes ((n ∷ n * 2 ∷ rowsFor n 0) ++ contents) (copies n (ascii ".a") ++ bodies) (ascii "a") []
+
+images :
+    (alike 512 ≡ given (record { start = 1024; length = 0 }))
+    × (alike 513 ≡ refusedReply 8)
+    × (getBytes (1 ∷ 32768 ∷ 0 ∷ 2 ∷ 32766 ∷ contents) (ascii ".a" ++ bodies) (ascii "a") [] ≡ given (record { start = 2; length = 32766 }))
+    × (getBytes (1 ∷ 32769 ∷ 0 ∷ 2 ∷ 32767 ∷ contents) (ascii ".a" ++ bodies) (ascii "a") [] ≡ refusedReply 8)
+    × (getBytes (1 ∷ 32 ∷ 0 ∷ 32 ∷ 0 ∷ contents) (copies 16 (ascii ".a") ++ bodies) (name 16) [] ≡ given (record { start = 32; length = 0 }))
+    × (getBytes (1 ∷ 34 ∷ 0 ∷ 34 ∷ 0 ∷ contents) (copies 17 (ascii ".a") ++ bodies) (name 17) [] ≡ refusedReply 8)
+    × (getBytes (1 ∷ 0 ∷ 0 ∷ 0 ∷ 0 ∷ contents) bodies (ascii "a") [] ≡ refusedReply 8)
+unfolding definition copies contents bodies name rowsFor alike
+images = (refl, refl, refl, refl, refl, refl, refl)

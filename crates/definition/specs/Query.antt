@@ -25,7 +25,7 @@ pub record Position : Type 0 where
   pub instance : Option (List ℕ)
   pub class : Option (List ℕ)
 
--- the longer counts. Departure: the manual has name and class of one length
+-- the longer counts. Departures: the manual has name and class of one length, neither empty, and at most 100 parts
 unfoldable pub positionsOf : List (List ℕ) → List (List ℕ) → List Position
 positionsOf [] cs = map (λ c. record { instance = none; class = some c }) cs
 positionsOf (n ∷ ns) [] = record { instance = some n; class = none } ∷ positionsOf ns []

@@ -11,10 +11,10 @@ use Rattle.definition.specs.Archive.{File, filesOf, struckOff}
 use Rattle.definition.specs.Text.{Part}
 use Rattle.definition.specs.Including.{Chain, Entered}
 use Rattle.definition.specs.Image.{tooShort}
-use Rattle.definition.specs.Reading.{Answer, accepted, refused, Outcome, reading, readEntries, plain}
+use Rattle.definition.specs.Reading.{Answer, accepted, refused as refusedReading, Outcome, reading, readEntries, plain}
 use Rattle.definition.specs.Query.{Query, positions, malformed, pastLimit, queryOf}
 use Rattle.definition.specs.Matching.{Beats}
-use Rattle.definition.specs.Lookup.{keysOf, answerOf, getBytes, answerIn}
+use Rattle.definition.specs.Lookup.{keysOf, answerOf, Reply, refused, Place, getBytes, answerIn}
 
 -- an entry came through a file if that file is on its chain of includes
 unfoldable pub cameThrough : List ℕ → Entered → Bool
@@ -49,7 +49,7 @@ module _ (file : List ℕ) (xs : List Entered) (q : Query) where
 
 abbrev pub isAccepted : Answer → Bool
 isAccepted (accepted entries opens) = true
-isAccepted (refused k) = false
+isAccepted (refusedReading k) = false
 
 -- a main text, an archive, the number of a file on it, a query's name and class, and the buffers lent to each reading
 pub record Case : Type 0 where
@@ -84,9 +84,12 @@ module _ (c : Case) where
     pub longEnough′ : tooShort (c .contents′) (c .bodies′) ≡ false
     pub isRead : isAccepted (withFile .answer) ≡ true
 
-  -- the query looked up in what each reading left: bytes or none
+  -- the query looked up in what each reading left, and the answer: bytes or none
+  abbrev pub lookup : Outcome → Reply Place
+  lookup o = getBytes (o .contents) (o .bodies) (c .name) (c .class)
+
   abbrev pub lookedUp : Outcome → Option (List ℕ)
-  lookedUp o = answerIn (o .bodies) (getBytes (o .contents) (o .bodies) (c .name) (c .class))
+  lookedUp o = answerIn (o .bodies) (lookup o)
 
   -- the answer that the definition gives for the main text and an archive
   abbrev pub defined : List ℕ → Option (List ℕ)
@@ -94,6 +97,9 @@ module _ (c : Case) where
 
   pub record ThirdTerm : Type 0 where
     pub isReadToo : isAccepted (withoutFile .answer) ≡ true
+    -- neither lookup is refused, and each answers as the definition does
+    pub firstAnswers : (k : ℕ) → lookup withFile ≡ refused k → ⊥
+    pub secondAnswers : (k : ℕ) → lookup withoutFile ≡ refused k → ⊥
     pub firstAnswer : lookedUp withFile ≡ defined (c .archive)
     pub secondAnswer : lookedUp withoutFile ≡ defined (struckOff (c .file) (c .archive))
     pub equalJustWhen : (lookedUp withFile ≡ lookedUp withoutFile)

@@ -199,7 +199,7 @@ after-length (b ∷ bs) [] = tt
 after-length (b ∷ bs) (c ∷ t) =
     if-either (Gives (λ u. suc (length bs) + length u ≡ suc (length t))) (eqb b c) (λ e. one-more _ _ (after bs t) (after-length bs t)) λ e. tt
 
-after-row-length : (row : List Range) (t : List ℕ) → Gives (λ u. length row + length u ≡ length t) (afterRow row t)
+pub after-row-length : (row : List Range) (t : List ℕ) → Gives (λ u. length row + length u ≡ length t) (afterRow row t)
 unfolding afterRow
 after-row-length [] t = omega arith
 after-row-length (r ∷ rs) [] = tt

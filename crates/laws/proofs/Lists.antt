@@ -1,15 +1,17 @@
 -- Laws of the words for lists. Assumes nothing.
-use mathlib.Core.Bool.{Bool, true, false, _&&_, _||_, not, or-assoc}
-use mathlib.Core.List.{List, [], _∷_, _++_, map}
+use mathlib.Core.Bool.{Bool, true, false, _&&_, _||_, not, or-assoc, or-true, and-assoc}
+use mathlib.Core.List.{List, [], _∷_, _++_, map, append-assoc}
 use mathlib.Core.Path.{_≡_, refl, sym, ap, _∙_}
 use Prim.Native.Nat.{ℕ, zero, suc, _+_, _-_, _≤_, _<_}
 use native.Mathlib.Numerals.{add-one, one-add}
 use native.Mathlib.Omega.{arith}
 use native.Mathlib.Decide.{decLt}
-use lib.Dec.{eqb, ltb}
-use lib.ListN.{length, getD, take, drop, length-drop, drop-of-length-le}
-use lib.Seq.{slice, take-all, drop-cons, drop-drop, take-append-add, take-append-seam, drop-append-seam}
-use borrow.Author.Tests.{eqb-true, eq-eqb, lt-ltb, le-ltb}
+use lib.Dec.{eqb, ltb, leb}
+use lib.ListN.{length, getD, take, drop, length-drop, drop-of-length-le, set, length-append, length-set}
+use lib.Seq.{slice, take-append-add, take-append-seam, drop-append-seam, take-all, drop-cons, drop-drop, paste, take-length, length-take-le, sets-eq, take-paste, drop-paste, set-split, append-snoc}
+use native.Mathlib.Nat.{le-refl}
+use borrow.Author.Tests.{eqb-true, eq-eqb, lt-ltb, le-ltb, ne-eqb, le-leb, lt-leb, leb-true}
+use Rattle.definition.specs.Bytes.{within}
 use Rattle.definition.specs.Lists.{if_then_else_, all, any, takeWhile, dropWhile, filter, isEmpty, orElse, same, lower}
 
 -- ---- Tests
@@ -417,3 +419,124 @@ module _ {A : Type 0} where
 
     pub suffix-run : (p : A → Bool) → Suffix (dropWhile p u) t
     suffix-run p = rw (← drop-run p u) (suffix-drop (length (takeWhile p u)) (length-takeWhile-le p u))
+
+-- ---- Parts of a slice, and lists stored into a list
+
+module _ {A : Type 0} where
+  -- one element stored
+  pub paste-one : (d : List A) (at : ℕ) (x : A) → at < length d → set d at x ≡ paste d at (x ∷ []) 1
+  paste-one d at x h = sets-eq (x ∷ []) d at (omega arith)
+
+  -- of a list only the beginning is stored
+  pub paste-take : (d : List A) (at : ℕ) (s : List A) (n : ℕ) → n ≤ length s → paste d at s n ≡ paste d at (take n s) (length (take n s))
+  paste-take d at s n h = rw (take-length (take n s), length-take-le n s h) refl
+
+  -- two lists stored one after the other
+  pub paste-append : (d : List A) (at : ℕ) (xs ys : List A) → at + length xs ≤ length d
+      → paste d at (xs ++ ys) (length (xs ++ ys)) ≡ paste (paste d at xs (length xs)) (at + length xs) ys (length ys)
+  paste-append d at xs ys h =
+      let n = at + length xs in
+      let e : at + (length xs + length ys) ≡ n + length ys = omega arith in
+      let f : at ≤ length d = omega arith in
+      let g : take n (paste d at xs (length xs)) ≡ take at d ++ xs =
+      take-paste d at xs (length xs) f (le-refl (length xs)) ∙ ap (λ (l : List A). take at d ++ l) (take-length xs) in
+      let k : drop (n + length ys) (paste d at xs (length xs)) ≡ drop (n + length ys) d =
+      sym (drop-drop (length ys) n (paste d at xs (length xs)))
+      ∙ ap (drop (length ys)) (drop-paste d at xs (length xs) f (le-refl (length xs)))
+      ∙ drop-drop (length ys) n d in
+      rw (take-length (xs ++ ys), length-append xs ys, e, g, k, take-length ys, append-assoc (take at d) xs ys) refl
+
+-- an element, and others after it
+pub paste-cons : {A : Type 0} (d : List A) (at : ℕ) (x : A) (xs ys : List A) → at + (1 + length xs + length ys) ≤ length d
+    → paste (paste (set d at x) (at + 1) xs (length xs)) (at + (1 + length xs)) ys (length ys)
+    ≡ paste d at (x ∷ xs ++ ys) (length (x ∷ xs ++ ys))
+paste-cons {A} d at x xs ys h =
+    let e : at + (1 + length xs) ≡ at + 1 + length xs = omega arith in
+    let k : at + 1 + length xs ≤ length (set d at x) = rw (length-set d at x) (omega arith) in
+    rw e (sym (paste-append (set d at x) (at + 1) xs ys k))
+    ∙ ap (λ (l : List A). paste l (at + 1) (xs ++ ys) (length (xs ++ ys))) (paste-one d at x (omega arith))
+    ∙ sym (paste-append d at (x ∷ []) (xs ++ ys) (omega arith))
+
+-- ---- Two lists compared from a place on
+
+module _ (xs ys : List ℕ) (i : ℕ) (hx : i < length xs) (hy : i < length ys) where
+  pub same-from-equal : getD xs i 0 ≡ getD ys i 0 → same (drop i xs) (drop i ys) ≡ same (drop (i + 1) xs) (drop (i + 1) ys)
+  unfolding same
+  same-from-equal e = rw (add-one, drop-cons xs i 0 hx, drop-cons ys i 0 hy, eq-eqb (getD xs i 0) (getD ys i 0) e) refl
+
+  pub same-from-other : (getD xs i 0 ≡ getD ys i 0 → ⊥) → same (drop i xs) (drop i ys) ≡ false
+  unfolding same
+  same-from-other e = rw (drop-cons xs i 0 hx, drop-cons ys i 0 hy, ne-eqb (getD xs i 0) (getD ys i 0) e) refl
+
+  pub lower-from-below : getD xs i 0 < getD ys i 0 → lower (drop i xs) (drop i ys) ≡ true
+  lower-from-below e = rw (drop-cons xs i 0 hx, drop-cons ys i 0 hy) (lower-below (getD xs i 0) (getD ys i 0) (drop (suc i) xs) (drop (suc i) ys) e)
+
+  pub lower-from-above : getD ys i 0 < getD xs i 0 → lower (drop i xs) (drop i ys) ≡ false
+  lower-from-above e = rw (drop-cons xs i 0 hx, drop-cons ys i 0 hy) (lower-above (getD xs i 0) (getD ys i 0) (drop (suc i) xs) (drop (suc i) ys) e)
+
+  pub lower-from-equal : getD xs i 0 ≡ getD ys i 0 → lower (drop i xs) (drop i ys) ≡ lower (drop (i + 1) xs) (drop (i + 1) ys)
+  lower-from-equal e = rw (add-one, drop-cons xs i 0 hx, drop-cons ys i 0 hy) (lower-equal (getD xs i 0) (getD ys i 0) (drop (suc i) xs) (drop (suc i) ys) e)
+
+pub same-from-end : (xs ys : List ℕ) (i : ℕ) → length xs ≤ i → length ys ≤ i → same (drop i xs) (drop i ys) ≡ true
+unfolding same
+same-from-end xs ys i hx hy = rw (drop-of-length-le xs hx, drop-of-length-le ys hy) refl
+
+-- where the second ends first
+pub lower-from-short : (xs ys : List ℕ) (i : ℕ) → i < length xs → length ys ≤ i → lower (drop i xs) (drop i ys) ≡ false
+unfolding lower
+lower-from-short xs ys i hx hy = rw (drop-cons xs i 0 hx, drop-of-length-le ys hy) refl
+
+-- where the first ends
+pub lower-from-end : (xs ys : List ℕ) (i : ℕ) → length xs ≤ i → lower (drop i xs) (drop i ys) ≡ ltb i (length ys)
+unfolding lower
+lower-from-end xs ys i hx = at (decLt i (length ys))
+  where
+    at : Dec (i < length ys) → lower (drop i xs) (drop i ys) ≡ ltb i (length ys)
+    at (yes h) = rw (drop-of-length-le xs hx, drop-cons ys i 0 h, lt-ltb i (length ys) h) refl
+    at (no h) = let k : length ys ≤ i = omega arith in rw (drop-of-length-le xs hx, drop-of-length-le ys k, le-ltb i (length ys) k) refl
+
+-- lists of different lengths differ
+pub same-lengths : (xs ys : List ℕ) → (length xs ≡ length ys → ⊥) → same xs ys ≡ false
+same-lengths xs ys h = at (same xs ys) refl
+  where
+    at : (b : Bool) → same xs ys ≡ b → b ≡ false
+    at true e = absurd (h (ap length (same-eq xs ys e)))
+    at false e = refl
+
+-- what passes at every place passes as a whole
+pub getD-all : {A : Type 0} (p : A → Bool) (xs : List A) (d : A) → ((i : ℕ) → i < length xs → p (getD xs i d) ≡ true) → all p xs ≡ true
+unfolding all
+getD-all p [] d f = refl
+getD-all p (x ∷ xs) d f = and-both (f 0 (omega arith)) (getD-all p xs d (λ i h. f (suc i) (omega arith)))
+
+pub any-getD : {A : Type 0} (p : A → Bool) (xs : List A) (i : ℕ) (d : A) → i < length xs → p (getD xs i d) ≡ true → any p xs ≡ true
+unfolding any
+any-getD p [] i d h e = absurd (omega arith)
+any-getD p (x ∷ xs) zero d h e = rw e refl
+any-getD p (x ∷ xs) (suc i) d h e = rw (any-getD p xs i d (omega arith) e) (or-true (p x))
+
+pub same-append : (xs ys us vs : List ℕ) → length xs ≡ length ys → same (xs ++ us) (ys ++ vs) ≡ (same xs ys && same us vs)
+unfolding same
+same-append [] [] us vs h = refl
+same-append [] (y ∷ ys) us vs h = absurd (omega arith)
+same-append (x ∷ xs) [] us vs h = absurd (omega arith)
+same-append (x ∷ xs) (y ∷ ys) us vs h = rw (same-append xs ys us vs (omega arith)) (sym (and-assoc (eqb x y) (same xs ys) (same us vs)))
+
+-- ---- A number in a range
+
+module _ (a b c : ℕ) where
+  pub in-range : a ≤ c → c ≤ b → within a b c ≡ true
+  in-range h k = rw (le-leb a c h, le-leb c b k) refl
+
+  pub below-range : c < a → within a b c ≡ false
+  below-range h = rw (lt-leb a c h) refl
+
+  pub above-range : b < c → within a b c ≡ false
+  above-range h = rw (lt-leb c b h) (at (leb a c))
+    where
+      at : (x : Bool) → (x && false) ≡ false
+      at true = refl
+      at false = refl
+
+  pub range-bounds : within a b c ≡ true → (a ≤ c) × (c ≤ b)
+  range-bounds e = let k = and-true (leb a c) (leb c b) e in (leb-true a c (k .0), leb-true c b (k .1))

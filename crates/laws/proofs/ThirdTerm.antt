@@ -13,12 +13,12 @@ use Rattle.definition.specs.Limits.{mostParts, mostEntries, bodyBytes, deepest}
 use Rattle.definition.specs.Archive.{File, filesOf, struckOff, removed, laidOut, rising, archiveOf}
 use Rattle.definition.specs.Text.{Part, Entry, Line, skipped, include, entry, linesOf}
 use Rattle.definition.specs.Including.{Entered, entriesOf, opensOf, events}
-use Rattle.definition.specs.Image.{storeOf, tooShort, imageContents, imageBodies}
+use Rattle.definition.specs.Image.{storeOf, rowsIn, entriesIn, imageContents, imageBodies}
 use Rattle.definition.specs.Reading.{Outcome, reading, readEntries, plain, met, start}
 use Rattle.definition.specs.Query.{Position, Query, positions, malformed, pastLimit, queryOf}
 use Rattle.definition.specs.Matching.{Aligned, Beats}
 use Rattle.definition.specs.Ranking.{Best, noEntry, best, bestOf}
-use Rattle.definition.specs.Lookup.{keysOf, valueOf, answerOf, getBytes, answerIn}
+use Rattle.definition.specs.Lookup.{keysOf, valueOf, answerOf, refused, placeOf, lookup, getBytes, answerIn}
 use Rattle.definition.specs.ThirdTerm.{
   cameThrough,
   leftWithout,
@@ -43,7 +43,7 @@ use Rattle.laws.proofs.Struck.{Lacks, eventsWithout, apart, events-stru
 use Rattle.laws.proofs.Limits.{limits-fewer, used-store}
 use Rattle.laws.proofs.Reading.{Reads, accepted-reads, reads-outcome, events-good, few-parts}
 use Rattle.laws.proofs.Keys.{isLegal, isLegalLine, lines-legal}
-use Rattle.laws.proofs.Image.{isStorable}
+use Rattle.laws.proofs.Image.{isStorable, image-is}
 use Rattle.laws.proofs.Ranking.{best-beats, best-none, beats-one, beats-best, beats-kept, none-kept}
 use Rattle.laws.proofs.Lookup.{answer-image}
 
@@ -157,6 +157,17 @@ all-both p q (x ∷ xs) h k =
     let b = and-true (q x) (all q xs) k in
     and-both (and-both (a .0) (b .0)) (all-both p q xs (a .1) (b .1))
 
+-- a query within its limits gets a value or none
+replies : (contents bodies : List ℕ) (q : Query) → ((k : ℕ) → q ≡ pastLimit k → ⊥) → (k : ℕ) → lookup contents bodies q ≡ refused k → ⊥
+unfolding lookup placeOf
+replies contents bodies (positions qs) h k = at (bestOf (keysOf (entriesIn (rowsIn contents) bodies)) qs)
+  where
+    at : (b : Best) → placeOf (rowsIn contents) b ≡ refused k → ⊥
+    at noEntry e = let z : _≡_ {A = ℕ} 0 1 = cc in omega arith
+    at (best i row) e = let z : _≡_ {A = ℕ} 0 1 = cc in omega arith
+replies contents bodies malformed h k = λ e. let z : _≡_ {A = ℕ} 0 1 = cc in omega arith
+replies contents bodies (pastLimit j) h k = λ e. absurd (h j refl)
+
 module _ (text archive contents bodies : List ℕ) (r : Reads text archive contents bodies) where
   abbrev es : List Entry
   es = plain (readEntries text archive)
@@ -168,16 +179,27 @@ module _ (text archive contents bodies : List ℕ) (r : Reads text archive conte
       (events-good _ isLegalLine (λ e. refl) lines-legal deepest (filesOf archive) text)
       (few-parts (met text archive) (r .limits .parts-most))
 
+  few : length es ≤ mostEntries
+  few = omega (arith, r .limits .entries-most, length-map (readEntries text archive) (λ (x : Entered). x .entry))
+
+  small : length (storeOf es) ≤ bodyBytes
+  small = omega (arith, r .limits .used-most, used-store (met text archive))
+
   pub reading-answers : (name class : List ℕ)
       → answerIn (reading text archive contents bodies .bodies)
       (getBytes (reading text archive contents bodies .contents) (reading text archive contents bodies .bodies) name class)
       ≡ answerOf es (queryOf name class)
   reading-answers name class =
       rw (reads-outcome text archive contents bodies r)
-      (answer-image es contents bodies storable
-      (omega (arith, r .limits .entries-most, length-map (readEntries text archive) (λ (x : Entered). x .entry)))
-      (omega (arith, r .limits .used-most, used-store (met text archive)))
-      (r .long) name class)
+      (answer-image es contents bodies storable few small (r .long) name class)
+
+  -- and the lookup is not refused
+  pub reading-replies : (name class : List ℕ) → ((k : ℕ) → queryOf name class ≡ pastLimit k → ⊥)
+      → (k : ℕ) → getBytes (reading text archive contents bodies .contents) (reading text archive contents bodies .bodies) name class ≡ refused k → ⊥
+  unfolding getBytes
+  reading-replies name class limits k =
+      rw (reads-outcome text archive contents bodies r, image-is es contents bodies storable few small (r .long))
+      (replies (imageContents es contents) (imageBodies es bodies) (queryOf name class) limits k)
 
 -- ---- The term
 
@@ -215,6 +237,8 @@ module _ (c : Case) (g : Given c) where
       let b = reading-answers (c .text) struck (c .contents′) (c .bodies′) second (c .name) (c .class) in
       record {
         isReadToo = rw (reads-outcome (c .text) struck (c .contents′) (c .bodies′) second) refl;
+        firstAnswers = reading-replies (c .text) (c .archive) (c .contents) (c .bodies) first (c .name) (c .class) (g .withinLimits);
+        secondAnswers = reading-replies (c .text) struck (c .contents′) (c .bodies′) second (c .name) (c .class) (g .withinLimits);
         firstAnswer = a;
         secondAnswer = b;
         equalJustWhen = rw (a, b, entries-struck) (equal-just-when (fileName c) (readEntries (c .text) (c .archive)) (query c) (g .withinLimits));

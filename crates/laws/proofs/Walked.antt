@@ -30,7 +30,7 @@ low-half a b h = omega arith
 high-half : (a b : ℕ) → a < 256 → (a + 256 * b) / 256 ≡ b
 high-half a b h = omega arith
 
-number-from : (n : ℕ) (lengths bodies : List ℕ) → length (filesFrom n lengths bodies) ≡ n
+pub number-from : (n : ℕ) (lengths bodies : List ℕ) → length (filesFrom n lengths bodies) ≡ n
 unfolding filesFrom
 number-from zero lengths bodies = refl
 number-from (suc n) lengths bodies = ap suc (number-from n (drop 4 lengths) (drop (numberAt lengths 0 + numberAt lengths 2) bodies))
@@ -106,7 +106,7 @@ files-fitFrom (f ∷ fs) xs =
     rw (halves (length (f .name)), halves (length (f .body)), drop-at (f .name ++ f .body) (bodiesOf fs) (length (f .name) + length (f .body)) (length-append (f .name) (f .body)))
     (and-both (le-leb (length (f .name) + length (f .body)) (length (f .name ++ f .body ++ bodiesOf fs)) (simp length-append (omega arith))) (files-fitFrom fs xs))
 
-files-fit : (fs : List File) → fits (archiveOf fs) ≡ true
+pub files-fit : (fs : List File) → fits (archiveOf fs) ≡ true
 unfolding fits archiveOf
 files-fit fs =
     let long = length-archive fs in

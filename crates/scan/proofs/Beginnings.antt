@@ -46,15 +46,12 @@ abbrev pub Begins : List ℕ → List ℕ → Bool → Type 0
 Begins w t r = after w t ≡ (if r then some (drop (length w) t) else none)
 
 module _ (w t : List ℕ) (r : Bool) (e : Begins w t r) where
-  pub begins : r ≡ true → after w t ≡ some (drop (length w) t)
-  begins h = rw h at e
-
   pub begins-not : r ≡ false → after w t ≡ none
   begins-not h = rw h at e
 
-  pub begins-le : r ≡ true → length w ≤ length t
-  begins-le h = at (decLt (length t) (length w))
+  pub begins : r ≡ true → (after w t ≡ some (drop (length w) t)) × (length w ≤ length t)
+  begins h = at (rw h at e) (decLt (length t) (length w))
     where
-      at : Dec (length t < length w) → length w ≤ length t
-      at (yes k) = absurd (let z : _≡_ {A = ℕ} 0 1 = cc (begins h, after-short w t k) in omega arith)
-      at (no k) = omega arith
+      at : after w t ≡ some (drop (length w) t) → Dec (length t < length w) → (after w t ≡ some (drop (length w) t)) × (length w ≤ length t)
+      at f (yes k) = absurd (let z : _≡_ {A = ℕ} 0 1 = cc (f, after-short w t k) in omega arith)
+      at f (no k) = (f, omega arith)

@@ -1,7 +1,9 @@
-// Bytes, runs of bytes and include directives: the common helpers and skippers of the Rust's parser.
+// Bytes, runs of bytes and include directives: the common helpers and skippers of the Rust's parser; and copying.
 ghost use mathlib.Core.Path.{_≡_};
 ghost use mathlib.Core.Option.{some, none};
+ghost use Prim.Native.Nat.{_+_, _≤_};
 ghost use lib.ListN.{length, drop};
+ghost use lib.Seq.{paste};
 ghost use Rattle.definition.specs.Lists.{if_then_else_, takeWhile, dropWhile};
 ghost use Rattle.definition.specs.Parsing.{after};
 ghost use Rattle.definition.specs.Bytes.{isOctal, isName, isBlank, isSpace};
@@ -23,13 +25,23 @@ pub fn is_octal_digit(c: u8) -> bool
     }
 }
 
+// The commonest bytes are tested first.
 pub fn allowed_in_quark_name(c: u8) -> bool
     ensures { λ r. ⌜ r ≡ isName c ⌝ }
 {
-    match c {
-        b'A'..=b'Z' | b'a'..=b'z' | b'0'..=b'9' | b'_' | b'-' => true,
-        _ => false,
+    if c >= b'a' {
+        return c <= b'z';
     }
+    if c >= b'A' {
+        if c <= b'Z' {
+            return true;
+        }
+        return c == b'_';
+    }
+    if c >= b'0' {
+        return c <= b'9';
+    }
+    c == b'-'
 }
 
 pub fn is_blank(c: u8) -> bool
@@ -135,4 +147,16 @@ pub fn parse_include(text: &[u8]) -> Include
         return Include::Other;
     }
     Include::Named(text.len() - name.len(), n)
+}
+
+// Copies `source` into `store` from `at` on.
+pub fn copy_in(source: &[u8], store: &mut [u8], at: usize)
+    requires { ⌜ at + length (now source) ≤ length (now store) ⌝ }
+    ensures { λ _. ⌜ now (store .exit) ≡ paste (now (store .entry)) at (now (source .entry)) (length (now (source .entry))) ⌝ }
+{
+    let mut i = 0;
+    while i < source.len() {
+        store[at + i] = source[i];
+        i += 1;
+    }
 }

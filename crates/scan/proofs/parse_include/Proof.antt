@@ -10,35 +10,25 @@ use Rattle.definition.specs.Parsing.{after}
 use Rattle.definition.specs.Lists.{ascii}
 use Rattle.laws.proofs.Lists.{length-takeWhile-le, Suffix}
 use Rattle.scan.proofs.Includes.{place, no-word, no-quote, no-end, named}
-use Rattle.scan.proofs.Beginnings.{begins, begins-not, begins-le}
+use Rattle.scan.proofs.Beginnings.{begins, begins-not}
 use Rattle.scan.proofs.parse_include.Statement.{statement}
 use Rattle.scan.proofs.parse_include.Tie as tie
 
 -- what is known once `include` has been seen
-word : (c : tie.Else1) → let l = c .before .before .before .skip-spaces .result .now in after (ascii "include") l ≡ some (drop 7 l)
+word : (c : tie.Else1) → let l = c .before .before .before .skip-spaces .result .now in (after (ascii "include") l ≡ some (drop 7 l)) × (7 ≤ length l)
 word c =
     let skip-spaces-here = c .before .before .before in
     let starts-with-here = c .before in
-    begins (ascii "include") (skip-spaces-here .skip-spaces .result .now) (starts-with-here .starts-with .result) (starts-with-here .starts-with .ensures) (not-false _ (c .if1 .left))
-
-word-fits : (c : tie.Else1) → 7 ≤ length (c .before .before .before .skip-spaces .result .now)
-word-fits c =
-    let skip-spaces-here = c .before .before .before in
-    let starts-with-here = c .before in
-    begins-le (ascii "include") (skip-spaces-here .skip-spaces .result .now) (starts-with-here .starts-with .result) (starts-with-here .starts-with .ensures) (not-false _ (c .if1 .left))
+    let s = starts-with-here .starts-with in
+    begins (ascii "include") (skip-spaces-here .skip-spaces .result .now) (s .result) (s .ensures) (not-false _ (c .if1 .left))
 
 -- and once the first quote has
-quote : (c : tie.Else2) → let q = c .before .before .before .skip-spaces2 .result .now in after (ascii "\"") q ≡ some (drop 1 q)
+quote : (c : tie.Else2) → let q = c .before .before .before .skip-spaces2 .result .now in (after (ascii "\"") q ≡ some (drop 1 q)) × (1 ≤ length q)
 quote c =
     let skip-spaces2-here = c .before .before .before in
     let starts-with2-here = c .before in
-    begins (ascii "\"") (skip-spaces2-here .skip-spaces2 .result .now) (starts-with2-here .starts-with2 .result) (starts-with2-here .starts-with2 .ensures) (not-false _ (c .if2 .left))
-
-quote-fits : (c : tie.Else2) → 1 ≤ length (c .before .before .before .skip-spaces2 .result .now)
-quote-fits c =
-    let skip-spaces2-here = c .before .before .before in
-    let starts-with2-here = c .before in
-    begins-le (ascii "\"") (skip-spaces2-here .skip-spaces2 .result .now) (starts-with2-here .starts-with2 .result) (starts-with2-here .starts-with2 .ensures) (not-false _ (c .if2 .left))
+    let s = starts-with2-here .starts-with2 in
+    begins (ascii "\"") (skip-spaces2-here .skip-spaces2 .result .now) (s .result) (s .ensures) (not-false _ (c .if2 .left))
 
 name-place : (c : tie.Else2) → let q = c .before .before .before .skip-spaces2 .result .now in Suffix (take (length q - 1) (drop 1 q)) (c .before .before .before .before .before .before .before .before .before .before .args .text .now)
 name-place c =
@@ -47,7 +37,7 @@ name-place c =
     let if1-here = c .before .before .before .before .before in
     let skip-spaces2-here = c .before .before .before in
     place (start-here .args .text .now) (skip-spaces-here .skip-spaces .result .now) (skip-spaces2-here .skip-spaces2 .result .now)
-    (skip-spaces-here .skip-spaces .ensures) (skip-spaces2-here .skip-spaces2 .ensures) (word-fits if1-here) (quote-fits c)
+    (skip-spaces-here .skip-spaces .ensures) (skip-spaces2-here .skip-spaces2 .ensures) (word if1-here .1) (quote c .1)
 
 skip-spaces-requires : tie.Need-skip-spaces-requires
 skip-spaces-requires c κs = search needs
@@ -69,10 +59,10 @@ returns c =
     (begins-not (ascii "include") line (starts-with-here .starts-with .result) (starts-with-here .starts-with .ensures) (not-true _ (c .if1 .taken)))
 
 sub-skip-spaces : tie.Need-sub-skip-spaces
-sub-skip-spaces c = word-fits c
+sub-skip-spaces c = word c .1
 
 part-skip-spaces-start : tie.Need-part-skip-spaces-start
-part-skip-spaces-start c = word-fits c
+part-skip-spaces-start c = word c .1
 
 part-skip-spaces-end : tie.Need-part-skip-spaces-end
 part-skip-spaces-end c = search needs
@@ -96,14 +86,14 @@ returns-2 c =
     let skip-spaces2-here = c .before .before .before in
     let quoted = skip-spaces2-here .skip-spaces2 .result .now in
     let starts-with2-here = c .before in
-    no-quote t line (skip-spaces-here .skip-spaces .ensures) (word if1-here) quoted (skip-spaces2-here .skip-spaces2 .ensures)
+    no-quote t line (skip-spaces-here .skip-spaces .ensures) (word if1-here .0) quoted (skip-spaces2-here .skip-spaces2 .ensures)
     (begins-not (ascii "\"") quoted (starts-with2-here .starts-with2 .result) (starts-with2-here .starts-with2 .ensures) (not-true _ (c .if2 .taken)))
 
 sub-name : tie.Need-sub-name
-sub-name c = quote-fits c
+sub-name c = quote c .1
 
 part-name-start : tie.Need-part-name-start
-part-name-start c = quote-fits c
+part-name-start c = quote c .1
 
 part-name-end : tie.Need-part-name-end
 part-name-end c = search needs
@@ -146,7 +136,7 @@ returns-3 c =
     let n = quoted-length-here .quoted-length .result in
     let name = take (length quoted - 1) (drop 1 quoted) in
     let starts-with3-here = c .before in
-    no-end t line (skip-spaces-here .skip-spaces .ensures) (word if1-here) quoted (skip-spaces2-here .skip-spaces2 .ensures) (quote if2-here) n (quoted-length-here .quoted-length .ensures)
+    no-end t line (skip-spaces-here .skip-spaces .ensures) (word if1-here .0) quoted (skip-spaces2-here .skip-spaces2 .ensures) (quote if2-here .0) n (quoted-length-here .quoted-length .ensures)
     (begins-not (ascii "\"") (take (length name - n) (drop n name)) (starts-with3-here .starts-with3 .result) (starts-with3-here .starts-with3 .ensures) (not-true _ (c .if3 .taken)))
 
 sub-t27 : tie.Need-sub-t27
@@ -169,9 +159,9 @@ returns-4 c =
     let name = take (length quoted - 1) (drop 1 quoted) in
     let starts-with3-here = c .before in
     let closing = take (length name - n) (drop n name) in
-    named t line (skip-spaces-here .skip-spaces .ensures) (word if1-here) quoted (skip-spaces2-here .skip-spaces2 .ensures) (quote if2-here) n (quoted-length-here .quoted-length .ensures)
+    named t line (skip-spaces-here .skip-spaces .ensures) (word if1-here .0) quoted (skip-spaces2-here .skip-spaces2 .ensures) (quote if2-here .0) n (quoted-length-here .quoted-length .ensures)
     (drop 1 closing) (name-place if2-here)
-    (begins (ascii "\"") closing (starts-with3-here .starts-with3 .result) (starts-with3-here .starts-with3 .ensures) (not-false _ (c .if3 .left)))
+    (begins (ascii "\"") closing (starts-with3-here .starts-with3 .result) (starts-with3-here .starts-with3 .ensures) (not-false _ (c .if3 .left)) .0)
 
 pub parse-include-spec : {M : Type 1} → statement M
 parse-include-spec =

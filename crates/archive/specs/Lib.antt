@@ -1,0 +1,3 @@
+-- What the contracts of this crate cite besides the definition.
+pub mod Names
+pub mod Walk

@@ -1,0 +1,3 @@
+-- Laws that the proofs of this crate lean on.
+pub mod Finding
+pub mod Striking

@@ -1,0 +1,3 @@
+-- What the contracts of this crate cite besides the definition.
+pub mod Finding
+pub mod Striking

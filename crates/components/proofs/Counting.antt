@@ -1,0 +1,87 @@
+-- How `parse_components` counts. Assumes nothing.
+use mathlib.Core.Bool.{Bool, true, false}
+use mathlib.Core.List.{List, [], _∷_}
+use mathlib.Core.Path.{_≡_, refl, sym, ap, _∙_}
+use Prim.Native.Nat.{ℕ, _+_, _*_, _-_, _≤_, _<_}
+use native.Mathlib.Omega.{arith}
+use lib.ListN.{length, length-append}
+use Rattle.definition.specs.Parsing.{Parsed, many}
+use Rattle.definition.specs.Text.{Part, partAt, isNamed, endsInName}
+use Rattle.laws.proofs.Lists.{Suffix, suffix-whole, suffix-part, length-part-rest}
+use Rattle.components.specs.Parts.{partsFirst, keyFirst, componentOf, partOf, bytesOf, Parted, Counted}
+use Rattle.components.specs.declared.Next.{Next}
+use Rattle.components.proofs.Turns.{past, parts-over, key-over, parts-turn, key-turn, bytes-length}
+
+-- is the last part a name, if that before these is one or not
+unfoldable pub endsAfter : Bool → List Part → Bool
+endsAfter b [] = b
+endsAfter b (p ∷ ps) = endsInName (p ∷ ps)
+
+ends-cons : (p : Part) (ps : List Part) → endsInName (p ∷ ps) ≡ endsAfter (isNamed (p .component)) ps
+unfolding endsInName endsAfter
+ends-cons p [] = refl
+ends-cons p (q ∷ ps) = refl
+
+ends-first : (ps : List Part) → endsInName ps ≡ endsAfter false ps
+unfolding endsInName endsAfter
+ends-first [] = refl
+ends-first (p ∷ ps) = refl
+
+is-named : (b : Bool) (w : List ℕ) → isNamed (componentOf b w) ≡ b
+unfolding isNamed componentOf
+is-named true w = refl
+is-named false w = refl
+
+-- u is left of t, and what is before u has been counted
+pub record Counting (t u : List ℕ) (count size : ℕ) (named : Bool) : Type 0 where
+  pub count-is : length (partsFirst t) ≡ count + length (partsFirst u)
+  pub size-is : length (keyFirst t) ≡ size + length (keyFirst u)
+  pub named-is : endsInName (partsFirst t) ≡ endsAfter named (partsFirst u)
+  pub rest-is : many partAt t .rest ≡ many partAt u .rest
+  pub left : Suffix u t
+  -- each part takes a byte or more, and its key is at most twice as long
+  pub count-most : count + length u ≤ length t
+  pub size-most : size + 2 * length u ≤ 2 * length t
+
+pub counting-first : (t : List ℕ) → Counting t t 0 0 false
+counting-first t = record {
+  count-is = omega arith;
+  size-is = omega arith;
+  named-is = ends-first (partsFirst t);
+  rest-is = refl;
+  left = suffix-whole t;
+  count-most = omega arith;
+  size-most = omega arith;
+}
+
+module _ {t u : List ℕ} {count size : ℕ} {named : Bool} (c : Counting t u count size named) {r : Next} (p : Parted u r) where
+  pub counting-next : r .start < r .end → Counting t (past u r) (count + 1) (size + (1 + (r .end - r .start))) (r .named)
+  unfolding endsAfter partOf
+  counting-next h =
+      let turn = parts-turn p h in
+      let left = length-part-rest u (r .end) in
+      record {
+        count-is = omega (arith, c .count-is, ap (λ (m : Parsed Part). length (m .items)) turn);
+        size-is = omega (arith, c .size-is, ap length (key-turn p h), length-append (bytesOf u r) (keyFirst (past u r)), bytes-length p h);
+        named-is =
+            c .named-is
+            ∙ ap (λ (m : Parsed Part). endsAfter named (m .items)) turn
+            ∙ ends-cons (partOf u r) (partsFirst (past u r))
+            ∙ ap (λ (b : Bool). endsAfter b (partsFirst (past u r))) (is-named (r .named) (bytesOf u r));
+        rest-is = c .rest-is ∙ ap (λ (m : Parsed Part). m .rest) turn;
+        left = suffix-part (c .left) (r .end) (p .inside);
+        count-most = omega (arith, c .count-most, left, p .inside);
+        size-most = omega (arith, c .size-most, left, p .inside);
+      }
+
+  pub counting-done : r .end ≤ r .start → Counted t (record { count = count; size = size; named = named; end = length t - length u })
+  unfolding endsAfter
+  counting-done h =
+      let over = parts-over p h in
+      record {
+        count = omega (arith, c .count-is, ap (λ (m : Parsed Part). length (m .items)) over);
+        size = omega (arith, c .size-is, ap length (key-over p h));
+        named = sym (c .named-is ∙ ap (λ (m : Parsed Part). endsAfter named (m .items)) over);
+        rest = c .left .same ∙ sym (c .rest-is ∙ ap (λ (m : Parsed Part). m .rest) over);
+        inside = omega arith;
+      }

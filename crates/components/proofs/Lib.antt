@@ -1,0 +1,7 @@
+-- Laws that the proofs of the parts cite.
+mod Bindings
+mod Names
+mod Parts
+mod Turns
+mod Counting
+mod Writing

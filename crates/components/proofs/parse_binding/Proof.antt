@@ -1,0 +1,55 @@
+use mathlib.Core.Logic.{⊎-elim}
+use Prim.Native.Nat.{_-_}
+use lib.ListN.{length}
+use borrow.Author.Needs.{needs}
+use Rattle.components.proofs.Bindings.{Binding-at, binding-first, binding-dot, binding-star, binding-stop, binding-end}
+use Rattle.components.proofs.parse_binding.Statement.{statement}
+use Rattle.components.proofs.parse_binding.Tie as tie
+
+abbrev Inv-loop : tie.InvT-loop
+Inv-loop text loose₀ i₀ loose i = Binding-at text loose i
+
+abbrev μ-loop : tie.MeasureT-loop
+μ-loop text loose₀ i₀ loose i = length text - i
+
+loop-holds : tie.Need-loop-holds Inv-loop μ-loop
+loop-holds c = binding-first (c .args .text .now)
+
+shared-slice-read-c : tie.Need-shared-slice-read-c Inv-loop μ-loop
+shared-slice-read-c c = search needs
+
+returns : tie.Need-returns Inv-loop μ-loop
+returns c =
+    let loop-here = c .before .before .before .before in
+    binding-stop (loop-here .loop .inv) (search needs) (c .before .if1 .taken) (c .if2 .taken)
+
+add-i : tie.Need-add-i Inv-loop μ-loop
+add-i c = search needs
+
+loop-less : tie.Need-loop-less Inv-loop μ-loop
+loop-less c = search needs
+
+loop-again : tie.Need-loop-again Inv-loop μ-loop
+loop-again c =
+    let loop-here = c .before .before .before in
+    let b = loop-here .loop .inv in
+    ⊎-elim (λ w. rw (w .2) (binding-star b (search needs) (w .1 .left))) (λ w. rw (w .1) (binding-dot b (search needs) (w .0 .left))) (c .if1 .came)
+
+returns-2 : tie.Need-returns-2 Inv-loop μ-loop
+returns-2 c =
+    let loop-here = c .before in
+    binding-end (loop-here .loop .inv) (search needs)
+
+pub parse-binding-spec : {M : Type 1} → statement M
+parse-binding-spec =
+    tie.close
+    (tie.spec
+    Inv-loop
+    μ-loop
+    loop-holds
+    shared-slice-read-c
+    returns
+    add-i
+    loop-less
+    loop-again
+    returns-2)

@@ -1,0 +1,2 @@
+-- What the contracts of the parts' parsers cite beside the definition.
+pub mod Parts

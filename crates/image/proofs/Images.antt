@@ -1,0 +1,227 @@
+-- What a run leaves is what the definition says: its verdict and the image of its entries. Assumes nothing.
+use mathlib.Core.Bool.{Bool, true, false}
+use mathlib.Core.List.{List, [], _∷_, _++_, append-assoc, append-nil}
+use mathlib.Core.Path.{_≡_, refl, sym, ap, _∙_}
+use Prim.Native.Nat.{ℕ, zero, suc, _+_, _-_, _*_, _≤_, _<_}
+use native.Mathlib.Omega.{arith}
+use lib.Dec.{leb, ltb}
+use native.Mathlib.Nat.{sub-zero}
+use lib.ListN.{length, take, drop, set, length-append, length-drop, length-set, take-append-drop, drop-of-length-le}
+use lib.Seq.{paste, set-at, append-snoc, take-append-seam, take-length, drop-append-add, drop-drop, take-at, length-take-le}
+use Rattle.definition.specs.Lists.{if_then_else_, zeroes, beyond}
+use Rattle.definition.specs.Limits.{mostOpens, mostEntries, mostParts, bodyBytes, contentsWords, rowWords}
+use Rattle.definition.specs.Text.{Entry}
+use Rattle.definition.specs.Including.{Event, opened, entered, Entered, entriesOf}
+use Rattle.definition.specs.Image.{keyOf, rowsOf, storeOf, contentsOf, writtenOver, imageContents, imageBodies}
+use Rattle.definition.specs.Reading as definition
+use Rattle.definition.specs.Reading.{Verdict, within, past, sizeOf, judge, plain, start, accepted, refused, outcome, left}
+use Rattle.laws.proofs.Image.{length-rows}
+use Rattle.image.specs.Running.{
+  World,
+  world,
+  Room,
+  Ran,
+  went,
+  stopped,
+  rowOf,
+  stored,
+  put,
+  counted,
+  openOne,
+  step,
+  andThen,
+  run,
+}
+use Rattle.image.specs.declared.Totals.{Totals}
+use Rattle.image.proofs.Runs.{RoomIn, then-went, put-went, open-went, step-room, run-room, size-is}
+
+-- ---- The verdict
+
+abbrev pub totalsOf : Totals → definition.Totals
+totalsOf s = record { opens = s .opens; entries = s .entries; used = s .used }
+
+unfoldable pub verdictOf : Ran → Verdict
+verdictOf (went w) = within (totalsOf (w .totals))
+verdictOf (stopped k) = past k
+
+judged : (b : Bool) (k : ℕ) (r : Ran) (next : World → Ran) (j : Verdict) → verdictOf (andThen r next) ≡ j
+    → verdictOf (andThen (if b then stopped k else r) next) ≡ (if b then past k else j)
+unfolding verdictOf andThen
+judged true k r next j e = refl
+judged false k r next j e = e
+
+pub run-judge : (es : List Event) (w : World) → verdictOf (run w es) ≡ judge (totalsOf (w .totals)) es
+unfolding verdictOf andThen run judge put openOne
+run-judge [] w = refl
+run-judge (opened ch ∷ es) w =
+    judged (leb mostOpens (w .totals .opens)) 4 (went (world (counted (w .totals)) (w .words) (w .bytes))) (λ v. run v es) _
+    (run-judge es (world (counted (w .totals)) (w .words) (w .bytes)))
+run-judge (entered ch e ∷ es) w =
+    judged (ltb mostParts (length (e .parts))) 5 _ (λ v. run v es) _
+    (judged (leb mostEntries (w .totals .entries)) 6 _ (λ v. run v es) _
+    (judged (ltb bodyBytes (w .totals .used + sizeOf e)) 7 (went (stored w e)) (λ v. run v es) _ (run-judge es (stored w e))))
+
+-- ---- The buffers
+
+three-sets : (p rest : List ℕ) (i u v x : ℕ) → length p ≡ i → 3 ≤ length rest
+    → set (set (set (p ++ rest) i u) (i + 1) v) (i + 2) x ≡ (p ++ u ∷ v ∷ x ∷ []) ++ drop 3 rest
+three-sets p [] i u v x e h = absurd (omega arith)
+three-sets p (a ∷ []) i u v x e h = absurd (omega arith)
+three-sets p (a ∷ b ∷ []) i u v x e h = absurd (omega arith)
+three-sets p (a ∷ b ∷ c ∷ rest) i u v x e h =
+    ap (λ (l : List ℕ). set (set l (i + 1) v) (i + 2) x) (set-at p a (b ∷ c ∷ rest) u i e ∙ sym (append-snoc p u (b ∷ c ∷ rest)))
+    ∙ ap (λ (l : List ℕ). set l (i + 2) x)
+    (set-at (p ++ u ∷ []) b (c ∷ rest) v (i + 1) (simp length-append (omega arith)) ∙ sym (append-snoc (p ++ u ∷ []) v (c ∷ rest)))
+    ∙ set-at ((p ++ u ∷ []) ++ v ∷ []) c rest x (i + 2) (simp length-append (omega arith))
+    ∙ simp append-assoc
+
+one-paste : (q rest b : List ℕ) (u n : ℕ) → length q ≡ u → length b ≡ n → paste (q ++ rest) u b n ≡ (q ++ b) ++ drop n rest
+one-paste q rest b u n e f = rw (← e, ← f, take-append-seam q rest, take-length b, drop-append-add q rest (length b)) refl
+
+-- what is written, p and q, stands before the rest of each buffer
+pub record Laid (w : World) (p q restWords restBytes : List ℕ) : Type 0 where
+  pub words-are : w .words ≡ p ++ restWords
+  pub bytes-are : w .bytes ≡ q ++ restBytes
+  pub p-long : length p ≡ rowOf (w .totals .entries)
+  pub q-long : length q ≡ w .totals .used
+
+laid-is : {w : World} {p p′ q q′ r r′ s s′ : List ℕ} → p ≡ p′ → q ≡ q′ → r ≡ r′ → s ≡ s′ → Laid w p q r s → Laid w p′ q′ r′ s′
+laid-is e f g h l = rw (← e, ← f, ← g, ← h) l
+
+laid-put : (w : World) (e : Entry) (p q r s : List ℕ) → RoomIn w → w .totals .entries < mostEntries → Laid w p q r s
+    → Laid (stored w e) (p ++ w .totals .used ∷ length (keyOf (e .parts)) ∷ length (e .value) ∷ []) (q ++ (keyOf (e .parts) ++ e .value)) (drop 3 r) (drop (sizeOf e) s)
+laid-put w e p q r s room few l =
+    let long = ap length (l .words-are) in
+    record {
+      words-are =
+          rw (l .words-are)
+          (three-sets p r (rowOf (w .totals .entries)) (w .totals .used) (length (keyOf (e .parts))) (length (e .value)) (l .p-long)
+          (omega (arith, room .words-long, long, length-append p r, l .p-long)));
+      bytes-are = rw (l .bytes-are) (one-paste q s (keyOf (e .parts) ++ e .value) (w .totals .used) (sizeOf e) (l .q-long) (size-is e));
+      p-long = simp length-append (omega (arith, l .p-long));
+      q-long = simp length-append (omega (arith, l .q-long));
+    }
+
+pub run-laid : (es : List Event) (w v : World) (p q r s : List ℕ) → RoomIn w → Laid w p q r s → run w es ≡ went v
+    → Laid v (p ++ rowsOf (w .totals .used) (plain (entriesOf es))) (q ++ storeOf (plain (entriesOf es)))
+    (drop (rowWords * length (plain (entriesOf es))) r) (drop (length (storeOf (plain (entriesOf es)))) s)
+unfolding run entriesOf rowsOf storeOf
+run-laid [] w v p q r s room l h =
+    let e : w ≡ v = cc in
+    rw (← e, append-nil p, append-nil q) l
+run-laid (opened ch ∷ es) w v p q r s room l h =
+    let a = then-went (openOne w) (λ u. run u es) v h in
+    let o = open-went w (a .0) (a .1) in
+    let w′ = world (counted (w .totals)) (w .words) (w .bytes) in
+    let l′ : Laid w′ p q r s = record { words-are = l .words-are; bytes-are = l .bytes-are; p-long = l .p-long; q-long = l .q-long } in
+    run-laid es w′ v p q r s (rw (← o .0) at (step-room w (opened ch) (a .0) room (a .1))) l′ (rw (← o .0) at (a .2))
+run-laid (entered ch e ∷ es) w v p q r s room l h =
+    let a = then-went (put w e) (λ u. run u es) v h in
+    let o = put-went w e (a .0) (a .1) in
+    let xs = plain (entriesOf es) in
+    let k = keyOf (e .parts) in
+    let n : rowWords + rowWords * length xs ≡ rowWords * suc (length xs) = omega arith in
+    let used : w .totals .used + sizeOf e ≡ w .totals .used + length k + length (e .value) = omega arith in
+    let size : sizeOf e + length (storeOf xs) ≡ length (k ++ e .value ++ storeOf xs) = sym (length-append (k ++ e .value) (storeOf xs) ∙ ap (λ (m : ℕ). m + length (storeOf xs)) (size-is e)) in
+    laid-is
+    (append-assoc p (w .totals .used ∷ length k ∷ length (e .value) ∷ []) (rowsOf (w .totals .used + sizeOf e) xs)
+    ∙ ap (λ (m : ℕ). p ++ (w .totals .used ∷ length k ∷ length (e .value) ∷ rowsOf m xs)) used)
+    (append-assoc q (k ++ e .value) (storeOf xs))
+    (drop-drop (rowWords * length xs) rowWords r ∙ ap (λ (m : ℕ). drop m r) n)
+    (drop-drop (length (storeOf xs)) (sizeOf e) s ∙ ap (λ (m : ℕ). drop m s) size)
+    (run-laid es (stored w e) v _ _ (drop 3 r) (drop (sizeOf e) s)
+    (rw (← o .is) at (step-room w (entered ch e) (a .0) room (a .1)))
+    (laid-put w e p q r s room (o .entries-less) l)
+    (rw (← o .is) at (a .2)))
+
+-- ---- The end of a reading, in buffers that are just as long as an image
+
+none-beyond : (n : ℕ) (xs : List ℕ) → length xs ≡ n → beyond n xs ≡ []
+unfolding beyond
+none-beyond n xs e = let h : length xs ≤ n = omega arith in drop-of-length-le xs h
+
+-- k of n elements written, and the rest zeroed
+zeroed : (n k : ℕ) (lent xs rest : List ℕ) → length lent ≡ n → length xs ≡ k → take k (xs ++ rest) ++ zeroes (n - k) ≡ writtenOver n lent xs
+unfolding writtenOver
+zeroed n k lent xs rest e f =
+    rw (take-at xs rest k f, none-beyond n lent e, append-nil (xs ++ zeroes (n - length xs)), f) refl
+
+headed : (c r rest : List ℕ) (a b : ℕ) → 2 ≤ length c → set (set ((take 2 c ++ r) ++ rest) 0 a) 1 b ≡ (a ∷ b ∷ r) ++ rest
+headed [] r rest a b h = absurd (omega arith)
+headed (x ∷ []) r rest a b h = absurd (omega arith)
+headed (x ∷ y ∷ c) r rest a b h = refl
+
+two-zeroes : (n : ℕ) → 2 ≤ n → zeroes n ≡ 0 ∷ 0 ∷ zeroes (n - 2)
+unfolding zeroes
+two-zeroes zero h = absurd (omega arith)
+two-zeroes (suc zero) h = absurd (omega arith)
+two-zeroes (suc (suc n)) h = let e : suc (suc n) - 2 ≡ n = omega arith in rw e refl
+
+abbrev pub begun : Totals
+begun = record { opens = 0; entries = 0; used = 0 }
+
+module _ (c b : List ℕ) (hc : length c ≡ contentsWords) (hb : length b ≡ bodyBytes) where
+  pub room-first : RoomIn (world begun c b)
+  room-first = record { opens-most = omega arith; entries-most = omega arith; used-most = omega arith; words-long = hc; bytes-long = hb }
+
+  laid-first : Laid (world begun c b) (take 2 c) [] (drop 2 c) b
+  laid-first = record {
+    words-are = sym (take-append-drop 2 c);
+    bytes-are = refl;
+    p-long = length-take-le 2 c (omega arith);
+    q-long = refl;
+  }
+
+  module _ (es : List Event) (v : World) (e : run (world begun c b) es ≡ went v) where
+    abbrev xs : List Entry
+    xs = plain (entriesOf es)
+
+    laid : Laid v (take 2 c ++ rowsOf 0 xs) (storeOf xs) (drop (rowWords * length xs) (drop 2 c)) (drop (length (storeOf xs)) b)
+    laid = run-laid es (world begun c b) v (take 2 c) [] (drop 2 c) b room-first laid-first e
+
+    pub room-after : RoomIn v
+    room-after = run-room es (world begun c b) v room-first e
+
+    rows-long : length (take 2 c ++ rowsOf 0 xs) ≡ 2 + rowWords * length xs
+    rows-long = rw (length-append (take 2 c) (rowsOf 0 xs), length-take-le 2 c (omega arith), length-rows 0 xs) refl
+
+    pub entries-are : length xs ≡ v .totals .entries
+    entries-are = omega (arith, rows-long, laid .p-long)
+
+    pub used-is : length (storeOf xs) ≡ v .totals .used
+    used-is = laid .q-long
+
+    contents-long : length (contentsOf xs) ≡ rowOf (v .totals .entries)
+    unfolding contentsOf
+    contents-long = omega (arith, length-rows 0 xs, entries-are)
+
+    -- the count, the use and the rows, with zeroes behind
+    pub words-finished : take (rowOf (v .totals .entries)) (set (set (v .words) 0 (v .totals .entries)) 1 (v .totals .used)) ++ zeroes (contentsWords - rowOf (v .totals .entries))
+        ≡ imageContents xs c
+    unfolding contentsOf
+    words-finished =
+        rw (laid .words-are, headed c (rowsOf 0 xs) (drop (rowWords * length xs) (drop 2 c)) (v .totals .entries) (v .totals .used) (omega arith), ← entries-are, ← used-is)
+        (zeroed contentsWords (2 + rowWords * length xs) c (contentsOf xs) (drop (rowWords * length xs) (drop 2 c)) hc (omega (arith, length-rows 0 xs)))
+
+    pub bytes-finished : take (v .totals .used) (v .bytes) ++ zeroes (bodyBytes - v .totals .used) ≡ imageBodies xs b
+    bytes-finished =
+        rw (laid .bytes-are) (zeroed bodyBytes (v .totals .used) b (storeOf xs) (drop (length (storeOf xs)) b) hb used-is)
+
+    pub accepted-left : left (judge start es) xs c b
+        ≡ outcome (accepted (v .totals .entries) (v .totals .opens)) (imageContents xs c) (imageBodies xs b)
+    unfolding left verdictOf
+    accepted-left = rw (← run-judge es (world begun c b), e) refl
+
+  -- 4 to 7 leave the image of no entries
+  pub no-words : zeroes contentsWords ≡ imageContents [] c
+  unfolding writtenOver contentsOf rowsOf storeOf
+  no-words = rw (none-beyond contentsWords c hc, append-nil (0 ∷ 0 ∷ zeroes (contentsWords - 2))) (two-zeroes contentsWords (omega arith))
+
+  pub no-bytes : zeroes bodyBytes ≡ imageBodies [] b
+  unfolding writtenOver storeOf
+  no-bytes = rw (none-beyond bodyBytes b hb, append-nil (zeroes (bodyBytes - 0)), sub-zero bodyBytes) refl
+
+  pub refused-left : (es : List Event) (k : ℕ) → run (world begun c b) es ≡ stopped k
+      → left (judge start es) (plain (entriesOf es)) c b ≡ outcome (refused k) (imageContents [] c) (imageBodies [] b)
+  unfolding left verdictOf
+  refused-left es k e = rw (← run-judge es (world begun c b), e) refl

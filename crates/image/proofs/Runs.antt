@@ -1,0 +1,132 @@
+-- Laws of runs. Assumes nothing.
+use mathlib.Core.Bool.{Bool, true, false}
+use mathlib.Core.List.{List, [], _∷_, _++_}
+use mathlib.Core.Path.{_≡_, refl, sym, ap, _∙_}
+use Prim.Native.Nat.{ℕ, zero, suc, _+_, _*_, _≤_, _<_}
+use native.Mathlib.Omega.{arith}
+use lib.Dec.{leb, ltb}
+use lib.ListN.{length, set, length-set, length-append}
+use lib.Seq.{paste, length-paste}
+use borrow.Author.Tests.{leb-true, leb-false, ltb-true, ltb-false, lt-ltb, le-ltb, le-leb, lt-leb}
+use Rattle.definition.specs.Lists.{if_then_else_}
+use Rattle.definition.specs.Limits.{mostOpens, mostEntries, mostParts, bodyBytes, contentsWords}
+use Rattle.definition.specs.Text.{Entry}
+use Rattle.definition.specs.Including.{Event, opened, entered}
+use Rattle.definition.specs.Image.{keyOf}
+use Rattle.definition.specs.Reading.{sizeOf}
+use Rattle.image.specs.Running.{
+  World,
+  world,
+  Room,
+  Ran,
+  went,
+  stopped,
+  rowOf,
+  stored,
+  put,
+  counted,
+  openOne,
+  step,
+  andThen,
+  run,
+  answered,
+}
+use Rattle.image.specs.declared.Totals.{Totals}
+
+then-then : (r : Ran) (f g : World → Ran) → andThen (andThen r f) g ≡ andThen r (λ v. andThen (f v) g)
+unfolding andThen
+then-then (went v) f g = refl
+then-then (stopped k) f g = refl
+
+then-same : (r : Ran) (f g : World → Ran) → ((v : World) → f v ≡ g v) → andThen r f ≡ andThen r g
+unfolding andThen
+then-same (went v) f g e = e v
+then-same (stopped k) f g e = refl
+
+pub run-append : (xs ys : List Event) (w : World) → run w (xs ++ ys) ≡ andThen (run w xs) (λ v. run v ys)
+unfolding run andThen
+run-append [] ys w = refl
+run-append (e ∷ xs) ys w =
+    then-same (step w e) (λ v. run v (xs ++ ys)) (λ v. andThen (run v xs) (λ u. run u ys)) (λ v. run-append xs ys v)
+    ∙ sym (then-then (step w e) (λ v. run v xs) (λ v. run v ys))
+
+-- ---- Where a run went on, so did its steps
+
+stopped-went : {k : ℕ} {v : World} → stopped k ≡ went v → ⊥
+stopped-went e = let z : _≡_ {A = ℕ} 0 1 = cc in omega arith
+
+pub then-went : (r : Ran) (f : World → Ran) (v : World) → andThen r f ≡ went v → (u : World) × (r ≡ went u) × (f u ≡ went v)
+unfolding andThen
+then-went (went u) f v e = (u, refl, e)
+then-went (stopped k) f v e = absurd (stopped-went e)
+
+pub passed : (b : Bool) (k : ℕ) (r : Ran) (v : World) → (if b then stopped k else r) ≡ went v → (b ≡ false) × (r ≡ went v)
+passed true k r v e = absurd (stopped-went e)
+passed false k r v e = (refl, e)
+
+-- what `put` stored, and that it fitted
+pub record Stored (w : World) (e : Entry) (v : World) : Type 0 where
+  pub is : stored w e ≡ v
+  pub few : length (e .parts) ≤ mostParts
+  pub entries-less : w .totals .entries < mostEntries
+  pub used-fits : w .totals .used + sizeOf e ≤ bodyBytes
+
+pub put-went : (w : World) (e : Entry) (v : World) → put w e ≡ went v → Stored w e v
+unfolding put
+put-went w e v h =
+    let a = passed (ltb mostParts (length (e .parts))) 5 _ v h in
+    let b = passed (leb mostEntries (w .totals .entries)) 6 _ v (a .1) in
+    let c = passed (ltb bodyBytes (w .totals .used + sizeOf e)) 7 (went (stored w e)) v (b .1) in
+    record {
+      is = let q : went (stored w e) ≡ went v = c .1 in cc;
+      few = ltb-false mostParts (length (e .parts)) (a .0);
+      entries-less = leb-false mostEntries (w .totals .entries) (b .0);
+      used-fits = ltb-false bodyBytes (w .totals .used + sizeOf e) (c .0);
+    }
+
+pub open-went : (w v : World) → openOne w ≡ went v → (world (counted (w .totals)) (w .words) (w .bytes) ≡ v) × (w .totals .opens < mostOpens)
+unfolding openOne
+open-went w v h =
+    let a = passed (leb mostOpens (w .totals .opens)) 4 (went (world (counted (w .totals)) (w .words) (w .bytes))) v h in
+    let q : went (world (counted (w .totals)) (w .words) (w .bytes)) ≡ went v = a .1 in
+    (cc, leb-false mostOpens (w .totals .opens) (a .0))
+
+-- ---- A run keeps its totals within the limits and the buffers' lengths
+
+abbrev pub RoomIn : World → Type 0
+RoomIn w = Room (w .totals) (w .words) (w .bytes)
+
+pub size-is : (e : Entry) → length (keyOf (e .parts) ++ e .value) ≡ sizeOf e
+size-is e = length-append (keyOf (e .parts)) (e .value)
+
+pub stored-room : (w : World) (e : Entry) → RoomIn w → w .totals .entries < mostEntries → w .totals .used + sizeOf e ≤ bodyBytes → RoomIn (stored w e)
+stored-room w e r few fits = record {
+  opens-most = r .opens-most;
+  entries-most = omega arith;
+  used-most = fits;
+  words-long = simp length-set (r .words-long);
+  bytes-long =
+      length-paste (w .bytes) (w .totals .used) (keyOf (e .parts) ++ e .value) (sizeOf e) (omega (arith, r .bytes-long)) (omega (arith, size-is e))
+      ∙ r .bytes-long;
+}
+
+pub step-room : (w : World) (e : Event) (v : World) → RoomIn w → step w e ≡ went v → RoomIn v
+step-room w (opened ch) v r h =
+    let a = open-went w v h in
+    rw (← a .0) (record {
+      opens-most = let k = a .1 in omega arith;
+      entries-most = r .entries-most;
+      used-most = r .used-most;
+      words-long = r .words-long;
+      bytes-long = r .bytes-long;
+    })
+step-room w (entered ch e) v r h =
+    let a = put-went w e v h in
+    rw (← a .is) (stored-room w e r (a .entries-less) (a .used-fits))
+
+pub run-room : (es : List Event) (w v : World) → RoomIn w → run w es ≡ went v → RoomIn v
+unfolding run
+run-room [] w v r h = let e : w ≡ v = cc in rw (← e) r
+run-room (e ∷ es) w v r h =
+    let a = then-went (step w e) (λ u. run u es) v h in
+    run-room es (a .0) v (step-room w e (a .0) r (a .1)) (a .2)

@@ -1,0 +1,84 @@
+-- What an event does to the totals and the two buffers. proofs/Images.antt shows that a run leaves what the definition says.
+use mathlib.Core.Bool.{Bool, true, false}
+use mathlib.Core.List.{List, [], _∷_, _++_}
+use mathlib.Core.Path.{_≡_}
+use Prim.Native.Nat.{ℕ, zero, suc, _+_, _*_, _≤_}
+use lib.Dec.{leb, ltb}
+use lib.ListN.{length, set}
+use lib.Seq.{paste}
+use Rattle.definition.specs.Lists.{if_then_else_}
+use Rattle.definition.specs.Limits.{mostOpens, mostEntries, mostParts, bodyBytes, contentsWords, rowWords}
+use Rattle.definition.specs.Text.{Entry}
+use Rattle.definition.specs.Including.{Event, opened, entered}
+use Rattle.definition.specs.Image.{keyOf}
+use Rattle.definition.specs.Reading.{sizeOf}
+use Rattle.image.specs.declared.Totals.{Totals}
+use Rattle.image.specs.declared.Step.{Step}
+use Rattle.image.specs.declared.Step.the-variants.{Go, Stop}
+
+-- the totals and the buffers, whose lengths are just those of an image
+pub record World : Type 0 where
+  pub totals : Totals
+  pub words : List ℕ
+  pub bytes : List ℕ
+
+abbrev pub world : Totals → List ℕ → List ℕ → World
+world s c b = record { totals = s; words = c; bytes = b }
+
+-- the totals are within the limits and the buffers as long as an image
+pub record Room (s : Totals) (c b : List ℕ) : Type 0 where
+  pub opens-most : s .opens ≤ mostOpens
+  pub entries-most : s .entries ≤ mostEntries
+  pub used-most : s .used ≤ bodyBytes
+  pub words-long : length c ≡ contentsWords
+  pub bytes-long : length b ≡ bodyBytes
+
+pub data Ran : Type 0 where
+  went : World → Ran
+  stopped : ℕ → Ran
+
+-- where entry n's row stands
+abbrev pub rowOf : ℕ → ℕ
+rowOf n = 2 + rowWords * n
+
+-- an entry, stored
+abbrev pub stored : World → Entry → World
+stored w e = record {
+  totals = record { opens = w .totals .opens; entries = w .totals .entries + 1; used = w .totals .used + sizeOf e };
+  words =
+      set (set (set (w .words) (rowOf (w .totals .entries)) (w .totals .used)) (rowOf (w .totals .entries) + 1) (length (keyOf (e .parts))))
+      (rowOf (w .totals .entries) + 2) (length (e .value));
+  bytes = paste (w .bytes) (w .totals .used) (keyOf (e .parts) ++ e .value) (sizeOf e);
+}
+
+-- 5, 6, 7
+unfoldable pub put : World → Entry → Ran
+put w e =
+    if ltb mostParts (length (e .parts)) then stopped 5 else
+    if leb mostEntries (w .totals .entries) then stopped 6 else
+    if ltb bodyBytes (w .totals .used + sizeOf e) then stopped 7 else
+    went (stored w e)
+
+-- one open more
+abbrev pub counted : Totals → Totals
+counted s = record { opens = s .opens + 1; entries = s .entries; used = s .used }
+
+unfoldable pub openOne : World → Ran
+openOne w = if leb mostOpens (w .totals .opens) then stopped 4 else went (world (counted (w .totals)) (w .words) (w .bytes))
+
+abbrev pub step : World → Event → Ran
+step w (opened ch) = openOne w
+step w (entered ch e) = put w e
+
+unfoldable pub andThen : Ran → (World → Ran) → Ran
+andThen (went w) next = next w
+andThen (stopped k) next = stopped k
+
+unfoldable pub run : World → List Event → Ran
+run w [] = went w
+run w (e ∷ es) = andThen (step w e) (λ v. run v es)
+
+-- a call's answer, with the buffers as it left them; of a refusal only the number is said
+unfoldable pub answered : Step → List ℕ → List ℕ → Ran
+answered (Go s) c b = went (world s c b)
+answered (Stop k) c b = stopped k

@@ -1,0 +1,3 @@
+-- What the code's answers say of a value's bytes.
+pub mod Characters
+pub mod Readings

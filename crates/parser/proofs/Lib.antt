@@ -1,0 +1,4 @@
+-- Laws of the parser.
+pub mod Directives
+pub mod Resources
+pub mod Entries

@@ -1,0 +1,3 @@
+-- What the contracts of the parser cite beside the definition.
+pub mod Lined
+pub mod Putting

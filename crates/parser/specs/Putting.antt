@@ -1,0 +1,25 @@
+-- What the code's answer on an entry says.
+use mathlib.Core.List.{List, flatten}
+use mathlib.Core.Path.{_≡_}
+use Prim.Native.Nat.{ℕ, _≤_}
+use lib.ListN.{length, drop}
+use Rattle.definition.specs.Text.{Entry, pieces}
+use Rattle.image.specs.Running.{World, world, went, stopped, put}
+use Rattle.image.specs.declared.Totals.{Totals}
+use Rattle.parser.specs.Lined.{partsOf}
+use Rattle.parser.specs.declared.Put.{Put}
+use Rattle.parser.specs.declared.Put.the-variants.{Done, Stop}
+
+-- the entry of a line t whose value's text begins at v
+abbrev pub entryFrom : List ℕ → ℕ → Entry
+entryFrom t v = record { parts = partsOf t; value = flatten (pieces (drop v t) .items) }
+
+-- the entry is stored, and the next line starts at n
+pub record Puts (t : List ℕ) (v : ℕ) (w : World) (words bytes : List ℕ) (n : ℕ) (s : Totals) : Type 0 where
+  pub is : put w (entryFrom t v) ≡ went (world s words bytes)
+  pub next : drop n t ≡ drop 1 (pieces (drop v t) .rest)
+  pub inside : n ≤ length t
+
+abbrev pub Putting : List ℕ → ℕ → World → List ℕ → List ℕ → Put → Type 0
+Putting t v w words bytes (Done n s) = Puts t v w words bytes n s
+Putting t v w words bytes (Stop k) = put w (entryFrom t v) ≡ stopped k

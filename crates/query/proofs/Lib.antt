@@ -1,0 +1,4 @@
+-- Laws of split queries.
+pub mod Splits
+pub mod Names
+pub mod Splitting

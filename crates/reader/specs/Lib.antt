@@ -1,0 +1,3 @@
+-- What the contracts of the reading cite beside the definition.
+pub mod Texts
+pub mod Said

@@ -1,0 +1,4 @@
+-- Laws that the proofs of values cite.
+pub mod Blanks
+pub mod Escapes
+pub mod Decoding

@@ -1,0 +1,51 @@
+-- `values::octal` meets its contract. No sum wraps but those of `times_eight`. Assumes nothing.
+use Prim.Native.Nat.{_-_, _≤_}
+use native.Mathlib.Omega.{arith}
+use borrow.Author.Needs.{needs}
+use Rattle.values.proofs.Escapes.{octal-range, room-for-digit, octal-number}
+use Rattle.values.proofs.octal.Statement.{statement}
+use Rattle.values.proofs.octal.Tie as tie
+
+sub-times-eight : tie.Need-sub-times-eight
+sub-times-eight c = omega (arith, octal-range _ (c .pre .0))
+
+times-eight-requires : tie.Need-times-eight-requires
+times-eight-requires c κs = search needs
+
+sub-times-eight-2 : tie.Need-sub-times-eight-2
+sub-times-eight-2 c = omega (arith, octal-range _ (c .before .pre .1))
+
+add-times-eight : tie.Need-add-times-eight
+add-times-eight c = omega (arith, octal-range _ (c .before .pre .0), octal-range _ (c .before .pre .1))
+
+times-eight-requires-2 : tie.Need-times-eight-requires-2
+times-eight-requires-2 c κs = search needs
+
+sub-result : tie.Need-sub-result
+sub-result c = omega (arith, octal-range _ (c .before .before .pre .2))
+
+add-result : tie.Need-add-result
+add-result c =
+    let start-here = c .before .before in
+    let d : start-here .args .c - 48 ≤ 7 = omega (arith, octal-range _ (start-here .pre .2)) in
+    omega (arith, room-for-digit _ _ (start-here .args .c - 48) (c .times-eight2 .ensures) d)
+
+returns : tie.Need-returns
+returns c =
+    let start-here = c .before .before in
+    let times-eight-here = c .before in
+    let p = start-here .pre in
+    octal-number _ _ _ _ _ (p .0) (p .1) (p .2) (times-eight-here .times-eight .ensures) (c .times-eight2 .ensures)
+
+pub octal-spec : {M : Type 1} → statement M
+octal-spec =
+    tie.close
+    (tie.spec
+    sub-times-eight
+    times-eight-requires
+    sub-times-eight-2
+    add-times-eight
+    times-eight-requires-2
+    sub-result
+    add-result
+    returns)

@@ -1,0 +1,31 @@
+-- `values::times_eight` meets its contract. Assumes nothing.
+use borrow.Author.Needs.{needs}
+use Rattle.values.proofs.Escapes.{eight-times}
+use Rattle.values.proofs.times_eight.Statement.{statement}
+use Rattle.values.proofs.times_eight.Tie as tie
+
+wrapping-add-u8-requires : tie.Need-wrapping-add-u8-requires
+wrapping-add-u8-requires c κs = search needs
+
+wrapping-add-u8-requires-2 : tie.Need-wrapping-add-u8-requires-2
+wrapping-add-u8-requires-2 c κs = search needs
+
+wrapping-add-u8-requires-3 : tie.Need-wrapping-add-u8-requires-3
+wrapping-add-u8-requires-3 c κs = search needs
+
+returns : tie.Need-returns
+returns c =
+    let start-here = c .before .before .before in
+    let wrapping-add-u8-here = c .before .before in
+    let wrapping-add-u82-here = c .before in
+    eight-times (start-here .args .x) _ _ _ (wrapping-add-u8-here .wrapping-add-u8 .ensures) (wrapping-add-u82-here .wrapping-add-u82 .ensures)
+    (c .wrapping-add-u83 .ensures)
+
+pub times-eight-spec : {M : Type 1} → statement M
+times-eight-spec =
+    tie.close
+    (tie.spec
+    wrapping-add-u8-requires
+    wrapping-add-u8-requires-2
+    wrapping-add-u8-requires-3
+    returns)

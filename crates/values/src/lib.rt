@@ -1,0 +1,182 @@
+// The value of an entry: the part of the Rust's `parse_entry` after the `:`.
+ghost use mathlib.Core.Path.{_≡_};
+ghost use mathlib.Core.Bool.{true};
+ghost use mathlib.Core.List.{[], _∷_};
+ghost use Prim.Native.Nat.{_+_, _*_, _%_, _≤_};
+ghost use lib.ListN.{length, take};
+ghost use lib.Seq.{paste};
+ghost use Rattle.definition.specs.Lists.{takeWhile};
+ghost use Rattle.definition.specs.Bytes.{backslash, isOctal};
+ghost use Rattle.definition.specs.Text.{positional, afterBlanks};
+ghost use Rattle.values.specs.Pieces.{IsPiece};
+ghost use Rattle.values.specs.Decoded.{Decoded};
+
+// The piece of a value at the front of a text.
+pub enum Piece {
+    // The text is at its end, or at the plain newline that ends the value.
+    End,
+    // The byte that so many bytes of text give.
+    Byte(u8, usize),
+    // So many bytes of text give themselves.
+    Keep(usize),
+    // So many bytes of text give nothing.
+    Drop(usize),
+}
+
+pub enum Value {
+    // Where the value ends in the store, and how many bytes of text it took, its newline left.
+    Done(usize, usize),
+    // The store is too short for it.
+    Full,
+}
+
+// The text after a `:` without the blanks and backslash-newline pairs at its front.
+pub fn skip_blanks(text: &[u8]) -> &[u8]
+    ensures { λ r. ⌜ now r ≡ afterBlanks (now (text .entry)) ⌝ }
+{
+    let mut rest = text;
+    while rest.len() > 0 {
+        let c = rest[0];
+        if scan::is_blank(c) {
+            rest = &rest[1..];
+            continue;
+        }
+        if c != b'\\' || rest.len() < 2 || rest[1] != b'\n' {
+            return rest;
+        }
+        rest = &rest[2..];
+    }
+    rest
+}
+
+// The low eight bits of x * 8, by three doublings that wrap.
+pub fn times_eight(x: u8) -> u8
+    ensures { λ r. ⌜ r ≡ (x * 8) % 256 ⌝ }
+{
+    let two = std::num::wrapping_add_u8(x, x);
+    let four = std::num::wrapping_add_u8(two, two);
+    std::num::wrapping_add_u8(four, four)
+}
+
+// The low eight bits of the number of three octal digits, as the Rust's release build has them.
+// Only the second product can wrap: it is a multiple of eight, so the last digit fits on top.
+pub fn octal(a: u8, b: u8, c: u8) -> u8
+    requires { ⌜ (isOctal a ≡ true) × (isOctal b ≡ true) × (isOctal c ≡ true) ⌝ }
+    ensures { λ r. ⌜ r ≡ positional 8 0 (a ∷ b ∷ c ∷ []) % 256 ⌝ }
+{
+    let x = times_eight(a - b'0');
+    let y = times_eight(x + (b - b'0'));
+    y + (c - b'0')
+}
+
+// How many octal digits the text begins with, three at most.
+fn octal_digits(text: &[u8]) -> usize
+    ensures { λ r. ⌜ r ≡ length (takeWhile isOctal (take 3 (now (text .entry)))) ⌝ }
+{
+    let mut n = 0;
+    while n < 3 && n < text.len() && scan::is_octal_digit(text[n]) {
+        n += 1;
+    }
+    n
+}
+
+// The piece that begins with a backslash; text is what follows it.
+fn parse_escape(text: &[u8]) -> Piece
+    ensures { λ r. ⌜ IsPiece (backslash ∷ now (text .entry)) r ⌝ }
+{
+    if text.len() == 0 {
+        return Piece::Keep(1);
+    }
+    let c = text[0];
+    match c {
+        b' ' | b'\t' | b'\\' => return Piece::Byte(c, 2),
+        b'n' => return Piece::Byte(b'\n', 2),
+        b'\n' => return Piece::Drop(2),
+        _ => {}
+    }
+    let n = octal_digits(text);
+    if n == 0 {
+        return Piece::Keep(1);
+    }
+    if n == 3 {
+        return Piece::Byte(octal(c, text[1], text[2]), 4);
+    }
+    if n == text.len() || text[n] == b'\n' {
+        return Piece::Drop(1 + n);
+    }
+    Piece::Keep(1 + n)
+}
+
+// The piece at the front of a text.
+pub fn parse_piece(text: &[u8]) -> Piece
+    ensures { λ r. ⌜ IsPiece (now (text .entry)) r ⌝ }
+{
+    if text.len() == 0 {
+        return Piece::End;
+    }
+    let b = text[0];
+    if b == b'\n' {
+        return Piece::End;
+    }
+    if b != b'\\' {
+        return Piece::Byte(b, 1);
+    }
+    parse_escape(&text[1..])
+}
+
+// Copies the first n bytes of a text into the store from `at` on.
+pub fn copy(text: &[u8], n: usize, store: &mut [u8], at: usize)
+    requires { ⌜ (n ≤ length (now text)) × (at + n ≤ length (now store)) ⌝ }
+    ensures { λ _. ⌜ now (store .exit) ≡ paste (now (store .entry)) at (now (text .entry)) n ⌝ }
+{
+    let mut i = 0;
+    while i < n {
+        store[at + i] = text[i];
+        i += 1;
+    }
+}
+
+// Decodes the value at the front of a text, blanks skipped, into the store from `at` on.
+pub fn parse_value(text: &[u8], store: &mut [u8], at: usize) -> Value
+    requires { ⌜ at ≤ length (now store) ⌝ }
+    ensures { λ r. ⌜ Decoded (now (text .entry)) (now (store .entry)) at (now (store .exit)) r ⌝ }
+{
+    let mut end = at;
+    let mut i = 0;
+    loop {
+        // Most bytes are plain: they are stored here, with no call.
+        if i < text.len() {
+            let b = text[i];
+            if b != b'\\' && b != b'\n' {
+                if end >= store.len() {
+                    return Value::Full;
+                }
+                store[end] = b;
+                end += 1;
+                i += 1;
+                continue;
+            }
+        }
+        let piece = parse_piece(&text[i..]);
+        match piece {
+            Piece::End => return Value::Done(end, i),
+            Piece::Byte(b, n) => {
+                if end >= store.len() {
+                    return Value::Full;
+                }
+                store[end] = b;
+                end += 1;
+                i += n;
+            }
+            Piece::Keep(n) => {
+                if n > store.len() - end {
+                    return Value::Full;
+                }
+                copy(&text[i..], n, store, end);
+                end += n;
+                i += n;
+            }
+            Piece::Drop(n) => i += n,
+        }
+    }
+}
