@@ -1,5 +1,4 @@
 -- The mathematics behind the proofs of the code.
-pub mod Texts
 pub mod Rows
 pub mod Reached
 pub mod Bindings

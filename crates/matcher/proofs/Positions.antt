@@ -12,6 +12,7 @@ use borrow.Author.Tests.{lt-ltb, le-ltb}
 use Rattle.definition.specs.Query.{Position, positionsOf}
 use Rattle.query.specs.Splits.{each, partIn, namesIn, Inside}
 use Rattle.query.specs.declared.Split.{Split}
+use Rattle.query.proofs.Splits.{length-names}
 use Rattle.matcher.specs.Places.{placeOf, placed, Within, positionIn, queried}
 
 -- the i-th, if there is one
@@ -36,11 +37,6 @@ position-at (n ∷ ns) [] zero h = refl
 position-at (n ∷ ns) [] (suc i) h = position-at ns [] i (omega arith)
 position-at (n ∷ ns) (c ∷ cs) zero h = refl
 position-at (n ∷ ns) (c ∷ cs) (suc i) h = position-at ns cs i (omega arith)
-
-length-each : {A : Type 0} (n : ℕ) (f : ℕ → A) → length (each n f) ≡ n
-unfolding each
-length-each zero f = refl
-length-each (suc n) f = ap suc (length-each n (λ i. f (suc i)))
 
 module _ {A : Type 0} where
   nth-each : (n : ℕ) (f : ℕ → A) (i : ℕ) → i < n → nth (each n f) i ≡ some (f i)
@@ -84,13 +80,12 @@ module _ (t : List ℕ) (s : Split) (i : ℕ) where
 
 module _ (name : List ℕ) (names : Split) (class : List ℕ) (classes : Split) where
   pub length-queried : length (queried name names class classes) ≡ max (names .count) (classes .count)
-  unfolding namesIn
-  length-queried = length-positions _ _ ∙ rw (length-each (names .count) (partIn name names), length-each (classes .count) (partIn class classes)) refl
+  length-queried = length-positions _ _ ∙ rw (length-names name names, length-names class classes) refl
 
   pub queried-at : (i : ℕ) → i < max (names .count) (classes .count)
       → drop i (queried name names class classes) ≡ positionIn name (placeOf names i) class (placeOf classes i) ∷ drop (i + 1) (queried name names class classes)
   queried-at i h =
-      let k : i < max (length (namesIn name names)) (length (namesIn class classes)) = unfold namesIn in rw (length-each (names .count) (partIn name names), length-each (classes .count) (partIn class classes)) h in
+      let k : i < max (length (namesIn name names)) (length (namesIn class classes)) = rw (length-names name names, length-names class classes) h in
       position-at (namesIn name names) (namesIn class classes) i k
       ∙ rw (placed-is name names i, placed-is class classes i, add-one) refl
 

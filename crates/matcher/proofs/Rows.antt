@@ -6,15 +6,37 @@ use mathlib.Core.Path.{_≡_, refl, sym, ap, _∙_}
 use Prim.Native.Nat.{ℕ, zero, suc, _+_, _≤_, _<_}
 use native.Mathlib.Omega.{arith}
 use native.Mathlib.Numerals.{add-one}
-use lib.ListN.{length, getD, take, set, replicate}
-use lib.Seq.{take-suc, take-suc-set, getD-set-other}
-use borrow.Author.Tests.{eq-eqb, ne-eqb}
+use lib.ListN.{length, getD, take, drop, set, replicate, length-take}
+use lib.Seq.{getD-take, take-suc, take-suc-set, getD-set-other}
+use borrow.Author.Tests.{eq-eqb, ne-eqb, le-ltb}
 use Rattle.definition.specs.Lists.{if_then_else_, any, orElse, lower}
 use Rattle.definition.specs.Bytes.{star}
 use Rattle.definition.specs.Text.{tight, loose, bindingOf}
 use Rattle.definition.specs.Ranking.{noEntry, better}
+use Rattle.laws.proofs.Lists.{lower-from-below, lower-from-above, lower-from-equal, lower-from-end}
 use Rattle.matcher.specs.Rows.{rowIn, bestIn, markIn, skipOf, extended, Clear, Continued}
 use Rattle.matcher.specs.declared.Row.{Row}
+
+-- ---- Is a row lower than another, in its first n marks?
+
+module _ (xs ys : List ℕ) (n i : ℕ) where
+  module _ (h : i < n) (f : n ≤ length xs) (g : n ≤ length ys) where
+    inside : (zs : List ℕ) → n ≤ length zs → i < length (take n zs)
+    inside zs k = simp length-take (omega arith)
+
+    pub lower-at : getD xs i 0 < getD ys i 0 → lower (drop i (take n xs)) (drop i (take n ys)) ≡ true
+    lower-at e = lower-from-below (take n xs) (take n ys) i (inside xs f) (inside ys g) (rw (getD-take n xs i 0 h, getD-take n ys i 0 h) e)
+
+    pub higher-at : getD ys i 0 < getD xs i 0 → lower (drop i (take n xs)) (drop i (take n ys)) ≡ false
+    higher-at e = lower-from-above (take n xs) (take n ys) i (inside xs f) (inside ys g) (rw (getD-take n xs i 0 h, getD-take n ys i 0 h) e)
+
+    pub equal-at : getD xs i 0 ≡ getD ys i 0 → lower (drop i (take n xs)) (drop i (take n ys)) ≡ lower (drop (i + 1) (take n xs)) (drop (i + 1) (take n ys))
+    equal-at e = lower-from-equal (take n xs) (take n ys) i (inside xs f) (inside ys g) (rw (getD-take n xs i 0 h, getD-take n ys i 0 h) e)
+
+  pub equal-end : n ≤ i → lower (drop i (take n xs)) (drop i (take n ys)) ≡ false
+  equal-end h =
+      let k : length (take n ys) ≤ i = simp length-take (omega arith) in
+      lower-from-end (take n xs) (take n ys) i (simp length-take (omega arith)) ∙ le-ltb i (length (take n ys)) k
 
 -- ---- Which row wins
 

@@ -1,3 +1,4 @@
+-- `matcher::check_match` meets its contract. The outer invariant is `Passing`, the inner one `Turning`. Assumes nothing.
 use mathlib.Core.List.{[]}
 use mathlib.Core.Path.{_≡_, sym, ap, _∙_}
 use Prim.Native.Nat.{ℕ, suc, _+_, _-_, _≤_, _<_}

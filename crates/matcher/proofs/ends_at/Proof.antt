@@ -1,3 +1,4 @@
+-- `matcher::ends_at` meets its contract. Assumes nothing.
 use Rattle.matcher.proofs.Ends.{misses-none, misses-some}
 use borrow.Author.Needs.{needs}
 use Rattle.matcher.proofs.ends_at.Statement.{statement}

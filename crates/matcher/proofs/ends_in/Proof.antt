@@ -1,3 +1,4 @@
+-- `matcher::ends_in` meets its contract: each way to `false` contradicts a key that ends so. Assumes nothing.
 use mathlib.Core.Path.{refl}
 use Prim.Native.Nat.{_-_, _≤_}
 use native.Mathlib.Omega.{arith}

@@ -1,3 +1,4 @@
+-- `matcher::first_row` meets its contract. Assumes nothing.
 use mathlib.Core.Path.{refl}
 use Rattle.matcher.proofs.Rows.{zeroes-clear}
 use Rattle.matcher.proofs.first_row.Statement.{statement}

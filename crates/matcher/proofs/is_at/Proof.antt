@@ -1,3 +1,4 @@
+-- `matcher::is_at` meets its contract. Assumes nothing.
 use mathlib.Core.Path.{refl}
 use Rattle.definition.specs.Matching.{equals}
 use borrow.Author.Needs.{needs}

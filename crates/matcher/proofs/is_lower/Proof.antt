@@ -1,9 +1,10 @@
+-- `matcher::is_lower` meets its contract: from mark i on the two compare as they do from the start. Assumes nothing.
 use mathlib.Core.Path.{_≡_, sym, _∙_}
 use Prim.Native.Nat.{_-_, _≤_, _<_}
 use native.Mathlib.Omega.{arith}
 use lib.ListN.{length, take, drop}
 use Rattle.definition.specs.Lists.{lower}
-use Rattle.matcher.proofs.Texts.{lower-at, higher-at, equal-at, equal-end}
+use Rattle.matcher.proofs.Rows.{lower-at, higher-at, equal-at, equal-end}
 use borrow.Author.Needs.{needs}
 use Rattle.matcher.proofs.is_lower.Statement.{statement}
 use Rattle.matcher.proofs.is_lower.Tie as tie

@@ -1,3 +1,4 @@
+-- `matcher::mark` meets its contract: each way out is one law of marks. Assumes nothing.
 use mathlib.Core.Path.{sym, _∙_}
 use Rattle.matcher.specs.Places.{positionIn}
 use Rattle.matcher.proofs.Marks.{by-wildcard, by-instance, by-class, by-none}

@@ -1,3 +1,4 @@
+-- `matcher::match_key` meets its contract: more parts than positions, or what `check_match` gives. Assumes nothing.
 use mathlib.Core.Path.{_≡_, sym, ap, _∙_}
 use Prim.Native.Nat.{ℕ, _+_, _-_, max}
 use native.Mathlib.Omega.{arith}

@@ -1,3 +1,4 @@
+-- `matcher::may_match` meets its contract. Assumes nothing.
 use mathlib.Core.Path.{refl}
 use Rattle.laws.proofs.Lists.{not-both}
 use Rattle.matcher.proofs.Ends.{refused}

@@ -1,3 +1,4 @@
+-- `matcher::next_row` meets its contract: a skip, else a match, else none. Assumes nothing.
 use mathlib.Core.Logic.{⊎-elim}
 use mathlib.Core.List.{[], _∷_}
 use mathlib.Core.Option.{none}

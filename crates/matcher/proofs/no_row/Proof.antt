@@ -1,3 +1,4 @@
+-- `matcher::no_row` meets its contract. Assumes nothing.
 use mathlib.Core.Path.{refl}
 use Rattle.matcher.proofs.Rows.{zeroes-clear}
 use Rattle.matcher.proofs.no_row.Statement.{statement}

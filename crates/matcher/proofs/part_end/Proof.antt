@@ -1,3 +1,4 @@
+-- `matcher::part_end` meets its contract: the run from `at` on ends where the run from i on ends. Assumes nothing.
 use mathlib.Core.Path.{_≡_}
 use Prim.Native.Nat.{_+_, _-_, _≤_, _<_}
 use native.Mathlib.Omega.{arith}

@@ -1,3 +1,4 @@
+-- `matcher::place_of` meets its contract. Assumes nothing.
 use borrow.Author.Tests.{lt-ltb, le-ltb}
 use borrow.Author.Needs.{needs}
 use Rattle.matcher.proofs.place_of.Statement.{statement}

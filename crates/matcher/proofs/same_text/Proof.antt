@@ -1,9 +1,10 @@
+-- `matcher::same_text` meets its contract: from byte i on the two are the same just where they are from the start. Assumes nothing.
 use mathlib.Core.Path.{_≡_, sym, _∙_}
 use Prim.Native.Nat.{_-_, _≤_, _<_}
 use native.Mathlib.Omega.{arith}
 use lib.ListN.{length, drop}
 use Rattle.definition.specs.Lists.{same}
-use Rattle.matcher.proofs.Texts.{same-lengths, same-on, same-not, same-end}
+use Rattle.laws.proofs.Lists.{same-from-equal, same-from-other, same-from-end, same-lengths}
 use borrow.Author.Needs.{needs}
 use Rattle.matcher.proofs.same_text.Statement.{statement}
 use Rattle.matcher.proofs.same_text.Tie as tie
@@ -34,7 +35,7 @@ returns-2 c =
     let w = loop-here .loop in
     let h : w .i < length (a .a .now) = search needs in
     let k : w .i < length (a .b .now) = omega arith in
-    sym (same-not (a .a .now) (a .b .now) (w .i) h k (c .if2 .taken)) ∙ w .inv .2
+    sym (same-from-other (a .a .now) (a .b .now) (w .i) h k (c .if2 .taken)) ∙ w .inv .2
 
 add-i : tie.Need-add-i Inv-loop μ-loop
 add-i c = search needs
@@ -50,7 +51,7 @@ loop-again c =
     let w = loop-here .loop in
     let h : w .i < length (a .a .now) = search needs in
     let k : w .i < length (a .b .now) = omega arith in
-    (search needs, w .inv .1, sym (same-on (a .a .now) (a .b .now) (w .i) h k (c .if2 .left)) ∙ w .inv .2)
+    (search needs, w .inv .1, sym (same-from-equal (a .a .now) (a .b .now) (w .i) h k (c .if2 .left)) ∙ w .inv .2)
 
 returns-3 : tie.Need-returns-3 Inv-loop μ-loop
 returns-3 c =
@@ -59,7 +60,7 @@ returns-3 c =
     let a = start-here .args in
     let w = loop-here .loop in
     let h : length (a .a .now) ≤ w .i = search needs in
-    sym (same-end (a .a .now) (a .b .now) (w .i) h (omega arith)) ∙ w .inv .2
+    sym (same-from-end (a .a .now) (a .b .now) (w .i) h (omega arith)) ∙ w .inv .2
 
 pub same-text-spec : {M : Type 1} → statement M
 same-text-spec =

@@ -1,3 +1,4 @@
+-- `matcher::split_key` meets its contract. The invariant is `Splitting`. Assumes nothing.
 use mathlib.Core.Path.{refl}
 use Prim.Native.Nat.{_-_, _≤_, _<_}
 use native.Mathlib.Omega.{arith}

@@ -1,3 +1,4 @@
+-- `matcher::wins` meets its contract: each way out is one law of winners. Assumes nothing.
 use Rattle.matcher.proofs.Rows.{wins-over, wins-alone, wins-never}
 use borrow.Author.Needs.{needs}
 use Rattle.matcher.proofs.wins.Statement.{statement}
