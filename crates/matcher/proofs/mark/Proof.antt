@@ -1,0 +1,104 @@
+-- `matcher::mark` meets its contract: each way out is one law of marks. Assumes nothing.
+use mathlib.Core.Path.{sym, _∙_}
+use Rattle.matcher.specs.Places.{positionIn}
+use Rattle.matcher.proofs.Marks.{by-wildcard, by-instance, by-class, by-none}
+use borrow.Author.Needs.{needs}
+use Rattle.matcher.proofs.mark.Statement.{statement}
+use Rattle.matcher.proofs.mark.Tie as tie
+
+shared-slice-read-loose : tie.Need-shared-slice-read-loose
+shared-slice-read-loose c = search needs
+
+add-s : tie.Need-add-s
+add-s c = search needs
+
+shared-slice-read-if1 : tie.Need-shared-slice-read-if1
+shared-slice-read-if1 c = search needs
+
+mark-of-requires : tie.Need-mark-of-requires
+mark-of-requires c κs = search needs
+
+returns : tie.Need-returns
+returns c =
+    let start-here = c .before .before .before .before .before .before .before in
+    let if1-here = c .before in
+    let a = start-here .args in
+    let q = positionIn (a .name .now) (a .n) (a .class .now) (a .c) in
+    by-wildcard (a .key .now) (a .b) (a .e) (start-here .pre .0) q _ (if1-here .if1 .taken) (c .mark-of .ensures)
+
+sub-component : tie.Need-sub-component
+sub-component c = search needs
+
+part-component-start : tie.Need-part-component-start
+part-component-start c = search needs
+
+part-component-end : tie.Need-part-component-end
+part-component-end c = search needs
+
+is-at-requires : tie.Need-is-at-requires
+is-at-requires c κs = search needs
+
+mark-of-requires-2 : tie.Need-mark-of-requires-2
+mark-of-requires-2 c κs = search needs
+
+returns-2 : tie.Need-returns-2
+returns-2 c =
+    let start-here = c .before .before .before .before .before .before .before .before .before .before in
+    let if1-here = c .before .before .before .before in
+    let if2-here = c .before in
+    let is-at-here = c .before .before in
+    let a = start-here .args in
+    let q = positionIn (a .name .now) (a .n) (a .class .now) (a .c) in
+    by-instance (a .key .now) (a .b) (a .e) (start-here .pre .0) q (if1-here .if1 .left) _ (sym (is-at-here .is-at .ensures) ∙ if2-here .if2 .taken) (c .mark-of2 .ensures)
+
+is-at-requires-2 : tie.Need-is-at-requires-2
+is-at-requires-2 c κs = search needs
+
+mark-of-requires-3 : tie.Need-mark-of-requires-3
+mark-of-requires-3 c κs = search needs
+
+returns-3 : tie.Need-returns-3
+returns-3 c =
+    let start-here = c .before .before .before .before .before .before .before .before .before .before .before .before in
+    let if1-here = c .before .before .before .before .before .before in
+    let if2-here = c .before .before .before in
+    let is-at-here = c .before .before .before .before in
+    let if3-here = c .before in
+    let is-at2-here = c .before .before in
+    let a = start-here .args in
+    let q = positionIn (a .name .now) (a .n) (a .class .now) (a .c) in
+    by-class (a .key .now) (a .b) (a .e) (start-here .pre .0) q (if1-here .if1 .left) (sym (is-at-here .is-at .ensures) ∙ if2-here .if2 .left) _
+    (sym (is-at2-here .is-at2 .ensures) ∙ if3-here .if3 .taken) (c .mark-of3 .ensures)
+
+returns-4 : tie.Need-returns-4
+returns-4 c =
+    let start-here = c .before .before .before .before .before .before .before .before .before .before .before in
+    let if1-here = c .before .before .before .before .before in
+    let if2-here = c .before .before in
+    let is-at-here = c .before .before .before in
+    let if3-here = c in
+    let is-at2-here = c .before in
+    let a = start-here .args in
+    let q = positionIn (a .name .now) (a .n) (a .class .now) (a .c) in
+    by-none (a .key .now) (a .b) (a .e) (start-here .pre .0) q (if1-here .if1 .left) (sym (is-at-here .is-at .ensures) ∙ if2-here .if2 .left)
+    (sym (is-at2-here .is-at2 .ensures) ∙ if3-here .if3 .left)
+
+pub mark-spec : {M : Type 1} → statement M
+mark-spec =
+    tie.close
+    (tie.spec
+    shared-slice-read-loose
+    add-s
+    shared-slice-read-if1
+    mark-of-requires
+    returns
+    sub-component
+    part-component-start
+    part-component-end
+    is-at-requires
+    mark-of-requires-2
+    returns-2
+    is-at-requires-2
+    mark-of-requires-3
+    returns-3
+    returns-4)

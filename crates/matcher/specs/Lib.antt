@@ -1,0 +1,4 @@
+-- What the code's structs and bytes stand for.
+pub mod Rows
+pub mod Keys
+pub mod Places
