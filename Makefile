@@ -1,0 +1,25 @@
+.PHONY: help test demo record recorded-antt beside
+
+help:
+	@echo 'make test           the gate: rt ci, then every test outside Rattle'
+	@echo 'make demo           shows the product at work'
+	@echo 'make record         writes the recorded answers of the Rust again (tests/recorded)'
+	@echo 'make recorded-antt  prints the short recorded answers as rows for the prover'
+	@echo 'make beside SEED=n  compares the model and the Rust alone, with another seed'
+
+test:
+	@tests/run
+
+demo:
+	@echo 'There is nothing to show yet: no program of the product is here.'
+
+record:
+	@tests/record tests/recorded
+
+recorded-antt:
+	@tests/build >&2
+	@target/tests/recorded antt tests/recorded/small.txt
+
+beside:
+	@tests/build >&2
+	@SEED=$(SEED) tests/beside

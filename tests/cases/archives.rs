@@ -1,0 +1,100 @@
+//! Random archives whose files include each other, and texts that include them.
+
+use crate::draw::Draw;
+use crate::texts;
+use model::archive::{folder, lay_out, File};
+use records::{Query, Source};
+
+/// Names for files, and for includes to look for. Most archives draw from the first few.
+const NAMES: [&[u8]; 16] = [
+    b"p", b"q", b"d/p", b"d/q", b"d/e/p", b"e/p", b"d/d/p", b"r", b"..p", b"p.", b"-", b"a_b/c.d", b"...", b"d/e/e/q", b"P", b"d",
+];
+
+/// A main text with an archive, and a query with which many of their entries align.
+pub fn source(draw: &mut Draw) -> (Source, Query) {
+    let query = texts::query(draw);
+    let names = names(draw);
+    let mut text = texts::text(draw, 2, &query);
+    for _ in 0..draw.between(1, 3) {
+        put_include(draw, &mut text, &names, b"");
+        text.extend(texts::text(draw, 2, &query));
+    }
+    let file = |name: &Vec<u8>| File { name: name.clone(), body: body(draw, &names, name, &query) };
+    let files: Vec<File> = names.iter().map(file).collect();
+    (Source { text, archive: lay_out(&files) }, query)
+}
+
+/// One to five names in the order that an archive asks for.
+fn names(draw: &mut Draw) -> Vec<Vec<u8>> {
+    let reach = if draw.one_in(3) { NAMES.len() } else { 7 };
+    let mut names = Vec::new();
+    for _ in 0..draw.between(1, 5) {
+        names.push(if draw.one_in(40) { long_name(draw, 96) } else { NAMES[draw.below(reach)].to_vec() });
+    }
+    names.sort();
+    names.dedup();
+    names
+}
+
+/// A name of this many bytes, in parts that a file system can hold.
+fn long_name(draw: &mut Draw, length: usize) -> Vec<u8> {
+    let mut name: Vec<u8> = (0..length).map(|at| if at % 60 == 59 { b'/' } else { draw.pick_byte(b"pq-_.9Z") }).collect();
+    // Neither end is a `/`, and no part is only dots.
+    for at in (0..length).step_by(60).chain([length - 1]) {
+        name[at] = b'n';
+    }
+    name
+}
+
+fn body(draw: &mut Draw, names: &[Vec<u8>], name: &[u8], query: &Query) -> Vec<u8> {
+    // Mostly files after this one, so that not every archive goes round in circles.
+    let later = names.iter().position(|of| of == name).map_or(0, |at| at + 1);
+    let names = if draw.one_in(4) { names } else { &names[later..] };
+    let mut body = texts::text(draw, 2, query);
+    for _ in 0..[0, 1, 1, 2][draw.below(4)] {
+        put_include(draw, &mut body, names, folder(name));
+        body.extend(texts::text(draw, 1, query));
+    }
+    body
+}
+
+/// Puts an include on a line of its own; seldom one that misses being an include.
+fn put_include(draw: &mut Draw, text: &mut Vec<u8>, names: &[Vec<u8>], folder: &[u8]) {
+    if !text.is_empty() && !text.ends_with(b"\n") {
+        text.push(b'\n');
+    }
+    let name = include_name(draw, names, folder);
+    let spaces = |draw: &mut Draw| draw.pick(&[b"".as_slice(), b" ", b" ", b"  "]).to_vec();
+    let mut line =
+        [b"#".to_vec(), spaces(draw), b"include".to_vec(), spaces(draw), b"\"".to_vec(), name, b"\"".to_vec()].concat();
+    match draw.below(30) {
+        0 => line.extend(b" a:1"),
+        1 => line.truncate(line.len() - 1),
+        2 => line.insert(1, b'\t'),
+        3 => line.insert(0, b' '),
+        4 => line.push(b'"'),
+        5 => line = line.to_ascii_uppercase(),
+        6 => line.insert(draw.below(line.len()), b'\n'),
+        _ => {}
+    }
+    text.extend(line);
+    text.push(b'\n');
+}
+
+/// Mostly a name that is found from the folder.
+fn include_name(draw: &mut Draw, names: &[Vec<u8>], folder: &[u8]) -> Vec<u8> {
+    let from_folder = |name: &Vec<u8>| match folder {
+        [] => Some(name.clone()),
+        _ => name.strip_prefix(folder)?.strip_prefix(b"/").map(<[u8]>::to_vec),
+    };
+    let found: Vec<Vec<u8>> = names.iter().filter_map(from_folder).collect();
+    match draw.below(100) {
+        0 => Vec::new(),
+        1 => long_name(draw, 97),
+        2 => vec![b'x'; draw.between(254, 300)],
+        3 => draw.pick(&[b"./p".as_slice(), b"../p", b"d//p", b"d/", b"/p", b"d/../p", b"p\x00", b"\xff", b"p q"]).to_vec(),
+        4..=15 => NAMES[draw.below(NAMES.len())].to_vec(),
+        _ if found.is_empty() => NAMES[draw.below(NAMES.len())].to_vec(),
+        _ => found[draw.below(found.len())].clone(),
+    }
+}

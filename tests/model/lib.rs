@@ -1,0 +1,15 @@
+//! The settings core as document 01 lays it down, written for reading and not for speed.
+//!
+//! It is a second reference beside the Rust: it has the limits, the refusals and the image, which
+//! the Rust lacks, and it says which cases document 01 admits to the run beside the Rust. No line
+//! of it comes from the Rust.
+
+pub mod archive;
+pub mod image;
+pub mod limits;
+pub mod line;
+pub mod lookup;
+pub mod matching;
+pub mod query;
+pub mod reading;
+pub mod value;

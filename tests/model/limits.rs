@@ -1,0 +1,38 @@
+//! Document 01's numbers: the limits, and what each refusal is called.
+
+pub const CONTENTS_WORDS: usize = 1538;
+pub const BODIES_BYTES: usize = 32_768;
+pub const TEXT_BYTES: usize = 32_768;
+
+pub const ARCHIVE_BYTES: usize = 65_536;
+pub const ARCHIVE_FILES: usize = 64;
+pub const FILE_NAME_BYTES: usize = 96;
+
+pub const DEPTH: usize = 100;
+pub const OPENS: usize = 4096;
+pub const ENTRIES: usize = 512;
+pub const KEY_PARTS: usize = 16;
+
+pub const QUERY_BYTES: usize = 1024;
+pub const QUERY_PARTS: usize = 32;
+
+/// The refusals in the order of their numbers, from 1.
+#[derive(Clone, Copy, Debug, PartialEq, Eq)]
+pub enum Refusal {
+    ShortBuffers = 1,
+    LongText,
+    BadArchive,
+    ManyOpens,
+    ManyKeyParts,
+    ManyEntries,
+    FullStore,
+    NoImage,
+    LongQuery,
+    ManyQueryParts,
+}
+
+impl Refusal {
+    pub fn number(self) -> u8 {
+        self as u8
+    }
+}

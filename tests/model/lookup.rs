@@ -1,0 +1,57 @@
+//! The lookups in an image. They test 8, 9, malformed, 10, and change no lent byte.
+
+use crate::image::{judge, Place};
+use crate::limits::{Refusal, QUERY_BYTES, QUERY_PARTS};
+use crate::matching::{positions, winner};
+use crate::query::split;
+use crate::value;
+
+/// The place of the value that beats the rest, or none.
+pub fn get_bytes(contents: &[u16], bodies: &[u8], name: &[u8], class: &[u8]) -> Result<Option<Place>, Refusal> {
+    let rows = judge(contents, bodies).ok_or(Refusal::NoImage)?;
+    if name.len() > QUERY_BYTES || class.len() > QUERY_BYTES {
+        return Err(Refusal::LongQuery);
+    }
+    let (Some(name), Some(class)) = (split(name), split(class)) else { return Ok(None) };
+    if name.len() > QUERY_PARTS || class.len() > QUERY_PARTS {
+        return Err(Refusal::ManyQueryParts);
+    }
+    let best = winner(rows.iter().map(|row| &row.key[..]), &positions(&name, &class));
+    Ok(best.map(|number| rows[number].value))
+}
+
+/// The value's place if it is well-formed UTF-8.
+pub fn get_string(contents: &[u16], bodies: &[u8], name: &[u8], class: &[u8]) -> Result<Option<Place>, Refusal> {
+    let found = get_bytes(contents, bodies, name, class)?;
+    Ok(found.filter(|place| value::is_utf8(place.of(bodies))))
+}
+
+pub fn get_bool(contents: &[u16], bodies: &[u8], name: &[u8], class: &[u8]) -> Result<Option<bool>, Refusal> {
+    let found = get_bytes(contents, bodies, name, class)?;
+    Ok(found.and_then(|place| value::boolean(place.of(bodies))))
+}
+
+#[derive(Clone, Copy, Debug, PartialEq, Eq)]
+pub enum Number {
+    Is(i64),
+    NotANumber,
+    None,
+}
+
+/// A value that is not UTF-8 gives none and not "not a number": the Rust parses strings only.
+pub fn get_value(contents: &[u16], bodies: &[u8], name: &[u8], class: &[u8]) -> Result<Number, Refusal> {
+    let found = get_string(contents, bodies, name, class)?;
+    Ok(match found.map(|place| value::number(place.of(bodies))) {
+        Some(Some(number)) => Number::Is(number),
+        Some(None) => Number::NotANumber,
+        None => Number::None,
+    })
+}
+
+/// The value's bytes or else the default's: none and refusals show the default.
+pub fn show<'a>(contents: &[u16], bodies: &'a [u8], name: &[u8], class: &[u8], default: &'a [u8]) -> &'a [u8] {
+    match get_bytes(contents, bodies, name, class) {
+        Ok(Some(place)) => place.of(bodies),
+        _ => default,
+    }
+}

@@ -1,0 +1,56 @@
+//! The model and the recorded answers beside the Rust.
+//!
+//!     beside compare FAMILY SEED ROOM    compares the model and the Rust on one family of cases
+//!     beside record FOLDER SEED ROOM     writes the Rust's answers into the folder
+//!     beside families                    lists the families
+//!
+//! ROOM is a directory in which archives are written out as files.
+
+#[path = "beside/both.rs"]
+mod both;
+#[path = "beside/families.rs"]
+mod families;
+#[path = "beside/recording.rs"]
+mod recording;
+#[path = "beside/rust.rs"]
+mod rust;
+
+use both::Both;
+use rust::Room;
+use std::process::ExitCode;
+
+fn main() -> ExitCode {
+    let words: Vec<String> = std::env::args().skip(1).collect();
+    let words: Vec<&str> = words.iter().map(String::as_str).collect();
+    let result = match words[..] {
+        ["compare", family, seed, room] => compare(family, seed, room),
+        ["record", folder, seed, room] => record(folder, seed, room),
+        ["families"] => Ok(families::names().join("\n")),
+        _ => Err("usage: beside compare FAMILY SEED ROOM | beside record FOLDER SEED ROOM | beside families".to_string()),
+    };
+    match result {
+        Ok(report) => {
+            println!("{report}");
+            ExitCode::SUCCESS
+        }
+        Err(why) => {
+            eprintln!("{why}");
+            ExitCode::FAILURE
+        }
+    }
+}
+
+fn number(word: &str) -> Result<u64, String> {
+    word.parse().map_err(|_| format!("no number: {word}"))
+}
+
+fn compare(family: &str, seed: &str, room: &str) -> Result<String, String> {
+    let run = families::find(family).ok_or(format!("no such family: {family}"))?;
+    let mut both = Both::new(Room::new(room));
+    run(&mut both, number(seed)?)?;
+    both.counts.report()
+}
+
+fn record(folder: &str, seed: &str, room: &str) -> Result<String, String> {
+    recording::record(folder, number(seed)?, &mut Room::new(room))
+}

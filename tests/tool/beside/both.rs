@@ -1,0 +1,280 @@
+//! The model and the Rust on one case: what document 01 admits, what must be equal, what is counted.
+
+use crate::rust::{listed, number, texts, Room};
+use model::archive::{judge, strike};
+use model::image;
+use model::limits::{Refusal, QUERY_BYTES, QUERY_PARTS, TEXT_BYTES};
+use model::line::{write_key, Binding, Part};
+use model::lookup::{get_bool, get_bytes, get_string, get_value};
+use model::matching::{mark, positions, winner, Position};
+use model::query::split;
+use model::reading::{self, Entry, Reading};
+use oracle::resource_manager::Database;
+use records::{Case, Kind, Query, Source};
+use std::collections::BTreeMap;
+
+/// The Rust keeps every partial alignment of a key; past this many it is not asked.
+const MOST_ALIGNMENTS: u64 = 20_000;
+
+/// Why a case is left out of the run.
+type LeftOut = String;
+
+#[derive(Default)]
+pub struct Counts {
+    readings: usize,
+    lookups: usize,
+    /// Lookups whose answer moves with a file struck off.
+    moved: usize,
+    left_out: BTreeMap<LeftOut, usize>,
+}
+
+impl Counts {
+    fn leave_out(&mut self, why: LeftOut) {
+        *self.left_out.entry(why).or_default() += 1;
+    }
+
+    /// What was compared; an error if nothing was.
+    pub fn report(&self) -> Result<String, String> {
+        if self.readings + self.lookups == 0 {
+            return Err("nothing was compared".to_string());
+        }
+        let moved = if self.moved > 0 { format!(" ({} moved)", self.moved) } else { String::new() };
+        let reasons: Vec<String> = self.left_out.iter().map(|(why, count)| format!("{count} {why}")).collect();
+        let left_out = if reasons.is_empty() { "nothing".to_string() } else { reasons.join(", ") };
+        Ok(format!("{} readings and {} lookups{moved} compared; left out: {left_out}", self.readings, self.lookups))
+    }
+}
+
+/// What the Rust read.
+pub struct Read {
+    database: Database,
+    entries: Vec<(Vec<u8>, Vec<u8>)>,
+    opens: usize,
+}
+
+pub struct Both {
+    room: Room,
+    contents: Vec<u16>,
+    bodies: Vec<u8>,
+    pub counts: Counts,
+}
+
+impl Both {
+    pub fn new(room: Room) -> Self {
+        let (contents, bodies) = records::buffers();
+        Self { room, contents, bodies, counts: Counts::default() }
+    }
+
+    /// Compares entries and opens. Gives what the Rust read, or none if the source is left out.
+    pub fn read(&mut self, source: &Source) -> Result<Option<Read>, String> {
+        let reading = match admitted_reading(source) {
+            Ok(reading) => reading,
+            Err(why) => {
+                self.counts.leave_out(why);
+                return Ok(None);
+            }
+        };
+        let (database, opens) = self.room.read(source);
+        let read = Read { entries: listed(&database), database, opens };
+        if read.entries != entries(&reading.entries) || read.opens != reading.opens {
+            return Err(self.difference(&Case::read(source.clone())));
+        }
+        self.counts.readings += 1;
+        Ok(Some(read))
+    }
+
+    /// Compares a source, the image that the model makes of it, and the answers to the queries.
+    pub fn ask(&mut self, source: &Source, queries: &[Query]) -> Result<(), String> {
+        let Some(read) = self.read(source)? else { return Ok(()) };
+        self.take_image(source, &read)?;
+        queries.iter().try_for_each(|query| self.look_up(&read.database, source, query))
+    }
+
+    /// As `ask`, by bytes alone, for very many queries that are known to be small.
+    pub fn ask_bytes(&mut self, source: &Source, queries: &[Query]) -> Result<(), String> {
+        let Some(read) = self.read(source)? else { return Ok(()) };
+        self.take_image(source, &read)?;
+        queries.iter().try_for_each(|query| self.find(&read.database, source, query))
+    }
+
+    /// Has the model write its image, which must hold what the Rust read, for the lookups that follow.
+    fn take_image(&mut self, source: &Source, read: &Read) -> Result<(), String> {
+        let accepted = image::read(&mut self.contents, &mut self.bodies, &source.text, &source.archive);
+        let same = accepted == Ok(image::Accepted { entries: read.entries.len(), opens: read.opens });
+        if !same || records::listed(&self.contents, &self.bodies) != read.entries {
+            return Err(self.difference(&Case::read(source.clone())));
+        }
+        Ok(())
+    }
+
+    /// Compares all four readings of the value that a query finds.
+    fn look_up(&mut self, database: &Database, source: &Source, query: &Query) -> Result<(), String> {
+        if let Err(why) = self.admit_query(query) {
+            self.counts.leave_out(why);
+            return Ok(());
+        }
+        let (name, class) = texts(query).expect("an admitted query");
+        let (contents, bodies) = (&self.contents, &self.bodies);
+        let (n, c) = (&query.name[..], &query.class[..]);
+        let bytes = get_bytes(contents, bodies, n, c).map(|found| found.map(|place| place.of(bodies)));
+        let string = get_string(contents, bodies, n, c).map(|found| found.map(|place| place.of(bodies)));
+        let same = [
+            (Kind::Bytes, bytes == Ok(database.get_bytes(name, class))),
+            (Kind::String, string == Ok(database.get_string(name, class).map(str::as_bytes))),
+            (Kind::Bool, get_bool(contents, bodies, n, c) == Ok(database.get_bool(name, class))),
+            (Kind::Value, get_value(contents, bodies, n, c) == Ok(number(database, name, class))),
+        ];
+        if let Some((kind, _)) = same.iter().find(|(_, same)| !same) {
+            return Err(self.difference(&Case::ask(*kind, source.clone(), query.clone())));
+        }
+        self.counts.lookups += 1;
+        Ok(())
+    }
+
+    fn find(&mut self, database: &Database, source: &Source, query: &Query) -> Result<(), String> {
+        let (name, class) = texts(query).expect("a query in UTF-8");
+        let found = get_bytes(&self.contents, &self.bodies, &query.name, &query.class);
+        if found.map(|found| found.map(|place| place.of(&self.bodies))) != Ok(database.get_bytes(name, class)) {
+            return Err(self.difference(&Case::ask(Kind::Bytes, source.clone(), query.clone())));
+        }
+        self.counts.lookups += 1;
+        Ok(())
+    }
+
+    fn admit_query(&self, query: &Query) -> Result<(), LeftOut> {
+        let rows = image::judge(&self.contents, &self.bodies).expect("the image of a reading");
+        admitted_query(query, rows.iter().map(|row| &row.key[..]))
+    }
+
+    /// The third term on one file and some queries: what the Rust reads and finds with the file
+    /// struck off, against the chains of includes that the definition gives with the file.
+    pub fn strike(&mut self, source: &Source, which: usize, queries: &[Query]) -> Result<(), String> {
+        let Ok(reading) = admitted_reading(source) else { return self.read(source).map(drop) };
+        let archive = judge(&source.archive).expect("an admitted archive");
+        let file = &archive.files[which].name;
+        let left: Vec<Entry> = reading.entries.iter().filter(|entry| !entry.came_through(file)).cloned().collect();
+        let struck = Source { text: source.text.clone(), archive: strike(&source.archive, which) };
+        let why = |what: &str| format!("{what} with file {which} struck off from {}", describe(&Case::read(source.clone())));
+
+        let second = self.read(&struck)?.ok_or_else(|| why("the reading is refused"))?;
+        if second.entries != entries(&left) {
+            return Err(why("other entries"));
+        }
+        let (first, _) = self.room.read(source);
+        for query in queries {
+            if let Err(why) = admitted_query(query, reading.entries.iter().map(|entry| &entry.key[..])) {
+                self.counts.leave_out(why);
+                continue;
+            }
+            let (name, class) = texts(query).expect("an admitted query");
+            let equal = first.get_bytes(name, class) == second.database.get_bytes(name, class);
+            if equal != is_unmoved(&reading, &left, file, query) {
+                return Err(why(&format!("another answer to {name:?}, {class:?}")));
+            }
+            self.counts.lookups += 1;
+            self.counts.moved += usize::from(!equal);
+        }
+        Ok(())
+    }
+
+    fn difference(&mut self, case: &Case) -> String {
+        let rust = records::write_line(case, &self.room.answer(case));
+        let model = match records::model_answer(case) {
+            Ok(answer) => records::write_line(case, &answer),
+            Err(refusal) => format!("refused {}", refusal.number()),
+        };
+        format!("they differ\n{}\nthe Rust:  {rust}\nthe model: {model}", describe(case))
+    }
+}
+
+fn describe(case: &Case) -> String {
+    let shown = |bytes: &[u8]| format!("\"{}\"", bytes.escape_ascii());
+    let files = judge(&case.source.archive).map(|archive| archive.files).unwrap_or_default();
+    let files: Vec<String> = files.iter().map(|file| format!("{} => {}", shown(&file.name), shown(&file.body))).collect();
+    let query = format!("name {}, class {}", shown(&case.query.name), shown(&case.query.class));
+    format!("text {}, files [{}], {query}", shown(&case.source.text), files.join("; "))
+}
+
+fn entries(entries: &[Entry]) -> Vec<(Vec<u8>, Vec<u8>)> {
+    entries.iter().map(|entry| (write_key(&entry.key), entry.value.clone())).collect()
+}
+
+/// The model's reading of a source that document 01 admits to the run.
+fn admitted_reading(source: &Source) -> Result<Reading, LeftOut> {
+    let refused = |refusal: Refusal| format!("readings refused by {}", refusal.number());
+    if source.text.len() > TEXT_BYTES {
+        return Err(refused(Refusal::LongText));
+    }
+    let archive = judge(&source.archive).ok_or(refused(Refusal::BadArchive))?;
+    if archive.has_file_as_folder() {
+        return Err("archives with a file that is also a folder".to_string());
+    }
+    let reading = reading::read(&source.text, &archive).map_err(refused)?;
+    if reading.met_odd_name {
+        return Err("includes of names not built like an archive's".to_string());
+    }
+    Ok(reading)
+}
+
+/// Whether document 01 admits a query to the run, and the Rust can hold its alignments with the keys.
+fn admitted_query<'a>(query: &Query, mut keys: impl Iterator<Item = &'a [Part]>) -> Result<(), LeftOut> {
+    if texts(query).is_none() {
+        return Err("queries not in UTF-8".to_string());
+    }
+    if query.name.len() > QUERY_BYTES || query.class.len() > QUERY_BYTES {
+        return Err("queries refused by 9".to_string());
+    }
+    let (Some(name), Some(class)) = (split(&query.name), split(&query.class)) else { return Ok(()) };
+    if name.len() > QUERY_PARTS || class.len() > QUERY_PARTS {
+        return Err("queries refused by 10".to_string());
+    }
+    let positions = positions(&name, &class);
+    if keys.any(|key| alignments(key, &positions) > MOST_ALIGNMENTS) {
+        return Err(format!("lookups with over {MOST_ALIGNMENTS} alignments, which the Rust holds side by side"));
+    }
+    Ok(())
+}
+
+/// Whether a case is admitted to the run, and the Rust can hold it.
+pub fn is_admitted(case: &Case) -> bool {
+    let Ok(reading) = admitted_reading(&case.source) else { return false };
+    admitted_query(&case.query, reading.entries.iter().map(|entry| &entry.key[..])).is_ok()
+}
+
+/// The most partial alignments of a key that stand side by side at any position.
+fn alignments(key: &[Part], positions: &[Position]) -> u64 {
+    let mut at = vec![0u64; key.len() + 1];
+    at[0] = 1;
+    let mut most = 1;
+    for position in positions {
+        let mut next = vec![0u64; key.len() + 1];
+        for (k, part) in key.iter().enumerate() {
+            if part.binding == Binding::Loose {
+                next[k] = next[k].saturating_add(at[k]);
+            }
+            if mark(part, position).is_some() {
+                next[k + 1] = next[k + 1].saturating_add(at[k]);
+            }
+        }
+        at = next;
+        most = most.max(at.iter().fold(0, |sum: u64, n| sum.saturating_add(*n)));
+    }
+    most
+}
+
+/// The third term's condition: no entry that came through the file beats the rest; or one does,
+/// some entry beats the rest once all that came through are left out, and both carry the same bytes.
+fn is_unmoved(reading: &Reading, left: &[Entry], file: &[u8], query: &Query) -> bool {
+    let Some(first) = beating(&reading.entries, query) else { return true };
+    if !first.came_through(file) {
+        return true;
+    }
+    beating(left, query).is_some_and(|second| second.value == first.value)
+}
+
+/// The entry that beats the rest; none if nothing aligns, as with a malformed query.
+fn beating<'a>(entries: &'a [Entry], query: &Query) -> Option<&'a Entry> {
+    let (name, class) = (split(&query.name)?, split(&query.class)?);
+    let number = winner(entries.iter().map(|entry| &entry.key[..]), &positions(&name, &class))?;
+    Some(&entries[number])
+}

@@ -1,0 +1,378 @@
+//! Tests of the model by itself: document 01's examples and limits, written out by hand.
+//!
+//!     model_tests NAME    runs one test
+//!     model_tests list    lists the tests
+
+use cases::archives;
+use cases::draw::Draw;
+use cases::limits::edges;
+use cases::words::{keys, queries};
+use model::archive::{judge, lay_out, strike};
+use model::image::{self, Accepted};
+use model::limits::{BODIES_BYTES, CONTENTS_WORDS};
+use model::line::{read_key, Part};
+use model::lookup::{get_bool, get_bytes, get_value, show, Number};
+use model::matching::{all_rows, beats_the_rest, highest_row, positions, winner};
+use model::query::split;
+use records::Source;
+use std::process::ExitCode;
+
+type Test = fn() -> Result<String, String>;
+
+const TESTS: [(&str, Test); 8] = [
+    ("examples", examples),
+    ("booleans", booleans),
+    ("limits", limits),
+    ("short-buffers", short_buffers),
+    ("lookup-order", lookup_order),
+    ("bad-images", bad_images),
+    ("rows", rows),
+    ("striking-off", striking_off),
+];
+
+fn main() -> ExitCode {
+    let word = std::env::args().nth(1).unwrap_or_default();
+    if word == "list" {
+        TESTS.iter().for_each(|(name, _)| println!("{name}"));
+        return ExitCode::SUCCESS;
+    }
+    let result = match TESTS.iter().find(|(name, _)| *name == word) {
+        Some((_, test)) => test(),
+        None => Err(format!("no such test: {word}")),
+    };
+    match result {
+        Ok(report) => println!("{report}"),
+        Err(why) => {
+            eprintln!("{why}");
+            return ExitCode::FAILURE;
+        }
+    }
+    ExitCode::SUCCESS
+}
+
+fn same<T: PartialEq + std::fmt::Debug>(what: &str, got: T, expected: T) -> Result<(), String> {
+    if got == expected {
+        Ok(())
+    } else {
+        Err(format!("{what}: {got:?}, and not {expected:?}"))
+    }
+}
+
+/// Lent buffers, longer than needed and filled with something.
+struct Lent {
+    contents: Vec<u16>,
+    bodies: Vec<u8>,
+}
+
+const SPARE: usize = 7;
+const WORD: u16 = 0xA5C3;
+const BYTE: u8 = 0x5A;
+
+impl Lent {
+    fn new() -> Self {
+        Self::of(CONTENTS_WORDS + SPARE, BODIES_BYTES + SPARE)
+    }
+
+    fn of(words: usize, bytes: usize) -> Self {
+        Self { contents: vec![WORD; words], bodies: vec![BYTE; bytes] }
+    }
+
+    fn read(&mut self, source: &Source) -> Result<Accepted, u8> {
+        image::read(&mut self.contents, &mut self.bodies, &source.text, &source.archive).map_err(|refusal| refusal.number())
+    }
+
+    fn is_untouched(&self) -> bool {
+        self.contents.iter().all(|&w| w == WORD) && self.bodies.iter().all(|&b| b == BYTE)
+    }
+
+    fn is_untouched_past_the_image(&self) -> bool {
+        self.contents[CONTENTS_WORDS..].iter().all(|&w| w == WORD) && self.bodies[BODIES_BYTES..].iter().all(|&b| b == BYTE)
+    }
+
+    /// Whether the words and bytes after the entries, up to the image's end, are zero.
+    fn is_zero_after(&self, entries: usize) -> bool {
+        let used = self.contents[1] as usize;
+        self.contents[2 + 3 * entries..CONTENTS_WORDS].iter().all(|&w| w == 0)
+            && self.bodies[used..BODIES_BYTES].iter().all(|&b| b == 0)
+    }
+}
+
+fn image_of(text: &[u8]) -> Lent {
+    let mut lent = Lent::new();
+    lent.read(&Source::plain(text)).expect("a text within limits");
+    lent
+}
+
+/// The value found by bytes, or none.
+fn found<'a>(lent: &'a Lent, name: &[u8], class: &[u8]) -> Option<&'a [u8]> {
+    let place = get_bytes(&lent.contents, &lent.bodies, name, class).expect("a query within limits");
+    place.map(|place| place.of(&lent.bodies))
+}
+
+/// Document 01's proved examples, its archive and its list.
+fn examples() -> Result<String, String> {
+    type Entries<'a> = &'a [(&'a str, &'a [u8])];
+    let lines: [(&[u8], Entries); 9] = [
+        (b"a..*b:x", &[(".a*b", b"x")]),
+        (b"foo?bar: x", &[(".foo.?.bar", b"x")]),
+        (b"a.?: x", &[]),
+        (b"a.: x", &[]),
+        (b" a: x", &[]),
+        (b"a:\\101\\400", &[(".a", b"\x41\x00")]),
+        (b"a:\\12", &[(".a", b"")]),
+        (b"a:\\12z", &[(".a", b"\x5C\x31\x32\x7A")]),
+        (b"a.b: x\n*c: yes\n", &[(".a.b", b"x"), ("*c", b"yes")]),
+    ];
+    for (text, expected) in lines {
+        let lent = image_of(text);
+        let expected: Vec<_> = expected.iter().map(|(key, value)| (key.as_bytes().to_vec(), value.to_vec())).collect();
+        same("entries", records::listed(&lent.contents, &lent.bodies), expected)?;
+    }
+    let parts = |text| split(text).map(|parts| parts.len());
+    same("a..", parts(b"a.."), Some(1))?;
+    same(".a", parts(b".a"), None)?;
+    let lookups: [(&[u8], &[u8]); 6] = [
+        (b"a*b: 2\n*b: 1", b"2"),
+        (b"*b: 1\na*b: 2", b"2"),
+        (b"?.b: 1\n*b: 2", b"1"),
+        (b"*b: 2\n?.b: 1", b"1"),
+        (b"a*b: 1\na*b: 2", b"2"),
+        (b"*a.b: 1", b"1"),
+    ];
+    for (text, expected) in lookups {
+        let name: &[u8] = if text == b"*a.b: 1" { b"a.a.b" } else { b"a.b" };
+        same("lookup", found(&image_of(text), name, b""), Some(expected))?;
+    }
+    let archive = [0x01, 0x00, 0x01, 0x00, 0x03, 0x00, 0x70, 0x62, 0x3A, 0x31];
+    same("the archive of p", Source::with(b"", &[(b"p", b"b:1")]).archive, archive.to_vec())?;
+    same("its only file struck off", strike(&archive, 0), vec![0, 0])?;
+    Ok(format!("{} lines, {} lookups", lines.len(), lookups.len()))
+}
+
+fn booleans() -> Result<String, String> {
+    use Number::{Is, NotANumber};
+    let cases: [(&[u8], Option<bool>, Number); 16] = [
+        (b"+5", Some(true), Is(5)),
+        (b"-0", Some(false), Is(0)),
+        (b"-", None, NotANumber),
+        (b"+", None, NotANumber),
+        (b"", None, NotANumber),
+        (b"9223372036854775807", Some(true), Is(i64::MAX)),
+        (b"9223372036854775808", None, NotANumber),
+        (b"-9223372036854775808", Some(true), Is(i64::MIN)),
+        (b"-9223372036854775809", None, NotANumber),
+        (b"000000000000000000000000000000", Some(false), Is(0)),
+        (b"True", Some(true), NotANumber),
+        (b"ON", Some(true), NotANumber),
+        (b"yes", Some(true), NotANumber),
+        (b"fALSE", Some(false), NotANumber),
+        (b"oFF", Some(false), NotANumber),
+        (b"nO", Some(false), NotANumber),
+    ];
+    for (value, boolean, number) in cases {
+        let lent = image_of(&[b"a:", value].concat());
+        same("boolean", get_bool(&lent.contents, &lent.bodies, b"a", b"").ok(), Some(boolean))?;
+        same("number", get_value(&lent.contents, &lent.bodies, b"a", b"").ok(), Some(number))?;
+    }
+    Ok(format!("{} values", cases.len()))
+}
+
+/// Each case at a limit: what it gives, and what it leaves in the buffers.
+fn limits() -> Result<String, String> {
+    let edges = edges();
+    for edge in &edges {
+        let mut lent = Lent::new();
+        let got = lent.read(&edge.source);
+        same(edge.label, got.map(|accepted| (accepted.entries, accepted.opens)), edge.expected)?;
+        let good = match got {
+            Err(1..=3) => lent.is_untouched(),
+            Err(_) => lent.contents[..2] == [0, 0] && lent.is_zero_after(0) && lent.is_untouched_past_the_image(),
+            Ok(accepted) => {
+                let judged = image::judge(&lent.contents, &lent.bodies).is_some_and(|rows| rows.len() == accepted.entries);
+                judged && lent.is_zero_after(accepted.entries) && lent.is_untouched_past_the_image()
+            }
+        };
+        same(edge.label, good, true)?;
+    }
+    Ok(format!("{} cases", edges.len()))
+}
+
+/// Refusal 1 comes first, changes nothing, and is not given to buffers that are just long enough.
+fn short_buffers() -> Result<String, String> {
+    let text = Source::plain(b"a:1");
+    let long = Source::plain(&[b'\n'; 32_769]);
+    let sizes = [(0, 0, Err(1)), (1537, 32_768, Err(1)), (1538, 32_767, Err(1)), (0, 40_000, Err(1)), (1538, 32_768, Ok(1))];
+    for (words, bytes, expected) in sizes {
+        let mut lent = Lent::of(words, bytes);
+        same("a text", lent.read(&text).map(|accepted| accepted.entries), expected)?;
+        same("buffers untouched", lent.is_untouched(), expected.is_err())?;
+        let mut lent = Lent::of(words, bytes);
+        let expected = expected.and(Err(2));
+        same("a long text", lent.read(&long).map(|accepted| accepted.entries), expected)?;
+        same("buffers untouched", lent.is_untouched(), true)?;
+    }
+    Ok(format!("{} sizes", sizes.len()))
+}
+
+/// Lookups test 8, 9, malformed, 10; the show call turns none and refusals into the default.
+fn lookup_order() -> Result<String, String> {
+    let good = image_of(b"*a:1");
+    let mut bad = image_of(b"*a:1");
+    bad.contents[0] = 513;
+    let long = vec![b'a'; 1025];
+    let long_malformed = vec![b'.'; 1025];
+    let wide = vec![b"a".to_vec(); 33].join(&b'.');
+    let most = vec![b"a".to_vec(); 32].join(&b'.');
+    let cases: [(&Lent, &[u8], &[u8], Result<bool, u8>); 10] = [
+        (&good, b"a", b"", Ok(true)),
+        (&good, b"b", b"", Ok(false)),
+        (&good, &most, &most, Ok(true)),
+        (&good, &wide, b"", Err(10)),
+        (&good, b"a", &wide, Err(10)),
+        (&good, &wide, b".", Ok(false)),
+        (&good, b".", &wide, Ok(false)),
+        (&good, b".", &long, Err(9)),
+        (&good, &long_malformed, b"", Err(9)),
+        (&bad, &long, b"", Err(8)),
+    ];
+    for (lent, name, class, expected) in cases {
+        let got = get_bytes(&lent.contents, &lent.bodies, name, class);
+        same("lookup", got.map(|place| place.is_some()).map_err(|refusal| refusal.number()), expected)?;
+        let shown = show(&lent.contents, &lent.bodies, name, class, b"default");
+        same("shown", shown, if expected == Ok(true) { b"1".as_slice() } else { b"default" })?;
+    }
+    Ok(format!("{} lookups", cases.len()))
+}
+
+/// Images spoilt in one place, each of which must be found bad, and changes that leave an image good.
+fn bad_images() -> Result<String, String> {
+    // Rows: .a 1 at 0, then *b.c 22 at 3; 9 bytes in all.
+    let image = || image_of(b"a:1\n*b.c:22");
+    let word = |at: usize, value: u16| {
+        let mut lent = image();
+        lent.contents[at] = value;
+        lent
+    };
+    let byte = |at: usize, value: u8| {
+        let mut lent = image();
+        lent.bodies[at] = value;
+        lent
+    };
+    let cut = |words: usize, bytes: usize| {
+        let mut lent = image();
+        lent.contents.truncate(words);
+        lent.bodies.truncate(bytes);
+        lent
+    };
+    let words = |changes: &[(usize, u16)]| {
+        let mut lent = image();
+        changes.iter().for_each(|&(at, value)| lent.contents[at] = value);
+        lent
+    };
+    let mut full = Lent::of(CONTENTS_WORDS, BODIES_BYTES);
+    full.contents.fill(0);
+    full.contents[..5].copy_from_slice(&[1, 32_768, 0, 2, 32_766]);
+    full.bodies[..2].copy_from_slice(b".a");
+    let mut over = Lent::of(CONTENTS_WORDS + SPARE, BODIES_BYTES + SPARE);
+    over.contents.fill(0);
+    over.contents[..5].copy_from_slice(&[1, 32_769, 0, 2, 32_767]);
+    over.bodies[..2].copy_from_slice(b".a");
+    let keyed = |key: &[u8]| {
+        let mut lent = Lent::of(CONTENTS_WORDS, BODIES_BYTES);
+        lent.contents[..5].copy_from_slice(&[1, key.len() as u16, 0, key.len() as u16, 0]);
+        lent.bodies[..key.len()].copy_from_slice(key);
+        lent
+    };
+    let dotted = |parts: usize| b".a".repeat(parts);
+    let cases: Vec<(&str, Lent, bool)> = vec![
+        ("as read", image(), true),
+        ("just long enough", cut(CONTENTS_WORDS, BODIES_BYTES), true),
+        ("contents too short", cut(CONTENTS_WORDS - 1, BODIES_BYTES), false),
+        ("bodies too short", cut(CONTENTS_WORDS, BODIES_BYTES - 1), false),
+        ("count 513", word(0, 513), false),
+        ("one entry less", word(0, 1), false),
+        ("one entry less, and used", words(&[(0, 1), (1, 3)]), true),
+        ("one entry more", word(0, 3), false),
+        ("no entries, but used", word(0, 0), false),
+        ("no entries", words(&[(0, 0), (1, 0)]), true),
+        ("used one less", word(1, 8), false),
+        ("used one more", word(1, 10), false),
+        ("used fills the store", full, true),
+        ("used past the store", over, false),
+        ("a first start of 1", word(2, 1), false),
+        ("a gap before the second", word(5, 4), false),
+        ("a second start too early", word(5, 2), false),
+        ("lengths that pass the sum", word(4, 65_535), false),
+        ("a key length that takes in the value", words(&[(3, 3), (4, 0)]), true),
+        ("a key that ends in its binding", words(&[(3, 1), (4, 2)]), false),
+        ("an empty key", words(&[(3, 0), (4, 3)]), false),
+        ("a key without its binding", byte(0, b'a'), false),
+        ("a key with a byte that is no name's", byte(1, b'+'), false),
+        ("a key that ends in ?", byte(1, b'?'), false),
+        ("a key with ? inside", byte(4, b'?'), true),
+        ("a value of any byte", byte(2, 0), true),
+        ("something in unused words", word(1000, 9), true),
+        ("something in unused bytes", byte(20_000, 9), true),
+        ("16 parts", keyed(&dotted(16)), true),
+        ("17 parts", keyed(&dotted(17)), false),
+        ("two bindings", keyed(b".*a"), false),
+        ("a ? that adjoins", keyed(b".?a"), false),
+        ("a ? with bindings", keyed(b"*?.a"), true),
+    ];
+    for (label, lent, good) in &cases {
+        same(label, image::judge(&lent.contents, &lent.bodies).is_some(), *good)?;
+        let looked_up = get_bytes(&lent.contents, &lent.bodies, b"a", b"").map_err(|refusal| refusal.number());
+        same(label, looked_up.err(), if *good { None } else { Some(8) })?;
+    }
+    Ok(format!("{} images", cases.len()))
+}
+
+/// The highest row is the greatest of all rows, and just one entry of those that align beats the rest.
+fn rows() -> Result<String, String> {
+    let parsed = |most| keys(most).iter().map(|key| read_key(key).expect("a key")).collect::<Vec<Vec<Part>>>();
+    let mut count = 0;
+    let names = queries(b"ab", 4);
+    for key in parsed(4) {
+        for name in &names {
+            for class in &names {
+                let (name, class) = (split(name).expect("a query"), split(class).expect("a query"));
+                let positions = positions(&name, &class);
+                same("highest", highest_row(&key, &positions), all_rows(&key, &positions).into_iter().max())?;
+                count += 1;
+            }
+        }
+    }
+    let short = parsed(2);
+    let names = queries(b"ab", 3);
+    for first in &short {
+        for second in &short {
+            for (name, class) in names.iter().zip(names.iter().rev()) {
+                let (name, class) = (split(name).expect("a query"), split(class).expect("a query"));
+                let (keys, positions) = ([&first[..], &second[..], &first[..]], positions(&name, &class));
+                let beating: Vec<usize> = (0..keys.len()).filter(|&which| beats_the_rest(&keys, &positions, which)).collect();
+                let winners: Vec<usize> = winner(keys.into_iter(), &positions).into_iter().collect();
+                same("who beats the rest", beating, winners)?;
+                count += 1;
+            }
+        }
+    }
+    Ok(format!("{count} lookups"))
+}
+
+/// Striking off on the bytes gives the archive of the other files.
+fn striking_off() -> Result<String, String> {
+    let draw = &mut Draw::new(1, "striking off");
+    let mut count = 0;
+    for _ in 0..2_000 {
+        let archive = archives::source(draw).0.archive;
+        let files = judge(&archive).expect("a good archive").files;
+        for which in 0..files.len() {
+            let mut others = files.clone();
+            others.remove(which);
+            same("struck off", strike(&archive, which), lay_out(&others))?;
+            same("the rest", judge(&lay_out(&others)).map(|archive| archive.files), Some(others))?;
+            count += 1;
+        }
+    }
+    Ok(format!("{count} files"))
+}
