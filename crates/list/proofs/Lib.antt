@@ -1,0 +1,4 @@
+-- Laws of the list program.
+pub mod Numbers
+pub mod Lines
+pub mod Walking

@@ -1,0 +1,3 @@
+-- What the contracts of the list program cite beside the definition.
+pub mod Images
+pub mod Listing
