@@ -6,6 +6,7 @@ ghost use lib.ListN.{length, take};
 ghost use Rattle.definition.specs.Limits.{textBytes};
 ghost use Rattle.definition.specs.Text.{Entry};
 ghost use Rattle.list.specs.Images.{Laid, Holds};
+ghost use Rattle.list.specs.Input.{within};
 ghost use Rattle.list.specs.Listing.{decimal, entryLine, entryLines, wordLine, printed};
 use libc::STDIN_FILENO;
 use libc::STDOUT_FILENO;
@@ -74,4 +75,84 @@ fn put_entries(contents: &[u16], bodies: &[u8], out: &mut [u8], at: usize) -> us
     end
 }
 
-fn main() {}
+// Reads a main text, and puts what is written for it at the start of `out`.
+fn list(text: &[u8], out: &mut [u8]) -> usize
+    requires { ⌜ length (now out) ≡ 65536 ⌝ }
+    ensures { λ r. ⌜ (r ≤ 65536) × (take r (now (out .exit)) ≡ printed (now (text .entry))) ⌝ }
+{
+    let mut contents = [0; 1538];
+    let mut bodies = [0; 32768];
+    let answer = reader::read(text, b"\0\0", &mut contents, &mut bodies);
+    match answer {
+        Answer::Accepted(entries, _) => {
+            let end = put_word(b"entries", entries, out);
+            put_entries(&contents, &bodies, out, end)
+        }
+        Answer::Refused(number) => put_word(b"refused", number as usize, out),
+    }
+}
+
+// Puts what is written for a text that is longer than the buffer.
+fn refuse_long(out: &mut [u8]) -> usize
+    requires { ⌜ length (now out) ≡ 65536 ⌝ }
+    ensures { λ r. ⌜ (r ≤ 65536) × ((text : List ℕ) → textBytes < length text → take r (now (out .exit)) ≡ printed text) ⌝ }
+{
+    put_word(b"refused", 2, out)
+}
+
+// What standard input holds: so many bytes, more than there is room for, or what cannot be read.
+enum Input {
+    Whole(usize),
+    Longer,
+    Failed,
+}
+
+// Reads standard input to its end, and one byte further if `text` is full.
+fn read_input(text: &mut [u8]) -> Input
+    ensures { λ r. ⌜ within (length (now (text .exit))) r ⌝ }
+{
+    let mut n = 0;
+    while n < text.len() {
+        let got = libc::read(STDIN_FILENO, &mut text[n..]);
+        if got < 0 {
+            return Input::Failed;
+        }
+        let more = io::count(got, &text[n..]);
+        if more == 0 {
+            return Input::Whole(n);
+        }
+        n += more;
+    }
+    let mut further = [0; 1];
+    let got = libc::read(STDIN_FILENO, &mut further);
+    if got < 0 {
+        return Input::Failed;
+    }
+    if got > 0 {
+        return Input::Longer;
+    }
+    Input::Whole(n)
+}
+
+fn write(bytes: &[u8]) {
+    if !io::write_all(STDOUT_FILENO, bytes) {
+        os::fail(b"standard output");
+    }
+}
+
+fn main() {
+    let mut text = [0; 32768];
+    let mut out = io::large_buffer();
+    let input = read_input(&mut text);
+    match input {
+        Input::Whole(n) => {
+            let end = list(&text[..n], &mut out);
+            write(&out[..end]);
+        }
+        Input::Longer => {
+            let end = refuse_long(&mut out);
+            write(&out[..end]);
+        }
+        Input::Failed => os::fail(b"standard input"),
+    }
+}
