@@ -12,12 +12,13 @@ use Rattle.definition.specs.Limits.{contentsWords, bodyBytes, mostEntries, text
 use Rattle.definition.specs.Text.{Entry}
 use Rattle.definition.specs.Including.{Entered, opensOf}
 use Rattle.definition.specs.Image.{contentsOf, storeOf, writtenOver, imageContents, imageBodies, tooShort}
+use Rattle.definition.specs.Evaluation.{noFiles}
 use Rattle.definition.specs.Reading.{Answer, accepted, refused, Outcome, outcome, reading, plain, readEntries, met}
 use Rattle.laws.proofs.Image.{length-zeroes}
 use Rattle.laws.proofs.Limits.{used-store}
 use Rattle.laws.proofs.Reading.{Reads, accepted-reads, reads-outcome}
 use Rattle.list.specs.Images.{Laid, Holds}
-use Rattle.list.specs.Listing.{entryLines, wordLine, written, printed, noFiles}
+use Rattle.list.specs.Listing.{entryLines, wordLine, written, printed}
 
 -- the buffers hold the image that was written over them
 laid-over : (es : List Entry) (contents bodies : List ℕ) → Laid es (imageContents es contents) (imageBodies es bodies)

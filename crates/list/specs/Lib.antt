@@ -2,3 +2,4 @@
 pub mod Images
 pub mod Input
 pub mod Listing
+pub mod Examples

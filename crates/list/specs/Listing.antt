@@ -8,6 +8,7 @@ use Rattle.definition.specs.Bytes.{space, newline}
 use Rattle.definition.specs.Limits.{contentsWords, bodyBytes}
 use Rattle.definition.specs.Text.{Entry}
 use Rattle.definition.specs.Image.{keyOf}
+use Rattle.definition.specs.Evaluation.{noFiles}
 use Rattle.definition.specs.Reading.{Answer, accepted, refused, reading, plain, readEntries}
 
 -- n in decimal, with no zero in front, in at most k digits
@@ -37,10 +38,6 @@ unfoldable pub written : Answer → List Entry → List ℕ
 written (accepted n opens) es = wordLine (ascii "entries") (length es) ++ entryLines 0 es
 written (refused k) es = wordLine (ascii "refused") k
 
--- the two bytes of an archive of no files
-abbrev pub noFiles : List ℕ
-noFiles = 0 ∷ 0 ∷ []
-
--- what is written for a main text
+-- what is written for a main text, read with an archive of no files
 unfoldable pub printed : List ℕ → List ℕ
 printed text = written (reading text noFiles (zeroes contentsWords) (zeroes bodyBytes) .answer) (plain (readEntries text noFiles))

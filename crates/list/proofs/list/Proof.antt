@@ -4,8 +4,9 @@ use mathlib.Core.Path.{ap, _∙_}
 use Prim.Native.Nat.{ℕ}
 use native.Mathlib.Omega.{arith}
 use Rattle.definition.specs.Lists.{zeroes}
+use Rattle.definition.specs.Evaluation.{noFiles}
 use Rattle.definition.specs.Reading.{plain, readEntries}
-use Rattle.list.specs.Listing.{entryLines, noFiles}
+use Rattle.list.specs.Listing.{entryLines}
 use Rattle.list.proofs.Printing.{accepted-holds, accepted-laid, accepted-printed, refused-printed}
 use borrow.Author.Needs.{needs}
 use Rattle.list.proofs.list.Statement.{statement}
