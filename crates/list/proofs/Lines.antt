@@ -1,0 +1,26 @@
+-- Lines put together piece by piece. Assumes nothing.
+use mathlib.Core.Path.{_≡_, refl, ap, sym, _∙_}
+use mathlib.Core.List.{List, [], _∷_, _++_, append-assoc}
+use Prim.Native.Nat.{ℕ, _+_, _≤_}
+use native.Mathlib.Omega.{arith}
+use lib.ListN.{length, take}
+use Rattle.definition.specs.Bytes.{space, newline}
+use Rattle.list.specs.Listing.{decimal, wordLine, entryLine}
+use lib.Seq.{paste, take-paste, take-length}
+
+-- what is put stands after what stood before it
+pub put-at : (old new bytes : List ℕ) (at : ℕ) → at + length bytes ≤ length old → new ≡ paste old at bytes (length bytes)
+    → take (at + length bytes) new ≡ take at old ++ bytes
+put-at old new bytes at h e =
+    ap (take (at + length bytes)) e ∙ take-paste old at bytes (length bytes) (omega arith) (omega arith) ∙ ap (λ (t : List ℕ). take at old ++ t) (take-length bytes)
+
+-- a line is put piece by piece
+pub word-put : (word : List ℕ) (n : ℕ) (t₁ t₂ t₃ t₄ : List ℕ) → t₁ ≡ word → t₂ ≡ t₁ ++ space ∷ [] → t₃ ≡ t₂ ++ decimal n → t₄ ≡ t₃ ++ newline ∷ []
+    → t₄ ≡ wordLine word n
+unfolding wordLine
+word-put word n t₁ t₂ t₃ t₄ a b c d = rw (d, c, b, a) (simp append-assoc)
+
+pub entry-put : (i : ℕ) (key : List ℕ) (size : ℕ) (t₀ t₁ t₂ t₃ t₄ t₅ t₆ : List ℕ) → t₁ ≡ t₀ ++ decimal i → t₂ ≡ t₁ ++ space ∷ [] → t₃ ≡ t₂ ++ key
+    → t₄ ≡ t₃ ++ space ∷ [] → t₅ ≡ t₄ ++ decimal size → t₆ ≡ t₅ ++ newline ∷ [] → t₆ ≡ t₀ ++ entryLine i key size
+unfolding entryLine
+entry-put i key size t₀ t₁ t₂ t₃ t₄ t₅ t₆ a b c d e f = rw (f, e, d, c, b, a) (simp append-assoc)
