@@ -1,4 +1,4 @@
-.PHONY: help test demo record recorded-antt beside
+.PHONY: help test demo record recorded-antt beside port
 
 help:
 	@echo 'make test           the gate: rt ci, then every test outside Rattle'
@@ -6,6 +6,7 @@ help:
 	@echo 'make record         writes the recorded answers of the Rust again (tests/recorded)'
 	@echo 'make recorded-antt  prints the short recorded answers as rows for the prover'
 	@echo 'make beside SEED=n  compares the model and the Rust alone, with another seed'
+	@echo 'make port SEED=n    compares the port with both alone, with another seed; TIMES=n draws more'
 
 test:
 	@tests/run
@@ -23,3 +24,7 @@ recorded-antt:
 beside:
 	@tests/build >&2
 	@SEED=$(SEED) tests/beside
+
+port:
+	@tests/build >&2
+	@SEED=$(SEED) TIMES=$(TIMES) tests/port_beside

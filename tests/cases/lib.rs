@@ -1,10 +1,13 @@
 //! The seeded generator: main texts, archives and queries for the tests outside Rattle.
 
+pub mod admitted;
 pub mod archives;
+pub mod crowded;
 pub mod damage;
 pub mod draw;
 pub mod limits;
 pub mod named;
+pub mod readings;
 pub mod realistic;
 pub mod texts;
 pub mod words;

@@ -57,7 +57,7 @@ fn entry(draw: &mut Draw, key: Vec<u8>) -> Vec<u8> {
 }
 
 /// As many parts, of which the last is a name. A `?` may adjoin its neighbours.
-fn key(draw: &mut Draw, parts: usize) -> Vec<u8> {
+pub fn key(draw: &mut Draw, parts: usize) -> Vec<u8> {
     let mut key = Vec::new();
     for part in 0..parts {
         let loose = draw.one_in(3);

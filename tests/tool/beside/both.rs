@@ -1,23 +1,21 @@
 //! The model and the Rust on one case: what document 01 admits, what must be equal, what is counted.
 
 use crate::rust::{listed, number, texts, Room};
+use cases::admitted::{admitted_reading, LeftOut};
 use model::archive::{judge, strike};
 use model::image;
-use model::limits::{Refusal, QUERY_BYTES, QUERY_PARTS, TEXT_BYTES};
+use model::limits::{QUERY_BYTES, QUERY_PARTS};
 use model::line::{write_key, Binding, Part};
 use model::lookup::{get_bool, get_bytes, get_string, get_value};
 use model::matching::{mark, positions, winner, Position};
 use model::query::split;
-use model::reading::{self, Entry, Reading};
+use model::reading::{Entry, Reading};
 use oracle::resource_manager::Database;
 use records::{Case, Kind, Query, Source};
 use std::collections::BTreeMap;
 
 /// The Rust keeps every partial alignment of a key; past this many it is not asked.
 const MOST_ALIGNMENTS: u64 = 20_000;
-
-/// Why a case is left out of the run.
-type LeftOut = String;
 
 #[derive(Default)]
 pub struct Counts {
@@ -197,23 +195,6 @@ fn describe(case: &Case) -> String {
 
 fn entries(entries: &[Entry]) -> Vec<(Vec<u8>, Vec<u8>)> {
     entries.iter().map(|entry| (write_key(&entry.key), entry.value.clone())).collect()
-}
-
-/// The model's reading of a source that document 01 admits to the run.
-fn admitted_reading(source: &Source) -> Result<Reading, LeftOut> {
-    let refused = |refusal: Refusal| format!("readings refused by {}", refusal.number());
-    if source.text.len() > TEXT_BYTES {
-        return Err(refused(Refusal::LongText));
-    }
-    let archive = judge(&source.archive).ok_or(refused(Refusal::BadArchive))?;
-    if archive.has_file_as_folder() {
-        return Err("archives with a file that is also a folder".to_string());
-    }
-    let reading = reading::read(&source.text, &archive).map_err(refused)?;
-    if reading.met_odd_name {
-        return Err("includes of names not built like an archive's".to_string());
-    }
-    Ok(reading)
 }
 
 /// Whether document 01 admits a query to the run, and the Rust can hold its alignments with the keys.

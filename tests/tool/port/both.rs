@@ -1,0 +1,195 @@
+//! The port and the model on one case: the word that the call returns, and every word and byte of
+//! both buffers and around them.
+
+use crate::fenced::Fenced;
+use cases::draw::Draw;
+use model::image;
+use model::limits::{BODIES_BYTES, CONTENTS_WORDS};
+use records::Source;
+use std::ops::Range;
+
+/// The reading call, or a faulty one in its place.
+pub type Call = fn(&[u8], &[u8], &mut [u16], &mut [u8]) -> u64;
+
+/// Entries and opens, or the refusal's number.
+pub type Answer = Result<(usize, usize), u8>;
+
+const TEXT_PAGES: usize = 32;
+const CONTENTS_PAGES: usize = 1;
+const BODIES_PAGES: usize = 9;
+const MOST_WORDS: usize = CONTENTS_PAGES * 2048;
+const MOST_BYTES: usize = BODIES_PAGES * 4096;
+
+/// How the buffers of a call are lent: how long, and at which of the fences everything lent stands.
+/// What is between the slices and the other fence is guarded: it must not change.
+#[derive(Clone, Copy, Debug)]
+pub struct Shape {
+    pub words: usize,
+    pub bytes: usize,
+    pub at_end: bool,
+}
+
+impl Shape {
+    fn place(&self, lent: usize, most: usize) -> Range<usize> {
+        if self.at_end {
+            most - lent..most
+        } else {
+            0..lent
+        }
+    }
+
+    fn words(&self) -> Range<usize> {
+        self.place(self.words, MOST_WORDS)
+    }
+
+    fn bytes(&self) -> Range<usize> {
+        self.place(self.bytes, MOST_BYTES)
+    }
+}
+
+const fn shape(more_words: usize, more_bytes: usize, at_end: bool) -> Shape {
+    Shape { words: CONTENTS_WORDS + more_words, bytes: BODIES_BYTES + more_bytes, at_end }
+}
+
+/// Buffers that are long enough: just so, or longer.
+pub const SHAPES: [Shape; 8] = [
+    shape(0, 0, true),
+    shape(0, 0, false),
+    shape(1, 0, true),
+    shape(0, 1, false),
+    shape(0, 0, true),
+    shape(7, 7, false),
+    shape(MOST_WORDS - CONTENTS_WORDS, 0, false),
+    shape(0, MOST_BYTES - BODIES_BYTES, true),
+];
+
+pub struct Both {
+    call: Call,
+    text: Fenced,
+    archive: Fenced,
+    contents: Fenced,
+    bodies: Fenced,
+    models_contents: Vec<u16>,
+    models_bodies: Vec<u8>,
+    /// What the buffers hold before a call, from a place that is another each time.
+    garbage: Vec<u8>,
+    turn: usize,
+    lent: Shape,
+}
+
+impl Both {
+    pub fn new(call: Call) -> Self {
+        let draw = &mut Draw::new(0, "garbage");
+        Self {
+            call,
+            text: Fenced::new(TEXT_PAGES),
+            archive: Fenced::new(TEXT_PAGES),
+            contents: Fenced::new(CONTENTS_PAGES),
+            bodies: Fenced::new(BODIES_PAGES),
+            models_contents: vec![0; MOST_WORDS],
+            models_bodies: vec![0; MOST_BYTES],
+            garbage: (0..3 * MOST_BYTES).map(|_| draw.byte()).collect(),
+            turn: 0,
+            lent: SHAPES[0],
+        }
+    }
+
+    /// Compares one reading, with buffers lent in the next of the shapes.
+    pub fn compare(&mut self, source: &Source) -> Result<Answer, String> {
+        self.turn += 1;
+        self.compare_in(source, SHAPES[self.turn % SHAPES.len()])
+    }
+
+    /// Compares one reading with buffers lent like this.
+    pub fn compare_in(&mut self, source: &Source, shape: Shape) -> Result<Answer, String> {
+        let word = self.call(source, shape)?;
+        let (contents, bodies) = (&mut self.models_contents[shape.words()], &mut self.models_bodies[shape.bytes()]);
+        let answer = match image::read(contents, bodies, &source.text, &source.archive) {
+            Ok(accepted) => Ok((accepted.entries, accepted.opens)),
+            Err(refusal) => Err(refusal.number()),
+        };
+        if word != word_of(answer) {
+            return Err(format!("the port answers {}, the model {}", shown(word), shown(word_of(answer))));
+        }
+        self.same_buffers()?;
+        Ok(answer)
+    }
+
+    /// Has the port read, and gives the word that it returns.
+    pub fn call(&mut self, source: &Source, shape: Shape) -> Result<u64, String> {
+        self.lent = shape;
+        self.fill();
+        let (contents, bodies) = (&mut self.contents.words()[shape.words()], &mut self.bodies.bytes()[shape.bytes()]);
+        // A text that is too long for the fenced memory is lent where it is.
+        let text = self.text.copy(&source.text, shape.at_end).unwrap_or(&source.text);
+        let archive = self.archive.copy(&source.archive, shape.at_end).unwrap_or(&source.archive);
+        let word = (self.call)(text, archive, contents, bodies);
+        if text != &source.text[..] || archive != &source.archive[..] {
+            return Err("the port changed what it reads".to_string());
+        }
+        Ok(word)
+    }
+
+    /// Puts garbage wherever a buffer may stand, the same for both.
+    fn fill(&mut self) {
+        let from = self.turn.wrapping_mul(62_989) % (2 * MOST_BYTES);
+        let garbage = &self.garbage[from..];
+        self.contents.bytes().copy_from_slice(&garbage[..2 * MOST_WORDS]);
+        self.models_contents.copy_from_slice(self.contents.words());
+        self.bodies.bytes().copy_from_slice(&garbage[..MOST_BYTES]);
+        self.models_bodies.copy_from_slice(&garbage[..MOST_BYTES]);
+    }
+
+    fn same_buffers(&mut self) -> Result<(), String> {
+        let (words, bytes) = (self.lent.words(), self.lent.bytes());
+        let lent = self.lent;
+        let differs = |what: &str, at: isize, port: u16, model: u16| {
+            Err(format!("{what} {at} is {port:#x} by the port, {model:#x} by the model, with buffers lent as {lent:?}"))
+        };
+        if self.contents.words() != &self.models_contents[..] {
+            let at = first_difference(self.contents.words(), &self.models_contents);
+            let place = at as isize - words.start as isize;
+            return differs("word", place, self.contents.words()[at], self.models_contents[at]);
+        }
+        if self.bodies.bytes() != &self.models_bodies[..] {
+            let at = first_difference(self.bodies.bytes(), &self.models_bodies);
+            let place = at as isize - bytes.start as isize;
+            return differs("byte", place, self.bodies.bytes()[at].into(), self.models_bodies[at].into());
+        }
+        Ok(())
+    }
+
+    /// What the port left of the entries of an accepted reading: keys and values, by the words of the
+    /// contents alone.
+    pub fn entries(&mut self) -> Vec<(&[u8], &[u8])> {
+        let (words, bytes) = (self.lent.words(), self.lent.bytes());
+        let (contents, bodies) = (&self.contents.words()[words], &self.bodies.bytes()[bytes]);
+        let rows = contents[2..].chunks(3).take(contents[0].into());
+        rows.map(|row| {
+            let [start, key, value] = [row[0], row[1], row[2]].map(usize::from);
+            (&bodies[start..start + key], &bodies[start + key..start + key + value])
+        })
+        .collect()
+    }
+}
+
+fn first_difference<T: PartialEq>(a: &[T], b: &[T]) -> usize {
+    a.iter().zip(b).position(|(a, b)| a != b).expect("a difference")
+}
+
+/// The word that the call returns for an answer.
+pub fn word_of(answer: Answer) -> u64 {
+    match answer {
+        Ok((entries, opens)) => (entries as u64) << 16 | (opens as u64) << 32,
+        Err(number) => number.into(),
+    }
+}
+
+pub fn shown(word: u64) -> String {
+    let bits = |from: u32| (word >> from) as u16;
+    match (bits(0), word >> 16) {
+        (0, _) if bits(48) == 0 => format!("{} entries and {} opens", bits(16), bits(32)),
+        (number, 0) => format!("refused {number}"),
+        _ => format!("the word {word:#x}"),
+    }
+}

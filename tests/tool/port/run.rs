@@ -1,0 +1,180 @@
+//! A run over a family of cases: every reading beside the model, and beside the Rust where document
+//! 01 admits it. Says what was compared and what was left out.
+
+use crate::both::{word_of, Answer, Both, Call, SHAPES};
+use cases::admitted::LeftOut;
+use model::archive::{judge, lay_out, File};
+use records::Source;
+use std::collections::BTreeMap;
+
+#[cfg(feature = "rust")]
+use crate::both::shown as shown_word;
+#[cfg(feature = "rust")]
+use crate::rust::{listed, Room};
+#[cfg(feature = "rust")]
+use cases::admitted::admitted_reading;
+
+#[derive(Default)]
+pub struct Counts {
+    readings: usize,
+    refused: BTreeMap<u8, usize>,
+    pub beside_the_rust: usize,
+    left_out: BTreeMap<LeftOut, usize>,
+}
+
+impl Counts {
+    /// What was compared; an error if nothing was.
+    pub fn report(&self) -> Result<String, String> {
+        if self.readings == 0 {
+            return Err("nothing was compared".to_string());
+        }
+        let refused: Vec<String> = self.refused.iter().map(|(number, count)| format!("{count} refused by {number}")).collect();
+        let refused = if refused.is_empty() { String::new() } else { format!(" ({})", refused.join(", ")) };
+        let reasons: Vec<String> = self.left_out.iter().map(|(why, count)| format!("{count} {why}")).collect();
+        let left_out = if reasons.is_empty() { "nothing".to_string() } else { reasons.join(", ") };
+        let Self { readings, beside_the_rust, .. } = self;
+        Ok(format!(
+            "{readings} readings{refused} beside the model, {beside_the_rust} beside the Rust; left out there: {left_out}"
+        ))
+    }
+}
+
+pub struct Run {
+    pub both: Both,
+    pub counts: Counts,
+    #[cfg(feature = "rust")]
+    room: Room,
+}
+
+impl Run {
+    #[cfg(feature = "rust")]
+    pub fn new(call: Call, room: &str) -> Self {
+        Self { both: Both::new(call), counts: Counts::default(), room: Room::new(room) }
+    }
+
+    #[cfg(not(feature = "rust"))]
+    pub fn new(call: Call, _room: &str) -> Self {
+        Self { both: Both::new(call), counts: Counts::default() }
+    }
+
+    /// Compares one reading. A difference is told with the smallest source that was found to show one.
+    pub fn see(&mut self, source: &Source) -> Result<Answer, String> {
+        self.compare(source).map_err(|why| {
+            let (small, why) = self.smaller(source.clone(), why);
+            format!("{}\nthey differ: {why}", describe(&small))
+        })
+    }
+
+    fn compare(&mut self, source: &Source) -> Result<Answer, String> {
+        let answer = self.both.compare(source)?;
+        self.counts.readings += 1;
+        if let Err(number) = answer {
+            *self.counts.refused.entry(number).or_default() += 1;
+        }
+        match self.compare_with_the_rust(source, word_of(answer))? {
+            Some(why) => *self.counts.left_out.entry(why).or_default() += 1,
+            None => self.counts.beside_the_rust += 1,
+        }
+        Ok(answer)
+    }
+
+    /// Has the port read, and compares it with the Rust alone.
+    pub fn see_by_the_rust(&mut self, source: &Source) -> Result<(), String> {
+        let word = self.both.call(source, SHAPES[0])?;
+        self.compare_with_the_rust(source, word).map(drop)
+    }
+
+    /// Compares what the port returned and left. Gives why the case was left out, or none.
+    #[cfg(feature = "rust")]
+    fn compare_with_the_rust(&mut self, source: &Source, word: u64) -> Result<Option<LeftOut>, String> {
+        if let Err(why) = admitted_reading(source) {
+            return Ok(Some(why));
+        }
+        let (database, opens) = self.room.read(source);
+        let rusts = listed(&database);
+        let rusts_word = word_of(Ok((rusts.len(), opens)));
+        if word != rusts_word {
+            return Err(format!("the port answers {}, the Rust {}", shown_word(word), shown_word(rusts_word)));
+        }
+        let ports = self.both.entries();
+        if ports.len() != rusts.len() {
+            return Err(format!("the contents count {} entries, the Rust has {}", ports.len(), rusts.len()));
+        }
+        for (number, ((key, value), (rusts_key, rusts_value))) in ports.iter().zip(&rusts).enumerate() {
+            if key != rusts_key || value != rusts_value {
+                let said = |key: &[u8], value: &[u8]| format!("{} = {}", shown(key), shown(value));
+                return Err(format!(
+                    "entry {number} is {} by the port, {} by the Rust",
+                    said(key, value),
+                    said(rusts_key, rusts_value)
+                ));
+            }
+        }
+        Ok(None)
+    }
+
+    #[cfg(not(feature = "rust"))]
+    fn compare_with_the_rust(&mut self, _: &Source, _: u64) -> Result<Option<LeftOut>, String> {
+        Ok(Some("readings, as the Rust is not at hand".to_string()))
+    }
+
+    /// Leaves out of a source what can be left out while a difference shows, within some patience.
+    fn smaller(&mut self, mut source: Source, mut why: String) -> (Source, String) {
+        let mut patience = 20_000;
+        loop {
+            let less = shorter(&source).take(patience).find_map(|less| {
+                patience -= 1;
+                self.compare(&less).err().map(|why| (less, why))
+            });
+            match less {
+                Some(less) => (source, why) = less,
+                None => return (source, why),
+            }
+        }
+    }
+}
+
+/// The source with a piece of the text or of a file left out, or without a file, the larger pieces first.
+fn shorter(source: &Source) -> impl Iterator<Item = Source> + '_ {
+    let with = |archive: Vec<u8>| Source { text: source.text.clone(), archive };
+    let texts = without_a_piece(&source.text).map(|text| Source { text, archive: source.archive.clone() });
+    let bad = judge(&source.archive).is_none().then_some(&source.archive[..]);
+    let bad = bad.into_iter().flat_map(without_a_piece).map(with);
+    let files = judge(&source.archive).unwrap_or_default().files;
+    let good = (0..files.len()).flat_map(move |which| {
+        let mut others = files.clone();
+        let File { name, body } = others.remove(which);
+        let bodies: Vec<Vec<u8>> = without_a_piece(&body).collect();
+        let put_back = {
+            let others = others.clone();
+            move |body| {
+                let mut files = others.clone();
+                files.insert(which, File { name: name.clone(), body });
+                lay_out(&files)
+            }
+        };
+        std::iter::once(lay_out(&others)).chain(bodies.into_iter().map(put_back))
+    });
+    texts.chain(bad).chain(good.map(with))
+}
+
+fn without_a_piece(bytes: &[u8]) -> impl Iterator<Item = Vec<u8>> + '_ {
+    let sizes = std::iter::successors(Some(bytes.len()), |size| Some(size / 2)).take_while(|size| *size > 0);
+    sizes.flat_map(move |size| {
+        (0..bytes.len()).step_by(size).map(move |at| [&bytes[..at], &bytes[(at + size).min(bytes.len())..]].concat())
+    })
+}
+
+fn shown(bytes: &[u8]) -> String {
+    let most = 300;
+    let more = if bytes.len() > most { format!(".. {} bytes", bytes.len()) } else { String::new() };
+    format!("\"{}\"{more}", bytes[..bytes.len().min(most)].escape_ascii())
+}
+
+pub fn describe(source: &Source) -> String {
+    let Some(archive) = judge(&source.archive) else {
+        return format!("text {}, archive {}", shown(&source.text), shown(&source.archive));
+    };
+    let files: Vec<String> = archive.files.iter().map(|file| format!("{} => {}", shown(&file.name), shown(&file.body))).collect();
+    format!("text {}, files [{}]", shown(&source.text), files.join("; "))
+}
