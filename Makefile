@@ -12,7 +12,7 @@ test:
 	@tests/run
 
 demo:
-	@echo 'There is nothing to show yet: no program of the product is here.'
+	@tests/demo
 
 record:
 	@tests/record tests/recorded
