@@ -1,0 +1,192 @@
+// Replays the recorded answers of the Rust: the files of data/, a line each case (data/README.md).
+//
+// For each file it writes the name, how many lines are equal, how many are left for later, and the first that differs, if one
+// does. A line that is not built as the README says differs.
+mod cases;
+mod fields;
+
+ghost use Prim.Native.Nat.{_≤_};
+ghost use lib.ListN.{length};
+use cases::Verdict;
+use cases::replay_case;
+use fields::until;
+use libc::STDOUT_FILENO;
+use std::num::wrapping_add_usize;
+
+// What was seen of a file. `differs` is the number of the first line that differs, or 0. No file has so many lines that a
+// count wraps.
+struct Tally {
+    equal: usize,
+    later: usize,
+    lines: usize,
+    differs: usize,
+}
+
+// The tally after one line more.
+fn counted(tally: Tally, verdict: Verdict) -> Tally {
+    let equal = tally.equal;
+    let later = tally.later;
+    let lines = wrapping_add_usize(tally.lines, 1);
+    let differs = tally.differs;
+    match verdict {
+        Verdict::Equal => Tally {
+            equal: wrapping_add_usize(equal, 1),
+            later,
+            lines,
+            differs,
+        },
+        Verdict::Later => Tally {
+            equal,
+            later: wrapping_add_usize(later, 1),
+            lines,
+            differs,
+        },
+        Verdict::Differs => Tally {
+            equal,
+            later,
+            lines,
+            differs: if differs == 0 { lines } else { differs },
+        },
+    }
+}
+
+// What is left of a block once its whole lines are replayed: so many bytes at its end.
+struct Block {
+    left: usize,
+    tally: Tally,
+}
+
+fn replay_lines(block: &[u8], tally: Tally) -> Block
+    ensures { λ r. ⌜ r .left ≤ length (now (block .entry)) ⌝ }
+{
+    let mut rest = block;
+    let mut seen = tally;
+    loop {
+        let n = until(rest, b'\n');
+        if n >= rest.len() {
+            return Block {
+                left: rest.len(),
+                tally: seen,
+            };
+        }
+        seen = counted(seen, replay_case(&rest[..n]));
+        rest = &rest[n + 1..];
+    }
+}
+
+// Moves the bytes of `window` from `from` to `end` to its front.
+fn to_front(window: &mut [u8], from: usize, end: usize)
+    requires { ⌜ (from ≤ end) × (end ≤ length (now window)) ⌝ }
+{
+    let mut i = from;
+    while i < end {
+        window[i - from] = window[i];
+        i += 1;
+    }
+}
+
+// Reads a file block by block. A line that is longer than the window, or that does not end, differs.
+fn replay_open(fd: i32, window: &mut [u8]) -> Tally {
+    let mut tally = Tally {
+        equal: 0,
+        later: 0,
+        lines: 0,
+        differs: 0,
+    };
+    let mut held = 0;
+    let mut turns = u64::MAX;
+    while turns > 0 {
+        let got = libc::read(fd, &mut window[held..]);
+        if got < 0 {
+            return counted(tally, Verdict::Differs);
+        }
+        let more = io::count(got, &window[held..]);
+        if more == 0 {
+            break;
+        }
+        let end = held + more;
+        let block = replay_lines(&window[..end], tally);
+        tally = block.tally;
+        held = block.left;
+        to_front(window, end - held, end);
+        turns -= 1;
+    }
+    if held > 0 {
+        return counted(tally, Verdict::Differs);
+    }
+    tally
+}
+
+fn write(bytes: &[u8]) {
+    io::write_all(STDOUT_FILENO, bytes);
+}
+
+fn write_number(number: usize) {
+    io::print_decimal(STDOUT_FILENO, number as u64);
+}
+
+fn write_tally(name: &[u8], tally: Tally) {
+    write(name);
+    write(b": ");
+    write_number(tally.equal);
+    write(b" equal, ");
+    write_number(tally.later);
+    write(b" left for later");
+    let differs = tally.differs;
+    if differs > 0 {
+        write(b", line ");
+        write_number(differs);
+        write(b" differs");
+    }
+    write(b"\n");
+}
+
+// A file that cannot be opened differs at its first line.
+fn replay_file(name: &[u8]) -> Tally {
+    let mut window = [0; 131072];
+    let fd = os::open_read(name);
+    if fd < 0 {
+        os::fail(name);
+    }
+    let tally = replay_open(fd, &mut window);
+    libc::close(fd);
+    write_tally(name, tally);
+    tally
+}
+
+// The sum of two tallies, where `differs` is the later of theirs.
+fn added(total: Tally, tally: Tally) -> Tally {
+    let differs = tally.differs;
+    Tally {
+        equal: wrapping_add_usize(total.equal, tally.equal),
+        later: wrapping_add_usize(total.later, tally.later),
+        lines: wrapping_add_usize(total.lines, tally.lines),
+        differs: if differs == 0 { total.differs } else { differs },
+    }
+}
+
+// Replays the files that are named, a name a line.
+fn replay_files(names: &[u8]) {
+    let mut total = Tally {
+        equal: 0,
+        later: 0,
+        lines: 0,
+        differs: 0,
+    };
+    let mut rest = names;
+    loop {
+        let n = until(rest, b'\n');
+        if n >= rest.len() {
+            break;
+        }
+        total = added(total, replay_file(&rest[..n]));
+        rest = &rest[n + 1..];
+    }
+    write_tally(b"total", total);
+}
+
+fn main() {
+    replay_files(
+        b"small.txt\nnamed.txt\nlimits.txt\nlong.txt\nkeys.txt\nvalues.txt\nlines.txt\nincludes.txt\nlookups.txt\nstruck.txt\nreadings.txt\ndamaged.txt\nrealistic.txt\n",
+    );
+}
