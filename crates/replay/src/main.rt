@@ -7,6 +7,7 @@ mod fields;
 
 ghost use Prim.Native.Nat.{_≤_};
 ghost use lib.ListN.{length};
+ghost use Rattle.replay.specs.Files.{filled};
 use cases::Verdict;
 use cases::replay_case;
 use fields::until;
@@ -50,6 +51,20 @@ fn counted(tally: Tally, verdict: Verdict) -> Tally {
     }
 }
 
+// The tally at a file's end, with so many bytes after its last newline.
+fn ended(tally: Tally, held: usize, read: More) -> Tally {
+    match read {
+        More::End => {
+            if held == 0 {
+                return tally;
+            }
+            counted(tally, Verdict::Differs)
+        }
+        More::To(_) => counted(tally, Verdict::Differs),
+        More::Failed => counted(tally, Verdict::Differs),
+    }
+}
+
 // What is left of a block once its whole lines are replayed: so many bytes at its end.
 struct Block {
     left: usize,
@@ -85,6 +100,29 @@ fn to_front(window: &mut [u8], from: usize, end: usize)
     }
 }
 
+// What reading more of a file gave: the window is filled to a place, or the file is at its end, or it cannot be read.
+enum More {
+    To(usize),
+    End,
+    Failed,
+}
+
+// Reads once, from `held` on. A full window is taken for the end.
+fn read_more(fd: i32, window: &mut [u8], held: usize) -> More
+    requires { ⌜ held ≤ length (now window) ⌝ }
+    ensures { λ r. ⌜ filled (length (now (window .exit))) r ⌝ }
+{
+    let got = libc::read(fd, &mut window[held..]);
+    if got < 0 {
+        return More::Failed;
+    }
+    let more = io::count(got, &window[held..]);
+    if more == 0 {
+        return More::End;
+    }
+    More::To(held + more)
+}
+
 // Reads a file block by block. A line that is longer than the window, or that does not end, differs.
 fn replay_open(fd: i32, window: &mut [u8]) -> Tally {
     let mut tally = Tally {
@@ -96,25 +134,17 @@ fn replay_open(fd: i32, window: &mut [u8]) -> Tally {
     let mut held = 0;
     let mut turns = u64::MAX;
     while turns > 0 {
-        let got = libc::read(fd, &mut window[held..]);
-        if got < 0 {
-            return counted(tally, Verdict::Differs);
-        }
-        let more = io::count(got, &window[held..]);
-        if more == 0 {
-            break;
-        }
-        let end = held + more;
+        let read = read_more(fd, window, held);
+        let More::To(end) = read else {
+            return ended(tally, held, read);
+        };
         let block = replay_lines(&window[..end], tally);
         tally = block.tally;
         held = block.left;
         to_front(window, end - held, end);
         turns -= 1;
     }
-    if held > 0 {
-        return counted(tally, Verdict::Differs);
-    }
-    tally
+    ended(tally, held, More::Failed)
 }
 
 fn write(bytes: &[u8]) {
@@ -125,7 +155,8 @@ fn write_number(number: usize) {
     io::print_decimal(STDOUT_FILENO, number as u64);
 }
 
-fn write_tally(name: &[u8], tally: Tally) {
+// Writes a line. What differs is a number between two words.
+fn write_tally(name: &[u8], tally: Tally, first: &[u8], last: &[u8]) {
     write(name);
     write(b": ");
     write_number(tally.equal);
@@ -134,9 +165,9 @@ fn write_tally(name: &[u8], tally: Tally) {
     write(b" left for later");
     let differs = tally.differs;
     if differs > 0 {
-        write(b", line ");
+        write(first);
         write_number(differs);
-        write(b" differs");
+        write(last);
     }
     write(b"\n");
 }
@@ -150,23 +181,27 @@ fn replay_file(name: &[u8]) -> Tally {
     }
     let tally = replay_open(fd, &mut window);
     libc::close(fd);
-    write_tally(name, tally);
+    write_tally(name, tally, b", line ", b" differs");
     tally
 }
 
-// The sum of two tallies, where `differs` is the later of theirs.
+// The tally of some files and one more: `differs` counts the files that do.
 fn added(total: Tally, tally: Tally) -> Tally {
-    let differs = tally.differs;
+    let differs = total.differs;
     Tally {
         equal: wrapping_add_usize(total.equal, tally.equal),
         later: wrapping_add_usize(total.later, tally.later),
         lines: wrapping_add_usize(total.lines, tally.lines),
-        differs: if differs == 0 { total.differs } else { differs },
+        differs: if tally.differs == 0 {
+            differs
+        } else {
+            wrapping_add_usize(differs, 1)
+        },
     }
 }
 
 // Replays the files that are named, a name a line.
-fn replay_files(names: &[u8]) {
+fn replay_files(names: &[u8]) -> Tally {
     let mut total = Tally {
         equal: 0,
         later: 0,
@@ -177,16 +212,16 @@ fn replay_files(names: &[u8]) {
     loop {
         let n = until(rest, b'\n');
         if n >= rest.len() {
-            break;
+            return total;
         }
         total = added(total, replay_file(&rest[..n]));
         rest = &rest[n + 1..];
     }
-    write_tally(b"total", total);
 }
 
 fn main() {
-    replay_files(
+    let total = replay_files(
         b"small.txt\nnamed.txt\nlimits.txt\nlong.txt\nkeys.txt\nvalues.txt\nlines.txt\nincludes.txt\nlookups.txt\nstruck.txt\nreadings.txt\ndamaged.txt\nrealistic.txt\n",
     );
+    write_tally(b"total", total, b", files that differ: ", b"");
 }

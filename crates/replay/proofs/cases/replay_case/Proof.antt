@@ -1,3 +1,6 @@
+-- `replay::cases::replay_case` is safe and ends. Assumes nothing.
+use mathlib.Core.Path.{sym}
+use lib.Seq.{length-take-le}
 use borrow.Author.Needs.{needs}
 use Rattle.replay.proofs.cases.replay_case.Statement.{statement}
 use Rattle.replay.proofs.cases.replay_case.Tie as tie
@@ -14,7 +17,9 @@ until-requires c κs = search needs
 
 -- src/cases.rt:225:24
 slice-aggregate-kind-of : tie.Need-slice-aggregate-kind-of
-slice-aggregate-kind-of c = ?
+slice-aggregate-kind-of c =
+    let until-here = c .before in
+    sym (length-take-le _ _ (until-here .until .ensures))
 
 -- src/cases.rt:225:9
 kind-of-requires : tie.Need-kind-of-requires
@@ -54,11 +59,17 @@ returns c = search needs
 
 -- src/cases.rt:231:16
 sub-more : tie.Need-sub-more
-sub-more c = ?
+sub-more c =
+    let take-bytes-here = c .before .before .before .before in
+    let first-here = c .before in
+    (rw (first-here .first .given .1) at (take-bytes-here .take-bytes .ensures)) .1
 
 -- src/cases.rt:231:16
 part-more-start : tie.Need-part-more-start
-part-more-start c = ?
+part-more-start c =
+    let take-bytes-here = c .before .before .before .before in
+    let first-here = c .before in
+    (rw (first-here .first .given .1) at (take-bytes-here .take-bytes .ensures)) .1
 
 -- src/cases.rt:231:16
 part-more-end : tie.Need-part-more-end
@@ -86,11 +97,17 @@ returns-2 c = search needs
 
 -- src/cases.rt:236:26
 sub-replay-reading : tie.Need-sub-replay-reading
-sub-replay-reading c = ?
+sub-replay-reading c =
+    let take-bytes2-here = c .before .before .before .before in
+    let second-here = c .before in
+    (rw (second-here .second .given .1) at (take-bytes2-here .take-bytes2 .ensures)) .1
 
 -- src/cases.rt:236:26
 part-replay-reading-start : tie.Need-part-replay-reading-start
-part-replay-reading-start c = ?
+part-replay-reading-start c =
+    let take-bytes2-here = c .before .before .before .before in
+    let second-here = c .before in
+    (rw (second-here .second .given .1) at (take-bytes2-here .take-bytes2 .ensures)) .1
 
 -- src/cases.rt:236:26
 part-replay-reading-end : tie.Need-part-replay-reading-end
@@ -98,19 +115,31 @@ part-replay-reading-end c = search needs
 
 -- src/cases.rt:236:40
 array-share-prefix-text : tie.Need-array-share-prefix-text
-array-share-prefix-text c = ?
+array-share-prefix-text c =
+    let take-bytes-here = c .before .before .before .before .before .before .before .before .before .before .before .before in
+    let first-here = c .before .before .before .before .before .before .before .before .before in
+    (rw (first-here .first .given .1) at (take-bytes-here .take-bytes .ensures)) .0
 
 -- src/cases.rt:236:40
 slice-aggregate-replay-reading : tie.Need-slice-aggregate-replay-reading
-slice-aggregate-replay-reading c = ?
+slice-aggregate-replay-reading c =
+    let take-bytes-here = c .before .before .before .before .before .before .before .before .before .before .before .before .before in
+    let first-here = c .before .before .before .before .before .before .before .before .before .before in
+    sym (length-take-le _ _ ((rw (first-here .first .given .1) at (take-bytes-here .take-bytes .ensures)) .0))
 
 -- src/cases.rt:236:55
 array-share-prefix-archive : tie.Need-array-share-prefix-archive
-array-share-prefix-archive c = ?
+array-share-prefix-archive c =
+    let take-bytes2-here = c .before .before .before .before .before .before in
+    let second-here = c .before .before .before in
+    (rw (second-here .second .given .1) at (take-bytes2-here .take-bytes2 .ensures)) .0
 
 -- src/cases.rt:236:55
 slice-aggregate-replay-reading-2 : tie.Need-slice-aggregate-replay-reading-2
-slice-aggregate-replay-reading-2 c = ?
+slice-aggregate-replay-reading-2 c =
+    let take-bytes2-here = c .before .before .before .before .before .before .before in
+    let second-here = c .before .before .before .before in
+    sym (length-take-le _ _ ((rw (second-here .second .given .1) at (take-bytes2-here .take-bytes2 .ensures)) .0))
 
 -- src/cases.rt:236:5
 replay-reading-requires : tie.Need-replay-reading-requires
