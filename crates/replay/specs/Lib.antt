@@ -1,0 +1,3 @@
+-- What the contracts of the replay cite.
+pub mod Fields
+pub mod Files

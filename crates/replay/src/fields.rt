@@ -1,0 +1,185 @@
+// The fields of a recorded line: each but the first stands after one space.
+ghost use Prim.Native.Nat.{_≤_};
+ghost use lib.ListN.{length};
+ghost use Rattle.replay.specs.Fields.{holds};
+use check::same;
+
+// How many bytes stand before the first `byte`.
+pub fn until(text: &[u8], byte: u8) -> usize
+    ensures { λ r. ⌜ r ≤ length (now (text .entry)) ⌝ }
+{
+    let mut n = 0;
+    while n < text.len() {
+        if text[n] == byte {
+            return n;
+        }
+        n += 1;
+    }
+    n
+}
+
+// How many bytes the next field takes with the space before it: 0 if there is none.
+pub fn field(rest: &[u8]) -> usize
+    ensures { λ r. ⌜ r ≤ length (now (rest .entry)) ⌝ }
+{
+    if rest.len() == 0 {
+        return 0;
+    }
+    if rest[0] != b' ' {
+        return 0;
+    }
+    1 + until(&rest[1..], b' ')
+}
+
+// A hexadecimal digit's number, or 16.
+fn digit(c: u8) -> u8
+    ensures { λ r. ⌜ r ≤ 16 ⌝ }
+{
+    match c {
+        b'0'..=b'9' => c - b'0',
+        b'a'..=b'f' => c - b'a' + 10,
+        _ => 16,
+    }
+}
+
+// A field's bytes: so many were decoded, and the field took so many bytes of the line.
+pub enum Taken {
+    Bytes(usize, usize),
+    Malformed,
+}
+
+// Decodes two digits a byte.
+fn decode(digits: &[u8], out: &mut [u8]) -> bool {
+    if out.len() > digits.len() / 2 {
+        return false;
+    }
+    let mut n = 0;
+    while n < out.len() {
+        let high = digit(digits[2 * n]);
+        let low = digit(digits[2 * n + 1]);
+        if high > 15 {
+            return false;
+        }
+        if low > 15 {
+            return false;
+        }
+        out[n] = 16 * high + low;
+        n += 1;
+    }
+    true
+}
+
+// Decodes the next field: two digits a byte, or `-` for no bytes.
+pub fn take_bytes(rest: &[u8], out: &mut [u8]) -> Taken
+    ensures { λ r. ⌜ holds (length (now (out .exit))) (length (now (rest .entry))) r ⌝ }
+{
+    let end = field(rest);
+    if end < 2 {
+        return Taken::Malformed;
+    }
+    let digits = &rest[1..end];
+    if same(digits, b"-") {
+        return Taken::Bytes(0, end);
+    }
+    let size = digits.len() / 2;
+    if size * 2 != digits.len() {
+        return Taken::Malformed;
+    }
+    if size > out.len() {
+        return Taken::Malformed;
+    }
+    if decode(digits, &mut out[..size]) {
+        return Taken::Bytes(size, end);
+    }
+    Taken::Malformed
+}
+
+// Is the field these bytes?
+fn is_bytes(digits: &[u8], bytes: &[u8]) -> bool {
+    if bytes.len() == 0 {
+        return same(digits, b"-");
+    }
+    if digits.len() / 2 != bytes.len() {
+        return false;
+    }
+    if digits.len() % 2 != 0 {
+        return false;
+    }
+    let mut n = 0;
+    while n < bytes.len() {
+        if digit(digits[2 * n]) != bytes[n] / 16 {
+            return false;
+        }
+        if digit(digits[2 * n + 1]) != bytes[n] % 16 {
+            return false;
+        }
+        n += 1;
+    }
+    true
+}
+
+// Is it a number in decimal, with no leading zeros?
+fn is_natural(text: &[u8]) -> bool {
+    if text.len() > 1 {
+        if text[0] == b'0' {
+            return false;
+        }
+    }
+    let mut n = 0;
+    while n < text.len() {
+        if digit(text[n]) > 9 {
+            return false;
+        }
+        n += 1;
+    }
+    n > 0
+}
+
+// The same, where a `-` may stand before a number that is not 0.
+pub fn is_decimal(text: &[u8]) -> bool {
+    if text.len() > 1 {
+        if text[0] == b'-' {
+            if text[1] == b'0' {
+                return false;
+            }
+            return is_natural(&text[1..]);
+        }
+    }
+    is_natural(text)
+}
+
+// How many bytes the next field takes with the space before it, if it is these bytes: 0 if it is not.
+pub fn pass_bytes(rest: &[u8], bytes: &[u8]) -> usize
+    ensures { λ r. ⌜ r ≤ length (now (rest .entry)) ⌝ }
+{
+    let end = field(rest);
+    if end < 2 {
+        return 0;
+    }
+    if is_bytes(&rest[1..end], bytes) {
+        return end;
+    }
+    0
+}
+
+// The same for a word, and for a number, in decimal.
+pub fn pass_word(rest: &[u8], word: &[u8]) -> usize
+    ensures { λ r. ⌜ r ≤ length (now (rest .entry)) ⌝ }
+{
+    let end = field(rest);
+    if end < 2 {
+        return 0;
+    }
+    if same(&rest[1..end], word) {
+        return end;
+    }
+    0
+}
+
+pub fn pass_number(rest: &[u8], number: usize) -> usize
+    ensures { λ r. ⌜ r ≤ length (now (rest .entry)) ⌝ }
+{
+    let mut digits = [0; 20];
+    let n = io::decimal(number as u64, &mut digits);
+    pass_word(rest, &digits[..n])
+}
