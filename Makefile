@@ -3,7 +3,7 @@
 help:
 	@echo 'make test           the gate: rt ci, then every test outside Rattle'
 	@echo 'make demo           shows the product at work'
-	@echo 'make record         writes the recorded answers of the Rust again (tests/recorded)'
+	@echo 'make record         writes the recorded answers of the Rust again (crates/replay/data)'
 	@echo 'make recorded-antt  prints the short recorded answers as rows for the prover'
 	@echo 'make beside SEED=n  compares the model and the Rust alone, with another seed'
 	@echo 'make port SEED=n    compares the port with both alone, with another seed; TIMES=n draws more'
@@ -15,11 +15,11 @@ demo:
 	@tests/demo
 
 record:
-	@tests/record tests/recorded
+	@tests/record crates/replay/data
 
 recorded-antt:
 	@tests/build >&2
-	@target/tests/recorded antt tests/recorded/small.txt
+	@target/tests/recorded antt crates/replay/data/small.txt
 
 beside:
 	@tests/build >&2

@@ -1,5 +1,5 @@
 //! Cases and their recorded answers: how a line is written and read, and what the model answers.
-//! tests/recorded/README.md describes the lines.
+//! crates/replay/data/README.md describes the lines.
 
 use model::archive::{lay_out, File};
 use model::image;
