@@ -1,4 +1,4 @@
-.PHONY: help test demo record recorded-antt beside port
+.PHONY: help test demo record recorded-antt beside port bench
 
 help:
 	@echo 'make test           the gate: rt ci, then every test outside Rattle'
@@ -7,6 +7,7 @@ help:
 	@echo 'make recorded-antt  prints the short recorded answers as rows for the prover'
 	@echo 'make beside SEED=n  compares the model and the Rust alone, with another seed'
 	@echo 'make port SEED=n    compares the port with both alone, with another seed; TIMES=n draws more'
+	@echo 'make bench          times the port and the Rust; COUNT=1 counts instructions too'
 
 test:
 	@tests/run
@@ -28,3 +29,6 @@ beside:
 port:
 	@tests/build >&2
 	@SEED=$(SEED) TIMES=$(TIMES) tests/port_beside
+
+bench:
+	@COUNT=$(COUNT) tests/bench
