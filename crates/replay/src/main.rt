@@ -25,30 +25,22 @@ struct Tally {
 
 // The tally after one line more.
 fn counted(tally: Tally, verdict: Verdict) -> Tally {
-    let equal = tally.equal;
-    let later = tally.later;
-    let lines = wrapping_add_usize(tally.lines, 1);
-    let differs = tally.differs;
+    let mut next = tally;
+    next.lines = wrapping_add_usize(next.lines, 1);
     match verdict {
-        Verdict::Equal => Tally {
-            equal: wrapping_add_usize(equal, 1),
-            later,
-            lines,
-            differs,
-        },
-        Verdict::Later => Tally {
-            equal,
-            later: wrapping_add_usize(later, 1),
-            lines,
-            differs,
-        },
-        Verdict::Differs => Tally {
-            equal,
-            later,
-            lines,
-            differs: if differs == 0 { lines } else { differs },
-        },
+        Verdict::Equal => {
+            next.equal = wrapping_add_usize(next.equal, 1);
+        }
+        Verdict::Later => {
+            next.later = wrapping_add_usize(next.later, 1);
+        }
+        Verdict::Differs => {
+            if next.differs == 0 {
+                next.differs = next.lines;
+            }
+        }
     }
+    next
 }
 
 // The tally at a file's end, with so many bytes after its last newline.
@@ -187,17 +179,14 @@ fn replay_file(name: &[u8]) -> Tally {
 
 // The tally of some files and one more: `differs` counts the files that do.
 fn added(total: Tally, tally: Tally) -> Tally {
-    let differs = total.differs;
-    Tally {
-        equal: wrapping_add_usize(total.equal, tally.equal),
-        later: wrapping_add_usize(total.later, tally.later),
-        lines: wrapping_add_usize(total.lines, tally.lines),
-        differs: if tally.differs == 0 {
-            differs
-        } else {
-            wrapping_add_usize(differs, 1)
-        },
+    let mut sum = total;
+    sum.equal = wrapping_add_usize(sum.equal, tally.equal);
+    sum.later = wrapping_add_usize(sum.later, tally.later);
+    sum.lines = wrapping_add_usize(sum.lines, tally.lines);
+    if tally.differs > 0 {
+        sum.differs = wrapping_add_usize(sum.differs, 1);
     }
+    sum
 }
 
 // Replays the files that are named, a name a line.
@@ -221,7 +210,8 @@ fn replay_files(names: &[u8]) -> Tally {
 
 fn main() {
     let total = replay_files(
-        b"small.txt\nnamed.txt\nlimits.txt\nlong.txt\nkeys.txt\nvalues.txt\nlines.txt\nincludes.txt\nlookups.txt\nstruck.txt\nreadings.txt\ndamaged.txt\nrealistic.txt\n",
+        b"small.txt\nnamed.txt\nlimits.txt\nlong.txt\nkeys.txt\nvalues.txt\nlines.txt\n\
+        includes.txt\nlookups.txt\nstruck.txt\nreadings.txt\ndamaged.txt\nrealistic.txt\n",
     );
     write_tally(b"total", total, b", files that differ: ", b"");
 }

@@ -1,12 +1,21 @@
 -- The answers of the definition as numbers of 64 bits, as the boundary to C gives them.
+use mathlib.Core.Bool.{Bool, true, false}
 use mathlib.Core.List.{List}
-use Prim.Native.Nat.{ℕ, _+_, _*_}
+use Prim.Native.Nat.{ℕ, _+_, _*_, _≤_}
+use lib.IntN.{ℤ}
+use Rattle.definition.specs.Limits.{bodyBytes}
 use Rattle.definition.specs.Reading.{Answer, accepted, refused, Outcome}
+use Rattle.definition.specs.Lookup.{Reply, given, noValue, refused as refusedBy, Place}
+use Rattle.definition.specs.Value.{Number, number, notANumber}
+use Rattle.lookup.specs.declared.Lookup.{Lookup}
+use Rattle.lookup.specs.declared.Lookup.the-variants.{Found, Nothing, Refused}
+
+-- ---- Readings
 
 -- entries in bits 16 to 31 and opens in bits 32 to 47, or the number of the refusal
 abbrev pub readCode : Answer → ℕ
 readCode (accepted entries opens) = 65536 * entries + 4294967296 * opens
-readCode (refused number) = number
+readCode (refused k) = k
 
 -- a call's number and the two buffers afterwards
 pub record Crossing : Type 0 where
@@ -19,3 +28,39 @@ crossing n c b = record { code = n; contents = c; bodies = b }
 
 abbrev pub crossed : Outcome → Crossing
 crossed o = crossing (readCode (o .answer)) (o .contents) (o .bodies)
+
+-- ---- Lookups
+
+-- the place in bits 16 to 31 and the length from bit 32 on, 65535 for none, or the number of the refusal
+abbrev pub placeCode : Reply Place → ℕ
+placeCode (given p) = 65536 * p .start + 4294967296 * p .length
+placeCode noValue = 65535
+placeCode (refusedBy k) = k
+
+-- a place in an image's bodies, so that its code fits
+abbrev pub Small : Lookup → Type 0
+Small (Found place size) = place + size ≤ bodyBytes
+Small Nothing = Unit {0}
+Small (Refused k) = Unit {0}
+
+-- 65536 for true and 0 for false
+abbrev pub boolCode : Reply Bool → ℕ
+boolCode (given true) = 65536
+boolCode (given false) = 0
+boolCode noValue = 65535
+boolCode (refusedBy k) = k
+
+-- a call's number, and the lent number afterwards
+pub record Taking : Type 0 where
+  pub code : ℕ
+  pub out : ℤ
+
+abbrev pub taking : ℕ → ℤ → Taking
+taking n z = record { code = n; out = z }
+
+-- the number with 0; 65534 if not a number; only a number changes what is lent
+abbrev pub taken : Reply Number → ℤ → Taking
+taken (given (number z)) lent = taking 0 z
+taken (given notANumber) lent = taking 65534 lent
+taken noValue lent = taking 65535 lent
+taken (refusedBy k) lent = taking k lent

@@ -1,7 +1,13 @@
 // The calls for C, Rust and the tests to link. A slice passes as a pointer and an element count.
 ghost use mathlib.Core.Path.{_≡_};
 ghost use Rattle.definition.specs.Reading.{reading};
-ghost use Rattle.resource_manager.specs.Boundary.{Crossing, crossed, crossing};
+ghost use Rattle.definition.specs.Lookup.{getBytes};
+ghost use Rattle.definition.specs.Value.{getString, getBool, getValue};
+ghost use Rattle.lookup.specs.Replies.{replied};
+ghost use Rattle.resource_manager.specs.Boundary.{Crossing, crossed, crossing, placeCode, Small, boolCode, Taking, taking, taken};
+use lookup::Lookup;
+use lookup::Truth;
+use lookup::Value;
 use reader::Answer;
 
 // Document 01's reading call. The low 16 bits are 0, or the number of the refusal and that alone; entries stand in bits 16 to 31
@@ -19,5 +25,90 @@ pub extern "C" fn resource_manager_read(
     match answer {
         Answer::Accepted(entries, opens) => 65536 * (entries as u64) + 4294967296 * (opens as u64),
         Answer::Refused(number) => number as u64,
+    }
+}
+
+fn place_code(found: Lookup) -> u64
+    requires { ⌜ Small found ⌝ }
+    ensures { λ r. ⌜ r ≡ placeCode (replied found) ⌝ }
+{
+    match found {
+        Lookup::Found(place, size) => 65536 * (place as u64) + 4294967296 * (size as u64),
+        Lookup::Nothing => 65535,
+        Lookup::Refused(number) => number as u64,
+    }
+}
+
+// The value of a query: its place in the bodies in bits 16 to 31 and its length from bit 32 on; 65535 for none; or the refusal.
+#[no_mangle]
+pub extern "C" fn resource_manager_get_bytes(
+    contents: &[u16],
+    bodies: &[u8],
+    name: &[u8],
+    class: &[u8],
+) -> u64
+    ensures { λ r. ⌜ r ≡ placeCode (getBytes (now (contents .entry)) (now (bodies .entry)) (now (name .entry)) (now (class .entry))) ⌝ }
+{
+    let found = lookup::get_bytes(contents, bodies, name, class);
+    place_code(found)
+}
+
+// The same for a value that is well-formed UTF-8: else none.
+#[no_mangle]
+pub extern "C" fn resource_manager_get_string(
+    contents: &[u16],
+    bodies: &[u8],
+    name: &[u8],
+    class: &[u8],
+) -> u64
+    ensures { λ r. ⌜ r ≡ placeCode (getString (now (contents .entry)) (now (bodies .entry)) (now (name .entry)) (now (class .entry))) ⌝ }
+{
+    let found = lookup::get_string(contents, bodies, name, class);
+    place_code(found)
+}
+
+// 65536 for true, 0 for false, 65535 for none, or the refusal.
+#[no_mangle]
+pub extern "C" fn resource_manager_get_bool(
+    contents: &[u16],
+    bodies: &[u8],
+    name: &[u8],
+    class: &[u8],
+) -> u64
+    ensures { λ r. ⌜ r ≡ boolCode (getBool (now (contents .entry)) (now (bodies .entry)) (now (name .entry)) (now (class .entry))) ⌝ }
+{
+    let truth = lookup::get_bool(contents, bodies, name, class);
+    match truth {
+        Truth::Is(value) => {
+            if value {
+                return 65536;
+            }
+            0
+        }
+        Truth::Nothing => 65535,
+        Truth::Refused(number) => number as u64,
+    }
+}
+
+// 0 with the number in `out`; 65534 if the value is not a number, 65535 for none, or the refusal, with `out` as it was.
+#[no_mangle]
+pub extern "C" fn resource_manager_get_value(
+    contents: &[u16],
+    bodies: &[u8],
+    name: &[u8],
+    class: &[u8],
+    out: &mut i64,
+) -> u64
+    ensures { λ r. ⌜ taking r (now (out .exit)) ≡ taken (getValue (now (contents .entry)) (now (bodies .entry)) (now (name .entry)) (now (class .entry))) (now (out .entry)) ⌝ }
+{
+    let value = lookup::get_value(contents, bodies, name, class);
+    match value {
+        Value::Is(number) => {
+            *out = number;
+            0
+        }
+        Value::NotANumber => 65534,
+        Value::Nothing => 65535,
+        Value::Refused(number) => number as u64,
     }
 }

@@ -1,0 +1,80 @@
+-- The comparing call: a query looked up in what is read with a file on the archive (document 01's shelf), and with it struck off.
+use mathlib.Core.Bool.{_||_}
+use mathlib.Core.List.{List}
+use mathlib.Core.Path.{_≡_}
+use Prim.Native.Nat.{ℕ}
+use lib.Dec.{ltb}
+use lib.ListN.{length}
+use lib.Seq.{paste}
+use Rattle.definition.specs.Lists.{if_then_else_}
+use Rattle.definition.specs.Archive.{filesOf, struckOff}
+use Rattle.definition.specs.Image.{tooShort}
+use Rattle.definition.specs.Reading.{Answer, accepted, refused, Outcome, reading}
+use Rattle.definition.specs.Lookup.{Reply, Place}
+use Rattle.definition.specs.ThirdTerm.{Case, withFile, withoutFile, lookup}
+use Rattle.lookup.specs.Replies.{replied}
+use Rattle.compare.specs.declared.Compared.{Compared}
+use Rattle.compare.specs.declared.Compared.the-variants.{Both, NoFile, Refused}
+
+-- both answers, or no such file, or a number of document 01's table
+pub data Comparison : Type 0 where
+  both : Reply Place → Reply Place → Comparison
+  noFile : Comparison
+  refusedBy : ℕ → Comparison
+
+-- the answer, and each lent buffer afterwards
+pub record Left : Type 0 where
+  pub answer : Comparison
+  pub struck : List ℕ
+  pub contents : List ℕ
+  pub bodies : List ℕ
+  pub contents′ : List ℕ
+  pub bodies′ : List ℕ
+
+module _ (c : Case) (struck : List ℕ) where
+  -- 1 for a buffer of either reading, or for less room than the archive takes; nothing has changed
+  abbrev pub noRoom : Left
+  noRoom = record { answer = refusedBy 1; struck = struck; contents = c .contents; bodies = c .bodies; contents′ = c .contents′; bodies′ = c .bodies′ }
+
+  -- the first reading is done
+  abbrev pub onlyFirst : Comparison → Left
+  onlyFirst a = record { answer = a; struck = struck; contents = withFile c .contents; bodies = withFile c .bodies; contents′ = c .contents′; bodies′ = c .bodies′ }
+
+  abbrev pub bothRead : Left
+  bothRead = record {
+    answer = both (lookup c (withFile c)) (lookup c (withoutFile c));
+    struck = paste struck 0 (struckOff (c .file) (c .archive)) (length (struckOff (c .file) (c .archive)));
+    contents = withFile c .contents;
+    bodies = withFile c .bodies;
+    contents′ = withoutFile c .contents;
+    bodies′ = withoutFile c .bodies;
+  }
+
+  unfoldable pub afterFirst : Answer → Left
+  afterFirst (accepted entries opens) = if ltb (c .file) (length (filesOf (c .archive))) then bothRead else onlyFirst noFile
+  afterFirst (refused k) = onlyFirst (refusedBy k)
+
+  unfoldable pub comparing : Left
+  comparing =
+      if ltb (length struck) (length (c .archive)) then noRoom else
+      if tooShort (c .contents′) (c .bodies′) then noRoom else
+      afterFirst (withFile c .answer)
+
+abbrev pub compared : Compared → Comparison
+compared (Both a b) = both (replied a) (replied b)
+compared NoFile = noFile
+compared (Refused k) = refusedBy k
+
+abbrev pub leaving : Compared → List ℕ → List ℕ → List ℕ → List ℕ → List ℕ → Left
+leaving r s c b c′ b′ = record { answer = compared r; struck = s; contents = c; bodies = b; contents′ = c′; bodies′ = b′ }
+
+-- what striking off and the second reading leave
+pub record SecondOf (text archive : List ℕ) (file : ℕ) (struck contents bodies struck′ contents′ bodies′ : List ℕ) : Type 0 where
+  pub struckOff-left : struck′ ≡ paste struck 0 (struckOff file archive) (length (struckOff file archive))
+  pub contents-left : contents′ ≡ reading text (struckOff file archive) contents bodies .contents
+  pub bodies-left : bodies′ ≡ reading text (struckOff file archive) contents bodies .bodies
+
+abbrev pub asked : List ℕ → List ℕ → ℕ → List ℕ → List ℕ → List ℕ → List ℕ → List ℕ → List ℕ → Case
+asked text archive file name class contents bodies contents′ bodies′ = record {
+  text = text; archive = archive; file = file; name = name; class = class; contents = contents; bodies = bodies; contents′ = contents′; bodies′ = bodies′
+}

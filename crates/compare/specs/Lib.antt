@@ -1,0 +1,2 @@
+-- What the contract of the comparing call cites beside the definition.
+pub mod Comparing

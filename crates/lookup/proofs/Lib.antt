@@ -1,0 +1,3 @@
+-- Laws of the lookups.
+pub mod Looking
+pub mod Readings

@@ -1,0 +1,259 @@
+-- The loop over the entries, and the tests before it. Assumes nothing.
+use mathlib.Core.Bool.{Bool, true, false, not, or-true}
+use mathlib.Core.List.{List, [], _∷_, map}
+use mathlib.Core.Option.{Option, some, none}
+use mathlib.Core.Path.{_≡_, refl, sym, ap, _∙_}
+use Prim.Native.Nat.{ℕ, zero, suc, _+_, _-_, _*_, _≤_, _<_, max}
+use native.Mathlib.Numerals.{add-one}
+use native.Mathlib.Nat.{sub-zero}
+use native.Mathlib.Omega.{arith}
+use lib.Dec.{ltb}
+use lib.ListN.{length, getD, take, drop}
+use lib.Seq.{slice}
+use borrow.Author.Tests.{lt-ltb, le-ltb}
+use Rattle.definition.specs.Lists.{if_then_else_}
+use Rattle.definition.specs.Limits.{bodyBytes, queryBytes, queryParts, mostEntries}
+use Rattle.definition.specs.Text.{Part, Entry}
+use Rattle.definition.specs.Image.{Row, rowsFrom, rowsIn, countOf, usedOf, keyEnd, valueEnd, keyAt, keyParts, entriesIn, isKey, isImage}
+use Rattle.definition.specs.Query.{Position, Query, positions, malformed, pastLimit, positionsOf, namesOf, countedQuery, queryOf}
+use Rattle.definition.specs.Ranking.{Best, noEntry, best, rankOf, better, bestFrom, bestOf}
+use Rattle.definition.specs.Lookup.{keysOf, Reply, given, noValue, refused, Place, placeOf, lookup, getBytes}
+use Rattle.query.specs.Splits.{namesIn, Inside, GoodSplit, ManyNames, Answered}
+use Rattle.query.specs.declared.Split.{Split}
+use Rattle.query.specs.declared.Shape.{Shape}
+use Rattle.query.specs.declared.Shape.the-variants.{Good, Malformed, Many}
+use Rattle.query.proofs.Splits.{length-names}
+use Rattle.laws.proofs.Lists.{part-slice}
+use Rattle.laws.proofs.Ranking.{best-beats}
+use Rattle.matcher.specs.Rows.{rowIn, bestIn}
+use Rattle.matcher.specs.declared.Row.{Row as Marks}
+use Rattle.image_judge.specs.Rows.{rowAt}
+use Rattle.image_judge.proofs.Rows.{rowsLeft, rows-turn, row-is, count-rows}
+use Rattle.image_judge.proofs.Judged.{Judged, judged}
+use Rattle.lookup.specs.Replies.{bothShapes, Extends}
+use Rattle.lookup.specs.declared.Extent.{Extent}
+
+-- ---- One entry
+
+module _ (len i at : ℕ) (r b : Marks) (o : Option (List ℕ)) where
+  pub passed-over : o ≡ none → bestIn len at b ≡ better i o (bestIn len at b)
+  unfolding better
+  passed-over e = rw e refl
+
+  module _ (w : Bool) (row : rowIn len r ≡ o) (won : better i (rowIn len r) (bestIn len at b) ≡ (if w then bestIn len i r else bestIn len at b)) where
+    pub takes-over : w ≡ true → bestIn len i r ≡ better i o (bestIn len at b)
+    takes-over e = sym (ap (λ (x : Option (List ℕ)). better i x (bestIn len at b)) (sym row) ∙ won ∙ rw e refl)
+
+    pub stays : w ≡ false → bestIn len at b ≡ better i o (bestIn len at b)
+    stays e = sym (ap (λ (x : Option (List ℕ)). better i x (bestIn len at b)) (sym row) ∙ won ∙ rw e refl)
+
+-- ---- The loop
+
+module _ (contents bodies : List ℕ) (qs : List Position) where
+  abbrev keys : List (List Part)
+  keys = keysOf (entriesIn (rowsIn contents) bodies)
+
+  abbrev keysLeft : ℕ → List (List Part)
+  keysLeft i = keysOf (entriesIn (rowsLeft contents (countOf contents) i) bodies)
+
+  -- going on from entry i with the best so far comes to the best of all
+  pub record Searching (i : ℕ) (b : Best) : Type 0 where
+    pub most : i ≤ countOf contents
+    pub same : bestFrom (keysLeft i) qs i b ≡ bestOf keys qs
+
+  pub searching-first : Searching 0 noEntry
+  unfolding bestOf
+  searching-first = record { most = omega arith; same = rw (sub-zero (countOf contents)) refl }
+
+  pub searching-more : (i : ℕ) (b b′ : Best) → Searching i b → i < countOf contents
+      → b′ ≡ better i (rankOf (keyParts (keyAt bodies (rowAt contents i))) qs) b → Searching (i + 1) b′
+  unfolding bestFrom entriesIn
+  searching-more i b b′ s h e = record {
+    most = omega arith;
+    same = sym (sym (s .same) ∙ rw (rows-turn contents (countOf contents) i h, add-one i, e) refl);
+  }
+
+  pub searching-done : (i : ℕ) (b : Best) → Searching i b → countOf contents ≤ i → bestOf keys qs ≡ b
+  unfolding bestFrom rowsFrom entriesIn
+  searching-done i b s h =
+      let e : countOf contents - i ≡ 0 = omega arith in
+      sym (s .same) ∙ rw e refl
+
+  keys-long : (rows : List Row) → length (keysOf (entriesIn rows bodies)) ≡ length rows
+  unfolding entriesIn
+  keys-long [] = refl
+  keys-long (r ∷ rows) = ap suc (keys-long rows)
+
+  module _ (len at : ℕ) (r : Marks) (won : bestOf keys qs ≡ bestIn len at r) where
+    pub finds-none : r .live ≡ false → noValue ≡ lookup contents bodies (positions qs)
+    unfolding lookup placeOf bestIn
+    finds-none e = rw (won, e) refl
+
+    is-best : r .live ≡ true → bestOf keys qs ≡ best at (take len (r .marks))
+    unfolding bestIn
+    is-best e = won ∙ rw e refl
+
+    pub best-inside : r .live ≡ true → at < countOf contents
+    best-inside e =
+        let b = best-beats keys qs at (take len (r .marks)) (is-best e) in
+        omega (arith, b .inside, keys-long (rowsIn contents), count-rows contents)
+
+    pub finds : r .live ≡ true
+        → given (record { start = keyEnd (rowAt contents at); length = rowAt contents at .valueLength }) ≡ lookup contents bodies (positions qs)
+    unfolding lookup placeOf
+    finds e = rw (is-best e, row-is contents at (record { start = 0; keyLength = 0; valueLength = 0 }) (best-inside e)) refl
+
+-- ---- The query
+
+module _ (name class : List ℕ) where
+  pub query-long : queryBytes < length name → queryOf name class ≡ pastLimit 9
+  unfolding queryOf
+  query-long h = rw (lt-ltb queryBytes (length name) h) refl
+
+  module _ (hn : length name ≤ queryBytes) where
+    pub class-long : queryBytes < length class → queryOf name class ≡ pastLimit 9
+    unfolding queryOf
+    class-long h = rw (le-ltb queryBytes (length name) hn, lt-ltb queryBytes (length class) h) refl
+
+    module _ (hc : length class ≤ queryBytes) where
+      counted : queryOf name class ≡ countedQuery (namesOf name) (namesOf class)
+      unfolding queryOf
+      counted = rw (le-ltb queryBytes (length name) hn, le-ltb queryBytes (length class) hc) refl
+
+      pub query-malformed : (sn sc : Split) (a b : Shape) → Answered name a sn → Answered class b sc → Malformed ≡ bothShapes a b → queryOf name class ≡ malformed
+      unfolding countedQuery
+      query-malformed sn sc Malformed b p q e = counted ∙ rw p refl
+      query-malformed sn sc Many Malformed p q e = counted ∙ rw (p .all, q) refl
+      query-malformed sn sc Many Many p q e = absurd (let z : _≡_ {A = ℕ} 0 1 = cc in omega arith)
+      query-malformed sn sc Many Good p q e = absurd (let z : _≡_ {A = ℕ} 0 1 = cc in omega arith)
+      query-malformed sn sc Good Malformed p q e = counted ∙ rw (p .names, q) refl
+      query-malformed sn sc Good Many p q e = absurd (let z : _≡_ {A = ℕ} 0 1 = cc in omega arith)
+      query-malformed sn sc Good Good p q e = absurd (let z : _≡_ {A = ℕ} 0 1 = cc in omega arith)
+
+      -- too many parts in one of the two
+      many-first : (ns cs : List (List ℕ)) → namesOf name ≡ some ns → namesOf class ≡ some cs → queryParts < length ns → queryOf name class ≡ pastLimit 10
+      unfolding countedQuery
+      many-first ns cs p q h = counted ∙ rw (p, q, lt-ltb queryParts (length ns) h) refl
+
+      many-second : (ns cs : List (List ℕ)) → namesOf name ≡ some ns → namesOf class ≡ some cs → queryParts < length cs → queryOf name class ≡ pastLimit 10
+      unfolding countedQuery
+      many-second ns cs p q h = counted ∙ rw (p, q, lt-ltb queryParts (length cs) h, or-true (ltb queryParts (length ns))) refl
+
+      pub query-many : (sn sc : Split) (a b : Shape) → Answered name a sn → Answered class b sc → Many ≡ bothShapes a b → queryOf name class ≡ pastLimit 10
+      query-many sn sc Malformed b p q e = absurd (let z : _≡_ {A = ℕ} 0 1 = cc in omega arith)
+      query-many sn sc Many Malformed p q e = absurd (let z : _≡_ {A = ℕ} 0 1 = cc in omega arith)
+      query-many sn sc Many Many p q e = many-first (p .names) (q .names) (p .all) (q .all) (p .many)
+      query-many sn sc Many Good p q e = many-first (p .names) (namesIn class sc) (p .all) (q .names) (p .many)
+      query-many sn sc Good Malformed p q e = absurd (let z : _≡_ {A = ℕ} 0 1 = cc in omega arith)
+      query-many sn sc Good Many p q e = many-second (namesIn name sn) (q .names) (p .names) (q .all) (q .many)
+      query-many sn sc Good Good p q e = absurd (let z : _≡_ {A = ℕ} 0 1 = cc in omega arith)
+
+      -- both are good
+      pub both-good : (sn sc : Split) (a b : Shape) → Answered name a sn → Answered class b sc → Good ≡ bothShapes a b → GoodSplit name sn × GoodSplit class sc
+      both-good sn sc Malformed b p q e = absurd (let z : _≡_ {A = ℕ} 0 1 = cc in omega arith)
+      both-good sn sc Many Malformed p q e = absurd (let z : _≡_ {A = ℕ} 0 1 = cc in omega arith)
+      both-good sn sc Many Many p q e = absurd (let z : _≡_ {A = ℕ} 0 1 = cc in omega arith)
+      both-good sn sc Many Good p q e = absurd (let z : _≡_ {A = ℕ} 0 1 = cc in omega arith)
+      both-good sn sc Good Malformed p q e = absurd (let z : _≡_ {A = ℕ} 0 1 = cc in omega arith)
+      both-good sn sc Good Many p q e = absurd (let z : _≡_ {A = ℕ} 0 1 = cc in omega arith)
+      both-good sn sc Good Good p q e = (p, q)
+
+      pub query-good : (sn sc : Split) → GoodSplit name sn → GoodSplit class sc → queryOf name class ≡ positions (positionsOf (namesIn name sn) (namesIn class sc))
+      unfolding countedQuery
+      query-good sn sc p q =
+          let n : length (namesIn name sn) ≤ queryParts = omega (arith, length-names name sn, p .inside .few) in
+          let c : length (namesIn class sc) ≤ queryParts = omega (arith, length-names class sc, q .inside .few) in
+          counted ∙ rw (p .names, q .names, le-ltb queryParts (length (namesIn name sn)) n, le-ltb queryParts (length (namesIn class sc)) c) refl
+
+-- ---- The call
+
+module _ (contents bodies name class : List ℕ) where
+  pub no-image : isImage contents bodies ≡ false → refused 8 ≡ getBytes contents bodies name class
+  unfolding getBytes
+  no-image e = rw e refl
+
+  module _ (e : isImage contents bodies ≡ true) where
+    looked : (q : Query) → queryOf name class ≡ q → getBytes contents bodies name class ≡ lookup contents bodies q
+    unfolding getBytes
+    looked q f = rw (e, f) refl
+
+    pub past : (k : ℕ) → queryOf name class ≡ pastLimit k → refused k ≡ getBytes contents bodies name class
+    unfolding lookup
+    past k f = sym (looked (pastLimit k) f)
+
+    pub none-found : queryOf name class ≡ malformed → noValue ≡ getBytes contents bodies name class
+    unfolding lookup
+    none-found f = sym (looked malformed f)
+
+    pub well-formed : (qs : List Position) (r : Reply Place) → queryOf name class ≡ positions qs → r ≡ lookup contents bodies (positions qs)
+        → r ≡ getBytes contents bodies name class
+    well-formed qs r f g = g ∙ sym (looked (positions qs) f)
+
+-- ---- The key of a row, as the code takes it
+
+module _ (contents bodies : List ℕ) (i : ℕ) (x : Extent) (e : Extends contents i x) where
+  pub key-part : take (x .value - x .key) (drop (x .key) bodies) ≡ keyAt bodies (rowAt contents i)
+  key-part = rw (e .key, e .value) (part-slice bodies (rowAt contents i .start) (keyEnd (rowAt contents i)))
+
+  module _ (image : isImage contents bodies ≡ true) (h : i < countOf contents) where
+    pub key-within : x .value ≤ length bodies
+    key-within =
+        let j = judged contents bodies image in
+        omega (arith, e .value, j .row-inside i h, j .used-most, j .bodies-long)
+
+    pub key-ordered : x .key ≤ x .value
+    key-ordered = omega (arith, e .key, e .value)
+
+    pub key-is : isKey (take (x .value - x .key) (drop (x .key) bodies)) ≡ true
+    key-is = rw key-part (judged contents bodies image .row-key i h)
+
+  -- the answer from the row of the best entry
+  pub found-is : _≡_ {A = Reply Place} (given (record { start = x .value; length = x .size })) (given (record { start = keyEnd (rowAt contents i); length = rowAt contents i .valueLength }))
+  found-is = rw (e .value, e .size) refl
+
+pub rows-inside : (contents bodies : List ℕ) (i : ℕ) → isImage contents bodies ≡ true → i < countOf contents → (i < mostEntries) × (2 + 3 * i + 2 < length contents)
+rows-inside contents bodies i image h =
+    let j = judged contents bodies image in
+    (omega (arith, j .count-most), omega (arith, j .rows-within))
+
+-- ---- A value that is found lies in the bodies that an image has
+
+module _ (contents bodies : List ℕ) (image : isImage contents bodies ≡ true) (p n : ℕ) where
+  abbrev place : Place
+  place = record { start = p; length = n }
+
+  abbrev Inside-image : Type 0
+  Inside-image = (p + n ≤ bodyBytes) × (bodyBytes ≤ length bodies)
+
+  best-placed : (qs : List Position) (b : Best) → bestOf (keysOf (entriesIn (rowsIn contents) bodies)) qs ≡ b → given place ≡ placeOf (rowsIn contents) b → Inside-image
+  unfolding placeOf
+  best-placed qs noEntry f e = absurd (let z : _≡_ {A = ℕ} 0 1 = cc in omega arith)
+  best-placed qs (best i row) f e =
+      let w = best-beats (keysOf (entriesIn (rowsIn contents) bodies)) qs i row f in
+      let h : i < countOf contents = omega (arith, w .inside, keys-long contents bodies qs (rowsIn contents), count-rows contents) in
+      let r = getD (rowsIn contents) i (record { start = 0; keyLength = 0; valueLength = 0 }) in
+      let q : _≡_ {A = Reply Place} (given place) (given (record { start = keyEnd r; length = r .valueLength })) = e in
+      let same : place ≡ record { start = keyEnd r; length = r .valueLength } = cc in
+      let j = judged contents bodies image in
+      let at = row-is contents i (record { start = 0; keyLength = 0; valueLength = 0 }) h in
+      let s : p + n ≡ valueEnd (rowAt contents i) = ap (λ (x : Place). x .start + x .length) same ∙ ap valueEnd at in
+      (omega (arith, s, j .row-inside i h, j .used-most), j .bodies-long)
+
+  looked-placed : (q : Query) → given place ≡ lookup contents bodies q → Inside-image
+  unfolding lookup
+  looked-placed (positions qs) e = best-placed qs _ refl e
+  looked-placed malformed e = absurd (let z : _≡_ {A = ℕ} 0 1 = cc in omega arith)
+  looked-placed (pastLimit k) e = absurd (let z : _≡_ {A = ℕ} 0 1 = cc in omega arith)
+
+pub found-placed : (contents bodies name class : List ℕ) (p n : ℕ) → given (record { start = p; length = n }) ≡ getBytes contents bodies name class
+    → (p + n ≤ bodyBytes) × (bodyBytes ≤ length bodies)
+unfolding getBytes
+found-placed contents bodies name class p n = at (isImage contents bodies) refl
+  where
+    at : (b : Bool) → isImage contents bodies ≡ b → given (record { start = p; length = n }) ≡ (if not b then refused 8 else lookup contents bodies (queryOf name class))
+        → (p + n ≤ bodyBytes) × (bodyBytes ≤ length bodies)
+    at true i e = looked-placed contents bodies i p n (queryOf name class) e
+    at false i e = absurd (let z : _≡_ {A = ℕ} 0 1 = cc in omega arith)
+
+pub found-inside : (contents bodies name class : List ℕ) (p n : ℕ) → given (record { start = p; length = n }) ≡ getBytes contents bodies name class → p + n ≤ length bodies
+found-inside contents bodies name class p n e = let f = found-placed contents bodies name class p n e in omega (arith, f .0, f .1)
