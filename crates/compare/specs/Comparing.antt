@@ -1,8 +1,7 @@
 -- The comparing call: a query looked up in what is read with a file on the archive (document 01's shelf), and with it struck off.
-use mathlib.Core.Bool.{_||_}
 use mathlib.Core.List.{List}
 use mathlib.Core.Path.{_≡_}
-use Prim.Native.Nat.{ℕ}
+use Prim.Native.Nat.{ℕ, _≤_}
 use lib.Dec.{ltb}
 use lib.ListN.{length}
 use lib.Seq.{paste}
@@ -10,8 +9,8 @@ use Rattle.definition.specs.Lists.{if_then_else_}
 use Rattle.definition.specs.Archive.{filesOf, struckOff}
 use Rattle.definition.specs.Image.{tooShort}
 use Rattle.definition.specs.Reading.{Answer, accepted, refused, Outcome, reading}
-use Rattle.definition.specs.Lookup.{Reply, Place}
-use Rattle.definition.specs.ThirdTerm.{Case, withFile, withoutFile, lookup}
+use Rattle.definition.specs.Lookup.{Reply, given, noValue, refused as refusedLookup, Place}
+use Rattle.definition.specs.ThirdTerm.{Case, withFile, withoutFile, lookup, ThirdTerm}
 use Rattle.lookup.specs.Replies.{replied}
 use Rattle.compare.specs.declared.Compared.{Compared}
 use Rattle.compare.specs.declared.Compared.the-variants.{Both, NoFile, Refused}
@@ -31,6 +30,12 @@ pub record Left : Type 0 where
   pub contents′ : List ℕ
   pub bodies′ : List ℕ
 
+-- 9 and 10 refuse the call; both lookups are of one query and meet them alike
+unfoldable pub answering : Reply Place → Reply Place → Comparison
+answering (given p) b = both (given p) b
+answering noValue b = both noValue b
+answering (refusedLookup k) b = refusedBy k
+
 module _ (c : Case) (struck : List ℕ) where
   -- 1 for a buffer of either reading, or for less room than the archive takes; nothing has changed
   abbrev pub noRoom : Left
@@ -42,7 +47,7 @@ module _ (c : Case) (struck : List ℕ) where
 
   abbrev pub bothRead : Left
   bothRead = record {
-    answer = both (lookup c (withFile c)) (lookup c (withoutFile c));
+    answer = answering (lookup c (withFile c)) (lookup c (withoutFile c));
     struck = paste struck 0 (struckOff (c .file) (c .archive)) (length (struckOff (c .file) (c .archive)));
     contents = withFile c .contents;
     bodies = withFile c .bodies;
@@ -59,6 +64,13 @@ module _ (c : Case) (struck : List ℕ) where
       if ltb (length struck) (length (c .archive)) then noRoom else
       if tooShort (c .contents′) (c .bodies′) then noRoom else
       afterFirst (withFile c .answer)
+
+  -- the third term, of a call that leaves these: both readings and both lookups are made, the answer is both lookups', and they
+  -- are as the term says
+  pub record Term (after : Left) : Type 0 where
+    pub made : after ≡ bothRead
+    pub answers : after .answer ≡ both (lookup c (withFile c)) (lookup c (withoutFile c))
+    pub term : ThirdTerm c
 
 abbrev pub compared : Compared → Comparison
 compared (Both a b) = both (replied a) (replied b)

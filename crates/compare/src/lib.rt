@@ -5,7 +5,8 @@ ghost use Prim.Native.Nat.{_≤_, _<_};
 ghost use lib.ListN.{length};
 ghost use Rattle.definition.specs.Archive.{laidOut, filesOf};
 ghost use Rattle.definition.specs.ThirdTerm.{Given, ThirdTerm};
-ghost use Rattle.compare.specs.Comparing.{asked, leaving, comparing, bothRead, SecondOf};
+ghost use Rattle.compare.specs.Comparing.{asked, leaving, comparing, SecondOf, compared, answering};
+ghost use Rattle.lookup.specs.Replies.{replied};
 use archive::word_at;
 use archive_find::strike_off;
 use lookup::Lookup;
@@ -36,6 +37,17 @@ fn read_without(
 {
     let n = strike_off(archive, file, struck);
     read(text, &struck[..n], contents, bodies);
+}
+
+// Both answers; a number that refuses the first lookup refuses the second too.
+fn answering(with_it: Lookup, without: Lookup) -> Compared
+    ensures { λ r. ⌜ compared r ≡ answering (replied «with_it») (replied without) ⌝ }
+{
+    match with_it {
+        Lookup::Found(place, size) => Compared::Both(Lookup::Found(place, size), without),
+        Lookup::Nothing => Compared::Both(Lookup::Nothing, without),
+        Lookup::Refused(number) => Compared::Refused(number),
+    }
 }
 
 // Reads the text with the archive and again with the file struck off, and looks the query up in both.
@@ -73,7 +85,7 @@ pub fn compare_without(
             read_without(text, archive, file, struck, words, store);
             let with_it = get_bytes(contents, bodies, name, class);
             let without = get_bytes(words, store, name, class);
-            Compared::Both(with_it, without)
+            answering(with_it, without)
         }
     }
 }
