@@ -1,5 +1,5 @@
 -- What the comparing call leaves, case by case, and the third term of it. Assumes nothing.
-use mathlib.Core.Bool.{true, false, _||_}
+use mathlib.Core.Bool.{Bool, true, false}
 use mathlib.Core.List.{List}
 use mathlib.Core.Path.{_≡_, refl, sym, ap, _∙_}
 use Prim.Native.Nat.{ℕ, _+_, _≤_, _<_}
@@ -8,6 +8,7 @@ use lib.Dec.{ltb}
 use lib.ListN.{length, take, drop}
 use lib.Seq.{paste, take-at, take-length}
 use borrow.Author.Tests.{lt-ltb, le-ltb}
+use Rattle.definition.specs.Lists.{if_then_else_}
 use Rattle.definition.specs.Limits.{contentsWords, bodyBytes}
 use Rattle.definition.specs.Archive.{laidOut, filesOf, struckOff, numberAt}
 use Rattle.definition.specs.Image.{tooShort}
@@ -76,6 +77,36 @@ module _ (c : Case) (struck : List ℕ) where
           unfolding afterFirst
           both-left h r with-it without s₂ c₂ b₂ second a b d =
               rw (d, a, b, ap (λ (x : Outcome). x .contents) e, ap (λ (x : Outcome). x .bodies) e, second .struckOff-left, second .contents-left, second .bodies-left, ← first-done, ← ap (λ (x : Outcome). x .answer) e, lt-ltb (c .file) (length (filesOf (c .archive))) h) refl
+
+  -- ---- Both answers are the lookups'
+
+  module _ (a b : Reply Place) where
+    abbrev Lookups : Type 0
+    Lookups = (a ≡ lookup c (withFile c)) × (b ≡ lookup c (withoutFile c))
+
+    answering-both : (x y : Reply Place) → answering x y ≡ both a b → (a ≡ x) × (b ≡ y)
+    unfolding answering
+    answering-both (given p) y e = (cc, cc)
+    answering-both noValue y e = (cc, cc)
+    answering-both (refusedLookup k) y e = absurd (let z : _≡_ {A = ℕ} 0 1 = cc in omega arith)
+
+    after-both : (r : Answer) → afterFirst c struck r .answer ≡ both a b → Lookups
+    unfolding afterFirst
+    after-both (refused k) e = absurd (let z : _≡_ {A = ℕ} 0 1 = cc in omega arith)
+    after-both (accepted n o) e = at (ltb (c .file) (length (filesOf (c .archive)))) e
+      where
+        at : (t : Bool) → (if t then bothRead c struck else onlyFirst c struck noFile) .answer ≡ both a b → Lookups
+        at true e = answering-both (lookup c (withFile c)) (lookup c (withoutFile c)) e
+        at false e = absurd (let z : _≡_ {A = ℕ} 0 1 = cc in omega arith)
+
+    pub both-lookups : comparing c struck .answer ≡ both a b → Lookups
+    unfolding comparing
+    both-lookups = at (ltb (length struck) (length (c .archive))) (tooShort (c .contents′) (c .bodies′))
+      where
+        at : (t u : Bool) → (if t then noRoom c struck else if u then noRoom c struck else afterFirst c struck (withFile c .answer)) .answer ≡ both a b → Lookups
+        at true u e = absurd (let z : _≡_ {A = ℕ} 0 1 = cc in omega arith)
+        at false true e = absurd (let z : _≡_ {A = ℕ} 0 1 = cc in omega arith)
+        at false false e = after-both (withFile c .answer) e
 
   -- ---- The third term
 

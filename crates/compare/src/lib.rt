@@ -49,7 +49,8 @@ fn answering(with_it: Lookup, without: Lookup) -> Compared
     }
 }
 
-// Reads the text with the archive and again with the file struck off, and looks the query up in both.
+// Reads the text with the archive, and again with one file struck off (files are counted from 0), and looks the query up in both.
+// `struck` is room for the archive without the file.
 pub fn compare_without(
     text: &[u8],
     archive: &[u8],
@@ -59,18 +60,18 @@ pub fn compare_without(
     struck: &mut [u8],
     contents: &mut [u16],
     bodies: &mut [u8],
-    words: &mut [u16],
-    store: &mut [u8],
+    contents_without: &mut [u16],
+    bodies_without: &mut [u8],
 ) -> Compared
-    ensures { λ r. ⌜ Promise (asked (now (text .entry)) (now (archive .entry)) file (now (name .entry)) (now (class .entry)) (now (contents .entry)) (now (bodies .entry)) (now (words .entry)) (now (store .entry))) (now (struck .entry)) (leaving r (now (struck .exit)) (now (contents .exit)) (now (bodies .exit)) (now (words .exit)) (now (store .exit))) ⌝ }
+    ensures { λ r. ⌜ Promise (asked (now (text .entry)) (now (archive .entry)) file (now (name .entry)) (now (class .entry)) (now (contents .entry)) (now (bodies .entry)) (now («contents_without» .entry)) (now («bodies_without» .entry))) (now (struck .entry)) (leaving r (now (struck .exit)) (now (contents .exit)) (now (bodies .exit)) (now («contents_without» .exit)) (now («bodies_without» .exit))) ⌝ }
 {
     if struck.len() < archive.len() {
         return Compared::Refused(1);
     }
-    if words.len() < CONTENTS_WORDS {
+    if contents_without.len() < CONTENTS_WORDS {
         return Compared::Refused(1);
     }
-    if store.len() < BODY_BYTES {
+    if bodies_without.len() < BODY_BYTES {
         return Compared::Refused(1);
     }
     let first = read(text, archive, contents, bodies);
@@ -80,9 +81,16 @@ pub fn compare_without(
             if file >= word_at(archive, 0) {
                 return Compared::NoFile;
             }
-            read_without(text, archive, file, struck, words, store);
+            read_without(
+                text,
+                archive,
+                file,
+                struck,
+                contents_without,
+                bodies_without,
+            );
             let with_it = get_bytes(contents, bodies, name, class);
-            let without = get_bytes(words, store, name, class);
+            let without = get_bytes(contents_without, bodies_without, name, class);
             answering(with_it, without)
         }
     }

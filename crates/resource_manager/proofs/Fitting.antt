@@ -1,9 +1,12 @@
 -- The place that a lookup finds is small enough for its code. Assumes nothing.
 use mathlib.Core.List.{List}
-use mathlib.Core.Path.{_≡_}
+use mathlib.Core.Path.{_≡_, sym}
 use Prim.Native.Nat.{ℕ}
 use Rattle.definition.specs.Lookup.{getBytes}
 use Rattle.definition.specs.Value.{getString}
+use Rattle.definition.specs.ThirdTerm.{Case, withFile, withoutFile}
+use Rattle.compare.specs.Comparing.{both, comparing}
+use Rattle.compare.proofs.Comparing.{both-lookups}
 use Rattle.lookup.specs.Replies.{replied}
 use Rattle.lookup.specs.declared.Lookup.{Lookup}
 use Rattle.lookup.specs.declared.Lookup.the-variants.{Found, Nothing, Refused}
@@ -21,3 +24,12 @@ module _ (contents bodies name class : List ℕ) where
   string-small (Found p n) e = found-placed contents bodies name class p n (string-found contents bodies name class p n e) .0
   string-small Nothing e = tt
   string-small (Refused k) e = tt
+
+-- both lookups of a comparing call
+pub both-small : (c : Case) (struck : List ℕ) (a b : Lookup) → both (replied a) (replied b) ≡ comparing c struck .answer → Small a × Small b
+both-small c struck a b e =
+    let l = both-lookups c struck (replied a) (replied b) (sym e) in
+    (
+      bytes-small (withFile c .contents) (withFile c .bodies) (c .name) (c .class) a (l .0),
+      bytes-small (withoutFile c .contents) (withoutFile c .bodies) (c .name) (c .class) b (l .1),
+    )

@@ -7,6 +7,7 @@ use Rattle.definition.specs.Limits.{bodyBytes}
 use Rattle.definition.specs.Reading.{Answer, accepted, refused, Outcome}
 use Rattle.definition.specs.Lookup.{Reply, given, noValue, refused as refusedBy, Place}
 use Rattle.definition.specs.Value.{Number, number, notANumber}
+use Rattle.compare.specs.Comparing.{Comparison, both, noFile, refusedBy as refusedAs, Left}
 use Rattle.lookup.specs.declared.Lookup.{Lookup}
 use Rattle.lookup.specs.declared.Lookup.the-variants.{Found, Nothing, Refused}
 
@@ -64,3 +65,39 @@ taken (given (number z)) lent = taking 0 z
 taken (given notANumber) lent = taking 65534 lent
 taken noValue lent = taking 65535 lent
 taken (refusedBy k) lent = taking k lent
+
+-- ---- The comparing call
+
+-- a call's number, the two lent numbers, and each lent buffer afterwards
+pub record Compares : Type 0 where
+  pub code : ℕ
+  pub withIt : ℕ
+  pub without : ℕ
+  pub struck : List ℕ
+  pub contents : List ℕ
+  pub bodies : List ℕ
+  pub contents′ : List ℕ
+  pub bodies′ : List ℕ
+
+abbrev pub compares : ℕ → ℕ → ℕ → List ℕ → List ℕ → List ℕ → List ℕ → List ℕ → Compares
+compares n w o s c b c′ b′ = record { code = n; withIt = w; without = o; struck = s; contents = c; bodies = b; contents′ = c′; bodies′ = b′ }
+
+-- 0 with both lookups' numbers, 65535 if the archive has no such file, or the refusal; only 0 changes the lent numbers
+abbrev pub compareCode : Comparison → ℕ
+compareCode (both a b) = 0
+compareCode noFile = 65535
+compareCode (refusedAs k) = k
+
+abbrev pub codeWith : Comparison → ℕ → ℕ
+codeWith (both a b) lent = placeCode a
+codeWith noFile lent = lent
+codeWith (refusedAs k) lent = lent
+
+abbrev pub codeWithout : Comparison → ℕ → ℕ
+codeWithout (both a b) lent = placeCode b
+codeWithout noFile lent = lent
+codeWithout (refusedAs k) lent = lent
+
+abbrev pub carried : Left → ℕ → ℕ → Compares
+carried l w o =
+    compares (compareCode (l .answer)) (codeWith (l .answer) w) (codeWithout (l .answer) o) (l .struck) (l .contents) (l .bodies) (l .contents′) (l .bodies′)

@@ -4,7 +4,9 @@ ghost use Rattle.definition.specs.Reading.{reading};
 ghost use Rattle.definition.specs.Lookup.{getBytes};
 ghost use Rattle.definition.specs.Value.{getString, getBool, getValue};
 ghost use Rattle.lookup.specs.Replies.{replied};
-ghost use Rattle.resource_manager.specs.Boundary.{Crossing, crossed, crossing, placeCode, Small, boolCode, Taking, taking, taken};
+ghost use Rattle.resource_manager.specs.Boundary.{Crossing, crossed, crossing, placeCode, Small, boolCode, Taking, taking, taken, compares, carried};
+ghost use Rattle.compare.specs.Comparing.{asked, comparing};
+use compare::Compared;
 use lookup::Lookup;
 use lookup::Truth;
 use lookup::Value;
@@ -110,5 +112,47 @@ pub extern "C" fn resource_manager_get_value(
         Value::NotANumber => 65534,
         Value::Nothing => 65535,
         Value::Refused(number) => number as u64,
+    }
+}
+
+// A query's value with a file on the archive and with it struck off: 0 with the numbers of both lookups in `with_it` and `without`;
+// 65535 if the archive has no such file, or the refusal, with both as they were.
+#[no_mangle]
+pub extern "C" fn resource_manager_compare_without(
+    text: &[u8],
+    shelf: &[u8],
+    file: usize,
+    name: &[u8],
+    class: &[u8],
+    struck: &mut [u8],
+    contents: &mut [u16],
+    bodies: &mut [u8],
+    contents_without: &mut [u16],
+    bodies_without: &mut [u8],
+    with_it: &mut u64,
+    without: &mut u64,
+) -> u64
+    ensures { λ r. ⌜ compares r (now («with_it» .exit)) (now (without .exit)) (now (struck .exit)) (now (contents .exit)) (now (bodies .exit)) (now («contents_without» .exit)) (now («bodies_without» .exit)) ≡ carried (comparing (asked (now (text .entry)) (now (shelf .entry)) file (now (name .entry)) (now (class .entry)) (now (contents .entry)) (now (bodies .entry)) (now («contents_without» .entry)) (now («bodies_without» .entry))) (now (struck .entry))) (now («with_it» .entry)) (now (without .entry)) ⌝ }
+{
+    let answer = compare::compare_without(
+        text,
+        shelf,
+        file,
+        name,
+        class,
+        struck,
+        contents,
+        bodies,
+        contents_without,
+        bodies_without,
+    );
+    match answer {
+        Compared::Both(first, second) => {
+            *with_it = place_code(first);
+            *without = place_code(second);
+            0
+        }
+        Compared::NoFile => 65535,
+        Compared::Refused(number) => number as u64,
     }
 }
