@@ -35,7 +35,8 @@ fn read_without(
     ensures { λ r. ⌜ SecondOf (now (text .entry)) (now (archive .entry)) file (now (struck .entry)) (now (contents .entry)) (now (bodies .entry)) (now (struck .exit)) (now (contents .exit)) (now (bodies .exit)) ⌝ }
 {
     let n = strike_off(archive, file, struck);
-    read(text, &struck[..n], contents, bodies);
+    let without = &struck[..n];
+    read(text, without, contents, bodies);
 }
 
 // Both answers; a number that refuses the first lookup refuses the second too.

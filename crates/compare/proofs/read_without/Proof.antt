@@ -23,8 +23,8 @@ strike-off-requires c κs =
     (p .0, p .1, omega (arith, p .2, struck-shorter (a .file) (a .archive .now) (p .0) (p .1)))
 
 -- src/lib.rt:38:16
-slice-reshare-prefix-read : tie.Need-slice-reshare-prefix-read
-slice-reshare-prefix-read c =
+slice-reshare-prefix-without : tie.Need-slice-reshare-prefix-without
+slice-reshare-prefix-without c =
     let start-here = c .before .before .before .before .before .before .before .before .before in
     let strike-off-here = c .before .before in
     let a = start-here .args in
@@ -32,8 +32,8 @@ slice-reshare-prefix-read c =
     omega (arith, strike-off-here .strike-off .ensures .0, strike-off-here .strike-off .kept .1 .1 .0, p .2, struck-shorter (a .file) (a .archive .now) (p .0) (p .1))
 
 -- src/lib.rt:38:16
-slice-aggregate-read : tie.Need-slice-aggregate-read
-slice-aggregate-read c =
+slice-aggregate-without : tie.Need-slice-aggregate-without
+slice-aggregate-without c =
     let start-here = c .before .before .before .before .before .before .before .before .before .before in
     let strike-off-here = c .before .before .before in
     let a = start-here .args in
@@ -80,8 +80,8 @@ read-without-spec =
     tie.close
     (tie.spec
     strike-off-requires
-    slice-reshare-prefix-read
-    slice-aggregate-read
+    slice-reshare-prefix-without
+    slice-aggregate-without
     read-requires
     same-length
     same-length-2
