@@ -9,7 +9,7 @@ use lib.Seq.{paste, paste-zero, length-paste, length-take-le, drop-drop, drop-co
 use Rattle.definition.specs.Parsing.{nothing, found, Parsed, many}
 use Rattle.definition.specs.Bytes.{newline, backslash}
 use Rattle.definition.specs.Text.{pieceAt}
-use Rattle.laws.proofs.Lists.{part-rest, paste-one, paste-take, paste-append}
+use Rattle.laws.proofs.Lists.{part-rest, paste-one, paste-append}
 use Rattle.laws.proofs.Parsing.{many-stop, many-more}
 use Rattle.laws.proofs.Keys.{piece-shrinks}
 use Rattle.values.specs.declared.Piece.{Piece}
@@ -130,11 +130,18 @@ module _ {t s₀ : List ℕ} {at : ℕ} {s : List ℕ} {end i : ℕ} (d : Decodi
     kept-length : length (take n (drop i t)) ≡ n
     kept-length = length-take-le n (drop i t) (g .inside)
 
-    pub keep-more : {s′ : List ℕ} → s′ ≡ paste s end (take (length t - i) (drop i t)) n → end + n ≤ length s → Decoding t s₀ at s′ (end + n) (i + n)
+    kept-part : i + n - i ≡ n
+    kept-part = omega arith
+
+    -- the part of the text that is stored
+    pub part-length : length (take (i + n - i) (drop i t)) ≡ n
+    part-length = rw kept-part kept-length
+
+    pub keep-more : {s′ : List ℕ} → s′ ≡ paste s end (take (i + n - i) (drop i t)) (length (take (i + n - i) (drop i t))) → end + n ≤ length s
+        → Decoding t s₀ at s′ (end + n) (i + n)
     keep-more e k =
         let l = kept-length in
-        rw (e, part-rest t i, paste-take s end (drop i t) n (g .inside), kept-length)
-        (rw kept-length at (more g (omega arith)))
+        rw (e, kept-part, kept-length) (rw kept-length at (more g (omega arith)))
 
     pub keep-full : length s < end + n → length s₀ < at + length (valueAt t)
     keep-full k = full g (omega (arith, kept-length))

@@ -4,12 +4,12 @@ ghost use mathlib.Core.Bool.{true};
 ghost use mathlib.Core.List.{[], _∷_};
 ghost use Prim.Native.Nat.{_+_, _*_, _%_, _≤_};
 ghost use lib.ListN.{length, take};
-ghost use lib.Seq.{paste};
 ghost use Rattle.definition.specs.Lists.{takeWhile};
 ghost use Rattle.definition.specs.Bytes.{backslash, isOctal};
 ghost use Rattle.definition.specs.Text.{positional, afterBlanks};
 ghost use Rattle.values.specs.Pieces.{IsPiece};
 ghost use Rattle.values.specs.Decoded.{Decoded};
+use scan::copy_in;
 
 // The piece of a value at the front of a text.
 pub enum Piece {
@@ -124,18 +124,6 @@ pub fn parse_piece(text: &[u8]) -> Piece
     parse_escape(&text[1..])
 }
 
-// Copies the first n bytes of a text into the store from `at` on.
-pub fn copy(text: &[u8], n: usize, store: &mut [u8], at: usize)
-    requires { ⌜ (n ≤ length (now text)) × (at + n ≤ length (now store)) ⌝ }
-    ensures { λ _. ⌜ now (store .exit) ≡ paste (now (store .entry)) at (now (text .entry)) n ⌝ }
-{
-    let mut i = 0;
-    while i < n {
-        store[at + i] = text[i];
-        i += 1;
-    }
-}
-
 // Decodes the value at the front of a text, blanks skipped, into the store from `at` on.
 pub fn parse_value(text: &[u8], store: &mut [u8], at: usize) -> Value
     requires { ⌜ at ≤ length (now store) ⌝ }
@@ -172,7 +160,7 @@ pub fn parse_value(text: &[u8], store: &mut [u8], at: usize) -> Value
                 if n > store.len() - end {
                     return Value::Full;
                 }
-                copy(&text[i..], n, store, end);
+                copy_in(&text[i..i + n], store, end);
                 end += n;
                 i += n;
             }

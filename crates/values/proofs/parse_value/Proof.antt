@@ -5,7 +5,6 @@ use native.Mathlib.Omega.{arith}
 use lib.ListN.{length, getD, take, drop}
 use borrow.Author.Tests.{eqb-false, not-true}
 use borrow.Author.Needs.{needs}
-use Rattle.laws.proofs.Lists.{part-rest}
 use Rattle.values.proofs.Decoding.{
   Gives,
   Decoding,
@@ -20,6 +19,7 @@ use Rattle.values.proofs.Decoding.{
   decoded,
   byte-more,
   byte-full,
+  part-length,
   keep-more,
   keep-full,
   drop-more,
@@ -201,25 +201,34 @@ returns-4 c =
     let d = loop-here .loop .inv in
     keep-full d (keep (c .before)) (omega (arith, c .if6 .taken, d .in-store))
 
-sub-copy : tie.Need-sub-copy Inv-loop μ-loop
-sub-copy c =
+add-copy-in : tie.Need-add-copy-in Inv-loop μ-loop
+add-copy-in c =
     let loop-here = c .before .before .before .before .before .before .before in
     let d = loop-here .loop .inv in
-    d .in-text
+    let start-here = c .before .before .before .before .before .before .before .before .before .before in
+    let known-told2-here = c .before in
+    omega (arith, piece-fits (keep known-told2-here) (d .in-text), start-here .good .0 .0)
 
-part-copy-start : tie.Need-part-copy-start Inv-loop μ-loop
-part-copy-start c = search needs
+sub-copy-in : tie.Need-sub-copy-in Inv-loop μ-loop
+sub-copy-in c = search needs
 
-part-copy-end : tie.Need-part-copy-end Inv-loop μ-loop
-part-copy-end c = search needs
+part-copy-in-start : tie.Need-part-copy-in-start Inv-loop μ-loop
+part-copy-in-start c = search needs
 
-copy-requires : tie.Need-copy-requires Inv-loop μ-loop
-copy-requires c κs =
+part-copy-in-end : tie.Need-part-copy-in-end Inv-loop μ-loop
+part-copy-in-end c =
+    let loop-here = c .before .before .before .before .before .before .before in
+    let d = loop-here .loop .inv in
+    let known-told2-here = c .before in
+    piece-fits (keep known-told2-here) (d .in-text)
+
+copy-in-requires : tie.Need-copy-in-requires Inv-loop μ-loop
+copy-in-requires c κs =
     let loop-here = c .before .before .before .before .before .before .before .before .before in
     let d = loop-here .loop .inv in
     let if6-here = c .before .before in
     let known-told2-here = c .before .before .before in
-    (rw part-rest (keep known-told2-here .inside), omega (arith, if6-here .if6 .left, d .in-store))
+    omega (arith, if6-here .if6 .left, d .in-store, part-length d (keep known-told2-here))
 
 add-end-3 : tie.Need-add-end-3 Inv-loop μ-loop
 add-end-3 c =
@@ -248,8 +257,8 @@ loop-again-3 c =
     let d = loop-here .loop .inv in
     let if6-here = c .before .before .before .before .before in
     let known-told2-here = c .before .before .before .before .before .before in
-    let copy-here = c .before .before in
-    keep-more d (keep known-told2-here) (copy-here .copy .ensures) (omega (arith, if6-here .if6 .left, d .in-store))
+    let copy-in-here = c .before .before in
+    keep-more d (keep known-told2-here) (copy-in-here .copy-in .ensures) (omega (arith, if6-here .if6 .left, d .in-store))
 
 enum-known-piece-3 : tie.Need-enum-known-piece-3 Inv-loop μ-loop
 enum-known-piece-3 c = search needs
@@ -305,10 +314,11 @@ parse-value-spec =
     sub-if6
     same-length-4
     returns-4
-    sub-copy
-    part-copy-start
-    part-copy-end
-    copy-requires
+    add-copy-in
+    sub-copy-in
+    part-copy-in-start
+    part-copy-in-end
+    copy-in-requires
     add-end-3
     add-i-3
     loop-less-3
