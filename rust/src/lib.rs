@@ -50,3 +50,8 @@ pub use archive::{Archive, ArchiveError, ArchiveErrorKind};
 pub use database::{Database, Entries, Entry};
 pub use directory::DirectoryError;
 pub use error::{Error, NotANumber, ValueError};
+
+/// The example of the README is a test too.
+#[cfg(doctest)]
+#[doc = include_str!("../README.md")]
+struct Readme;
