@@ -34,7 +34,11 @@ impl Counts {
         {
             return Err("too little was compared".to_string());
         }
-        let rusts = format!("{} readings and {} lookups beside the Rust", self.rusts_readings, self.rusts_lookups);
+        let rusts = if cfg!(feature = "rust") {
+            format!("{} readings and {} lookups beside the Rust", self.rusts_readings, self.rusts_lookups)
+        } else {
+            "none beside the Rust, which is not at hand".to_string()
+        };
         Ok(format!(
             "{archives} archives built ({refused_files} files refused), {readings} readings ({refused_readings} refused) and \
              {lookups} lookups ({refused_lookups} refused) beside the model, {rusts}"
