@@ -6,13 +6,15 @@
 #include "resource_manager.h"
 
 #include <inttypes.h>
+#include <pthread.h>
 #include <stdio.h>
 #include <stdlib.h>
 #include <string.h>
 #include <sys/mman.h>
 
 #define PAGE ((size_t)4096)
-#define ROOM (20 * PAGE) /* more than anything that is lent */
+#define ROOM (20 * PAGE)  /* more than anything that is lent */
+#define STACK (16 * PAGE) /* what the header says that a call may take */
 
 /* Where the room for each thing that is lent ends. */
 static uint8_t *text_end, *shelf_end, *contents_end, *bodies_end, *name_end, *class_end;
@@ -375,14 +377,8 @@ static void booleans(void)
     a_boolean("a:9223372036854775808", RESOURCE_MANAGER_NONE);
 }
 
-int main(void)
+static void *all(void *unused)
 {
-    text_end = fenced();
-    shelf_end = fenced();
-    contents_end = fenced();
-    bodies_end = fenced();
-    name_end = fenced();
-    class_end = fenced();
     short_buffers();
     long_text();
     shelf_files();
@@ -397,6 +393,22 @@ int main(void)
     images();
     numbers();
     booleans();
+    return unused;
+}
+
+int main(void)
+{
+    pthread_attr_t small;
+    pthread_t thread;
+    uint8_t **ends[] = {&text_end, &shelf_end, &contents_end, &bodies_end, &name_end, &class_end};
+    size_t n;
+    for (n = 0; n < sizeof ends / sizeof ends[0]; n++) {
+        *ends[n] = fenced();
+    }
+    if (pthread_attr_init(&small) != 0 || pthread_attr_setstacksize(&small, STACK) != 0 ||
+        pthread_create(&thread, &small, all, NULL) != 0 || pthread_join(thread, NULL) != 0) {
+        fail("no thread");
+    }
     printf("%d answers\n", checks);
     return 0;
 }
