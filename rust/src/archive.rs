@@ -63,7 +63,7 @@ impl Archive {
     /// Adds a file. If it is refused, the archive is as before.
     pub fn insert(&mut self, name: &str, body: &[u8]) -> Result<(), ArchiveError> {
         match self.refusal(name, body.len()) {
-            Some(kind) => Err(ArchiveError { name: name.to_string(), kind }),
+            Some(kind) => Err(ArchiveError::new(name, kind)),
             None => {
                 self.files.insert(name.to_string(), body.to_vec());
                 self.bytes = lay_out(&self.files);
@@ -73,7 +73,7 @@ impl Archive {
     }
 
     /// Why a file cannot be added.
-    pub(crate) fn refusal(&self, name: &str, body_bytes: usize) -> Option<ArchiveErrorKind> {
+    fn refusal(&self, name: &str, body_bytes: usize) -> Option<ArchiveErrorKind> {
         if name.len() > FILE_NAME_BYTES {
             return Some(ArchiveErrorKind::LongName);
         }
