@@ -1,4 +1,4 @@
-//! Finds the static library that the crate is a shell of. `rt staticlib resource_manager` makes it.
+//! Finds the static library whose calls the crate makes. `rt staticlib resource_manager` makes it.
 
 use std::env;
 use std::path::PathBuf;
