@@ -54,7 +54,7 @@ enum resource_manager_status {
     RESOURCE_MANAGER_LONG_QUERY = 9,        /* name or class too long */
     RESOURCE_MANAGER_MANY_QUERY_PARTS = 10, /* name or class of too many parts */
     RESOURCE_MANAGER_NOT_A_NUMBER = 65534,  /* get_value: the value is no 64-bit decimal number */
-    RESOURCE_MANAGER_NONE = 65535           /* no such value */
+    RESOURCE_MANAGER_NONE = 65535           /* no such value; compare_without: no such file */
 };
 
 /* The status of any answer. */
@@ -134,6 +134,25 @@ uint64_t resource_manager_get_bool(const uint16_t *contents, size_t contents_cou
 uint64_t resource_manager_get_value(const uint16_t *contents, size_t contents_count, const uint8_t *bodies,
                                     size_t bodies_count, const uint8_t *name, size_t name_count,
                                     const uint8_t *class_name, size_t class_count, int64_t *out);
+
+/*
+ * What one file of a shelf changes: reads the text with the shelf, and again with file number `file`, from 0, struck
+ * off, and looks the query up in both images as resource_manager_get_bytes does.
+ *
+ * OK: both answers, the first in *with_it with its place in bodies, the second in *without with its place in
+ * bodies_without. NONE: the shelf has no such file. Refused: 1 for a buffer that is too short, 2 to 7 as the first
+ * reading is, 9 or 10. *with_it and *without change only with OK.
+ *
+ * The buffers of both images are as resource_manager_read takes and leaves them; struck is room for the shelf with the
+ * file struck off, and is at least as long as the shelf. What a call does not come to write is as it was.
+ */
+uint64_t resource_manager_compare_without(const uint8_t *text, size_t text_count, const uint8_t *shelf,
+                                          size_t shelf_count, size_t file, const uint8_t *name, size_t name_count,
+                                          const uint8_t *class_name, size_t class_count, uint8_t *struck,
+                                          size_t struck_count, uint16_t *contents, size_t contents_count,
+                                          uint8_t *bodies, size_t bodies_count, uint16_t *contents_without,
+                                          size_t contents_without_count, uint8_t *bodies_without,
+                                          size_t bodies_without_count, uint64_t *with_it, uint64_t *without);
 
 #ifdef __cplusplus
 }

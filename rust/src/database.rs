@@ -1,7 +1,7 @@
 //! A database: read from a text, and looked up.
 
 use crate::error::{Error, NotANumber, ValueError};
-use crate::ffi::{self, Image};
+use crate::ffi::{self, Image, ImageMut, Question};
 use crate::limits::{BODIES_BYTES, CONTENTS_WORDS};
 use crate::Archive;
 use std::fmt;
@@ -234,6 +234,52 @@ impl Database {
         self.opens
     }
 
+    /// What one file of an archive changes: the value of a query as it is read with the file, and as it is read with the
+    /// file struck off. None if the archive has no such file.
+    ///
+    /// ```
+    /// # use resource_manager::{Archive, Comparison, Database};
+    /// let archive = Archive::from_files([("pack", "reader.search.range: chapter")])?;
+    /// let text = b"*search.range: book\n#include \"pack\"";
+    /// let comparison = Database::compare_without(text, &archive, "pack", "reader.search.range", "")?.expect("a file");
+    /// assert_eq!(comparison.with_file.as_deref(), Some(&b"chapter"[..]));
+    /// assert_eq!(comparison.without_file.as_deref(), Some(&b"book"[..]));
+    /// assert!(!comparison.is_same());
+    /// # Ok::<(), Box<dyn std::error::Error>>(())
+    /// ```
+    pub fn compare_without(
+        data: &[u8],
+        archive: &Archive,
+        file: &str,
+        resource_name: &str,
+        resource_class: &str,
+    ) -> Result<Option<Comparison>, Error> {
+        let question = Question {
+            text: data,
+            archive: archive.as_bytes(),
+            // A name that is not there gets a number that no file has: the library says so, after its other refusals.
+            file: archive.names().position(|name| name == file).unwrap_or(archive.len()),
+            name: resource_name.as_bytes(),
+            class: resource_class.as_bytes(),
+        };
+        let (mut first, mut second) = (Self::default(), Self::default());
+        let mut struck = vec![0; archive.as_bytes().len()];
+        let (mut with_it, mut without) = (NONE, NONE);
+        let answer =
+            ffi::compare_without(question, &mut struck, first.image_mut(), second.image_mut(), &mut with_it, &mut without);
+        match answer {
+            FOUND => {}
+            NONE => return Ok(None),
+            refused => return Err(Error::of_answer(refused)),
+        }
+        let (with_file, without_file) = (first.value(with_it)?, second.value(without)?);
+        Ok(Some(Comparison { with_file: with_file.map(<[u8]>::to_vec), without_file: without_file.map(<[u8]>::to_vec) }))
+    }
+
+    fn image_mut(&mut self) -> ImageMut<'_> {
+        ImageMut { contents: &mut self.contents, bodies: &mut self.bodies }
+    }
+
     fn image(&self) -> Image<'_> {
         Image { contents: &self.contents, bodies: &self.bodies }
     }
@@ -268,6 +314,22 @@ impl Default for Database {
 impl fmt::Debug for Database {
     fn fmt(&self, f: &mut fmt::Formatter) -> fmt::Result {
         f.debug_list().entries(self.entries()).finish()
+    }
+}
+
+/// A query's values with a file and without it: see [`Database::compare_without`].
+#[derive(Clone, Debug, PartialEq, Eq)]
+pub struct Comparison {
+    /// The value if the file is in the archive.
+    pub with_file: Option<Vec<u8>>,
+    /// The value if the file is struck off.
+    pub without_file: Option<Vec<u8>>,
+}
+
+impl Comparison {
+    /// Whether the file changes nothing for the query.
+    pub fn is_same(&self) -> bool {
+        self.with_file == self.without_file
     }
 }
 

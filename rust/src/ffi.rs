@@ -70,6 +70,30 @@ extern "C" {
         class_count: usize,
         out: *mut i64,
     ) -> u64;
+
+    fn resource_manager_compare_without(
+        text: *const u8,
+        text_count: usize,
+        shelf: *const u8,
+        shelf_count: usize,
+        file: usize,
+        name: *const u8,
+        name_count: usize,
+        class: *const u8,
+        class_count: usize,
+        struck: *mut u8,
+        struck_count: usize,
+        contents: *mut u16,
+        contents_count: usize,
+        bodies: *mut u8,
+        bodies_count: usize,
+        contents_without: *mut u16,
+        contents_without_count: usize,
+        bodies_without: *mut u8,
+        bodies_without_count: usize,
+        with_it: *mut u64,
+        without: *mut u64,
+    ) -> u64;
 }
 
 /// The two buffers of a database image.
@@ -77,6 +101,22 @@ extern "C" {
 pub(crate) struct Image<'a> {
     pub(crate) contents: &'a [u16],
     pub(crate) bodies: &'a [u8],
+}
+
+/// The two buffers that a reading writes.
+pub(crate) struct ImageMut<'a> {
+    pub(crate) contents: &'a mut [u16],
+    pub(crate) bodies: &'a mut [u8],
+}
+
+/// What a comparison takes: a text, an archive, the number of a file in it, and a query.
+#[derive(Clone, Copy)]
+pub(crate) struct Question<'a> {
+    pub(crate) text: &'a [u8],
+    pub(crate) archive: &'a [u8],
+    pub(crate) file: usize,
+    pub(crate) name: &'a [u8],
+    pub(crate) class: &'a [u8],
 }
 
 /// 0 in bits 0 to 15, entries in bits 16 to 31 and opens from bit 32 on; or the refusal's number alone.
@@ -154,6 +194,45 @@ pub(crate) fn get_value(Image { contents, bodies }: Image, name: &[u8], class: &
     }
 }
 
+/// 0 with the answers of both lookups, as `get_bytes` gives them, in `with_it` and `without`; 65535 if there is no such
+/// file, or the refusal's number, with both as they were. `struck` is room for the archive without the file.
+pub(crate) fn compare_without(
+    Question { text, archive, file, name, class }: Question,
+    struck: &mut [u8],
+    first: ImageMut,
+    second: ImageMut,
+    with_it: &mut u64,
+    without: &mut u64,
+) -> u64 {
+    // SAFETY: each pointer and count are those of a slice that is borrowed for the call, from `struck` on for writing, and
+    // the last two are numbers that are so borrowed. The call is proved to stay within them and to keep nothing.
+    unsafe {
+        resource_manager_compare_without(
+            text.as_ptr(),
+            text.len(),
+            archive.as_ptr(),
+            archive.len(),
+            file,
+            name.as_ptr(),
+            name.len(),
+            class.as_ptr(),
+            class.len(),
+            struck.as_mut_ptr(),
+            struck.len(),
+            first.contents.as_mut_ptr(),
+            first.contents.len(),
+            first.bodies.as_mut_ptr(),
+            first.bodies.len(),
+            second.contents.as_mut_ptr(),
+            second.contents.len(),
+            second.bodies.as_mut_ptr(),
+            second.bodies.len(),
+            with_it,
+            without,
+        )
+    }
+}
+
 #[cfg(test)]
 mod tests {
     use super::*;
@@ -203,6 +282,32 @@ mod tests {
     fn garbage_is_no_image() {
         let (contents, bodies) = buffers(CONTENTS_WORDS, BODIES_BYTES);
         no_image(Image { contents: &contents, bodies: &bodies });
+    }
+
+    /// Compares without the file, with buffers so much too short.
+    fn compare(file: usize, short: [usize; 5]) -> (u64, u64, u64) {
+        let archive = b"\x01\0\x01\0\x03\0pa:1";
+        let question = Question { text: b"#include \"p\"\na*b:2", archive, file, name: b"a", class: b"" };
+        let (mut contents, mut bodies) = buffers(CONTENTS_WORDS - short[0], BODIES_BYTES - short[1]);
+        let (mut contents_without, mut bodies_without) = buffers(CONTENTS_WORDS - short[2], BODIES_BYTES - short[3]);
+        let mut struck = vec![0xA5; archive.len() - short[4]];
+        let (mut with_it, mut without) = (7, 7);
+        let first = ImageMut { contents: &mut contents, bodies: &mut bodies };
+        let second = ImageMut { contents: &mut contents_without, bodies: &mut bodies_without };
+        let answer = compare_without(question, &mut struck, first, second, &mut with_it, &mut without);
+        (answer, with_it, without)
+    }
+
+    #[test]
+    fn a_comparison_in_buffers_just_long_enough_and_one_short() {
+        assert_eq!(compare(0, [0; 5]), (0, 2 << 16 | 1 << 32, 65535));
+        assert_eq!(compare(1, [0; 5]), (65535, 7, 7));
+        assert_eq!(compare(usize::MAX, [0; 5]), (65535, 7, 7));
+        for place in 0..5 {
+            let mut short = [0; 5];
+            short[place] = 1;
+            assert_eq!(compare(0, short), (1, 7, 7), "{short:?}");
+        }
     }
 
     fn no_image(image: Image) {

@@ -47,7 +47,7 @@ mod ffi;
 pub mod limits;
 
 pub use archive::{Archive, ArchiveError, ArchiveErrorKind};
-pub use database::{Database, Entries, Entry};
+pub use database::{Comparison, Database, Entries, Entry};
 pub use directory::DirectoryError;
 pub use error::{Error, NotANumber, ValueError};
 

@@ -18,6 +18,7 @@
 
 /* Where the room for each thing that is lent ends. */
 static uint8_t *text_end, *shelf_end, *contents_end, *bodies_end, *name_end, *class_end;
+static uint8_t *struck_end, *contents_without_end, *bodies_without_end;
 static size_t text_count, shelf_count;
 static size_t contents_count = RESOURCE_MANAGER_CONTENTS_WORDS, bodies_count = RESOURCE_MANAGER_BODIES_BYTES;
 static int checks;
@@ -162,6 +163,25 @@ static uint64_t get_value(const uint16_t *contents, size_t words, const uint8_t 
 
 static lookup *const lookups[] = {resource_manager_get_bytes, resource_manager_get_string, resource_manager_get_bool,
                                   get_value};
+
+/* How much too short the buffers of a comparison are that no other call takes. */
+static size_t short_struck, short_contents, short_bodies;
+static uint64_t with_it, without;
+
+/* Compares with the shelf, and without one of its files. */
+static uint64_t compare(size_t file, const char *name)
+{
+    size_t struck = shelf_count - short_struck;
+    size_t words = RESOURCE_MANAGER_CONTENTS_WORDS - short_contents;
+    size_t bytes = RESOURCE_MANAGER_BODIES_BYTES - short_bodies;
+    uint8_t *lent_name = name_end - strlen(name);
+    memcpy(lent_name, name, strlen(name));
+    with_it = without = 77;
+    return resource_manager_compare_without(
+        text_end - text_count, text_count, shelf_end - shelf_count, shelf_count, file, lent_name, strlen(name),
+        class_end, 0, struck_end - struck, struck, lent_contents(), contents_count, lent_bodies(), bodies_count,
+        (uint16_t *)(void *)contents_without_end - words, words, bodies_without_end - bytes, bytes, &with_it, &without);
+}
 
 static uint64_t accepted(size_t entries, size_t opens)
 {
@@ -377,6 +397,59 @@ static void booleans(void)
     a_boolean("a:9223372036854775808", RESOURCE_MANAGER_NONE);
 }
 
+/* Two files with a value each: the second's counts, and the first's if the second is struck off. */
+static void set_comparison(void)
+{
+    const struct file files[] = {{"p", "a:first"}, {"q", "b:\na:2"}};
+    set_shelf(files, 2);
+    set_text("", 0, "#include \"p\"\n#include \"q\"");
+}
+
+static void comparisons(void)
+{
+    const uint8_t *found;
+    set_comparison();
+    expect("a file struck off", compare(1, "a"), RESOURCE_MANAGER_OK);
+    expect("the place with it", resource_manager_place_of(with_it), 2 + 5 + 2 + 2);
+    expect("the length with it", resource_manager_length_of(with_it), 1);
+    expect("the place without it", resource_manager_place_of(without), 2);
+    expect("the length without it", resource_manager_length_of(without), 5);
+    found = bodies_without_end - RESOURCE_MANAGER_BODIES_BYTES + resource_manager_place_of(without);
+    expect("the bytes without it", (uint64_t)memcmp(found, "first", 5), 0);
+    expect("a value that goes", compare(1, "b"), RESOURCE_MANAGER_OK);
+    expect("it, with the file", resource_manager_status_of(with_it), RESOURCE_MANAGER_OK);
+    expect("it, without the file", without, RESOURCE_MANAGER_NONE);
+}
+
+static void refused_comparison(const char *what, uint64_t wanted, size_t file, const char *name)
+{
+    expect(what, compare(file, name), wanted);
+    expect("the first answer", with_it, 77);
+    expect("the second answer", without, 77);
+}
+
+static void refused_comparisons(void)
+{
+    set_comparison();
+    refused_comparison("no such file", RESOURCE_MANAGER_NONE, 2, "a");
+    refused_comparison("the highest number of a file", RESOURCE_MANAGER_NONE, SIZE_MAX, "a");
+    refused_comparison("a longer name", RESOURCE_MANAGER_LONG_QUERY, 0,
+                       repeated("", 'a', RESOURCE_MANAGER_QUERY_BYTES + 1, ""));
+    refused_comparison("a part more", RESOURCE_MANAGER_MANY_QUERY_PARTS, 0,
+                       parts(RESOURCE_MANAGER_QUERY_PARTS + 1, ""));
+    short_struck = 1;
+    refused_comparison("no room for a shelf", RESOURCE_MANAGER_SHORT_BUFFERS, 0, "a");
+    short_struck = 0;
+    short_contents = 1;
+    refused_comparison("second contents one word short", RESOURCE_MANAGER_SHORT_BUFFERS, 0, "a");
+    short_contents = 0;
+    short_bodies = 1;
+    refused_comparison("second bodies one byte short", RESOURCE_MANAGER_SHORT_BUFFERS, 0, "a");
+    short_bodies = 0;
+    set_text("a:\n", RESOURCE_MANAGER_ENTRIES + 1, "");
+    refused_comparison("a refused reading", RESOURCE_MANAGER_MANY_ENTRIES, 0, "a");
+}
+
 static void *all(void *unused)
 {
     short_buffers();
@@ -393,6 +466,8 @@ static void *all(void *unused)
     images();
     numbers();
     booleans();
+    comparisons();
+    refused_comparisons();
     return unused;
 }
 
@@ -400,7 +475,8 @@ int main(void)
 {
     pthread_attr_t small;
     pthread_t thread;
-    uint8_t **ends[] = {&text_end, &shelf_end, &contents_end, &bodies_end, &name_end, &class_end};
+    uint8_t **ends[] = {&text_end, &shelf_end, &contents_end, &bodies_end, &name_end, &class_end,
+                        &struck_end, &contents_without_end, &bodies_without_end};
     size_t n;
     for (n = 0; n < sizeof ends / sizeof ends[0]; n++) {
         *ends[n] = fenced();

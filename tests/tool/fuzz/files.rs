@@ -1,7 +1,9 @@
 //! Archives as the crate builds them, beside the model's.
 
 use crate::held::same;
-use model::archive::{judge, lay_out, File};
+use model::archive::{judge, lay_out, strike, File};
+use model::image;
+use model::lookup::get_bytes;
 use records::Source;
 use resource_manager::{Archive, Database};
 
@@ -37,6 +39,24 @@ pub fn archive(source: &Source) -> Result<Option<Archive>, String> {
     let archive = Archive::from_files(files).map_err(|error| error.to_string())?;
     same("archive", archive.as_bytes(), &source.archive)?;
     Ok(Some(archive))
+}
+
+/// The value of a query with a file and with it struck off, or the refusal's number.
+type Compared = Result<Option<(Option<Vec<u8>>, Option<Vec<u8>>)>, u8>;
+
+/// What the model answers to a comparison: none if there is no file with that number.
+pub fn compared(source: &Source, which: usize, name: &[u8], class: &[u8]) -> Compared {
+    let value = |archive: &[u8]| -> Result<Option<Vec<u8>>, u8> {
+        let (mut contents, mut bodies) = records::buffers();
+        image::read(&mut contents, &mut bodies, &source.text, archive).map_err(|refusal| refusal.number())?;
+        let found = get_bytes(&contents, &bodies, name, class).map_err(|refusal| refusal.number())?;
+        Ok(found.map(|place| place.of(&bodies).to_vec()))
+    };
+    let count = judge(&source.archive).map_or(0, |archive| archive.files.len());
+    if which >= count {
+        return Ok(None);
+    }
+    Ok(Some((value(&source.archive)?, value(&strike(&source.archive, which))?)))
 }
 
 /// The crate's entries, as the records list them.

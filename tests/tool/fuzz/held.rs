@@ -20,28 +20,34 @@ pub struct Counts {
     pub refused_readings: usize,
     pub lookups: usize,
     pub refused_lookups: usize,
+    pub comparisons: usize,
+    /// Comparisons with another answer without the file.
+    pub moved: usize,
     pub rusts_readings: usize,
     pub rusts_lookups: usize,
+    pub rusts_comparisons: usize,
 }
 
 impl Counts {
     /// What was compared; an error if some of it was not.
     pub fn report(&self) -> Result<String, String> {
-        let Self { archives, refused_files, readings, refused_readings, lookups, refused_lookups, .. } = self;
-        let beside_the_rust = self.rusts_readings.min(self.rusts_lookups);
-        if [archives, refused_files, readings, refused_readings, lookups, refused_lookups].contains(&&0)
+        let Self { archives, refused_files, readings, refused_readings, lookups, refused_lookups, comparisons, moved, .. } = self;
+        let [rusts_readings, rusts_lookups, rusts_comparisons] =
+            [self.rusts_readings, self.rusts_lookups, self.rusts_comparisons];
+        let beside_the_rust = rusts_readings.min(rusts_lookups).min(rusts_comparisons);
+        if [archives, refused_files, readings, refused_readings, lookups, refused_lookups, comparisons, moved].contains(&&0)
             || cfg!(feature = "rust") && beside_the_rust == 0
         {
             return Err("too little was compared".to_string());
         }
         let rusts = if cfg!(feature = "rust") {
-            format!("{} readings and {} lookups beside the Rust", self.rusts_readings, self.rusts_lookups)
+            format!("{rusts_readings}, {rusts_lookups} and {rusts_comparisons} of them beside the Rust")
         } else {
             "none beside the Rust, which is not at hand".to_string()
         };
         Ok(format!(
-            "{archives} archives built ({refused_files} files refused), {readings} readings ({refused_readings} refused) and \
-             {lookups} lookups ({refused_lookups} refused) beside the model, {rusts}"
+            "{archives} archives built ({refused_files} files refused), {readings} readings ({refused_readings} refused), \
+             {lookups} lookups ({refused_lookups} refused) and {comparisons} comparisons ({moved} moved) beside the model, {rusts}"
         ))
     }
 }
@@ -79,7 +85,33 @@ impl Held {
         let Some(database) = self.read(source).map_err(why)? else { return Ok(()) };
         for query in queries {
             let (name, class) = (String::from_utf8_lossy(&query.name), String::from_utf8_lossy(&query.class));
-            self.look_up(&database, source, &name, &class).map_err(|w| why(format!("{w}\nname {name:?}, class {class:?}")))?;
+            let why = |w| why(format!("{w}\nname {name:?}, class {class:?}"));
+            self.look_up(&database, source, &name, &class).map_err(why)?;
+            // Not every query, as a comparison takes each side two readings.
+            if self.counts.lookups % 3 == 0 {
+                self.compare(source, &name, &class).map_err(why)?;
+            }
+        }
+        Ok(())
+    }
+
+    /// Compares what the file that is next in turn changes for a query; one turn is that of a file that is not there.
+    fn compare(&mut self, source: &Source, name: &str, class: &str) -> Result<(), String> {
+        let Some(archive) = files::archive(source)? else { return Ok(()) };
+        let which = self.counts.comparisons % (archive.len() + 1);
+        let file = archive.names().nth(which).unwrap_or("not/there");
+        let answer = Database::compare_without(&source.text, &archive, file, name, class);
+        let answer = answer.map_err(Error::number).map(|found| found.map(|both| (both.with_file, both.without_file)));
+        let models = files::compared(source, which, name.as_bytes(), class.as_bytes());
+        same(&format!("compare_without of {file:?}"), &answer, &models)?;
+        self.counts.comparisons += 1;
+        if let Ok(Some((with_file, without_file))) = answer {
+            self.counts.moved += usize::from(with_file != without_file);
+            #[cfg(feature = "rust")]
+            {
+                let case = crate::rusts::Struck { source, which, name, class };
+                self.counts.rusts_comparisons += usize::from(self.rusts.compare(&case, with_file, without_file)?);
+            }
         }
         Ok(())
     }
