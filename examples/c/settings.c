@@ -1,0 +1,157 @@
+/*
+ * Reads a text of X resources with a shelf of two files, and looks values up.
+ *
+ *     rt staticlib resource_manager
+ *     cc -std=c99 -I include examples/c/settings.c -L target/staticlib -lresource_manager -o settings
+ */
+#include "resource_manager.h"
+
+#include <inttypes.h>
+#include <stdio.h>
+#include <string.h>
+
+struct file {
+    const char *name;
+    const char *body;
+};
+
+struct shelf {
+    uint8_t bytes[RESOURCE_MANAGER_SHELF_BYTES];
+    size_t count;
+};
+
+/* An image is large: 35 kilobytes, here not on the stack. */
+static uint16_t contents[RESOURCE_MANAGER_CONTENTS_WORDS];
+static uint8_t bodies[RESOURCE_MANAGER_BODIES_BYTES];
+static struct shelf shelf;
+
+static int put(struct shelf *to, const void *bytes, size_t count)
+{
+    if (count > sizeof to->bytes - to->count) {
+        return 0;
+    }
+    memcpy(to->bytes + to->count, bytes, count);
+    to->count += count;
+    return 1;
+}
+
+static int put_number(struct shelf *to, size_t number)
+{
+    const uint8_t two[2] = {(uint8_t)(number & 255), (uint8_t)(number >> 8 & 255)};
+    return number <= 65535 && put(to, two, sizeof two);
+}
+
+/* Lays files out. Their names must rise; the reading refuses a shelf where they don't. */
+static int lay_out(struct shelf *to, const struct file *files, size_t count)
+{
+    size_t n;
+    to->count = 0;
+    if (!put_number(to, count)) {
+        return 0;
+    }
+    for (n = 0; n < count; n++) {
+        if (!put_number(to, strlen(files[n].name)) || !put_number(to, strlen(files[n].body))) {
+            return 0;
+        }
+    }
+    for (n = 0; n < count; n++) {
+        if (!put(to, files[n].name, strlen(files[n].name)) || !put(to, files[n].body, strlen(files[n].body))) {
+            return 0;
+        }
+    }
+    return 1;
+}
+
+static const uint8_t *bytes_of(const char *text)
+{
+    return (const uint8_t *)text;
+}
+
+static void show_bytes(const char *name, const char *class_name)
+{
+    uint64_t answer = resource_manager_get_bytes(contents, RESOURCE_MANAGER_CONTENTS_WORDS, bodies,
+                                                 RESOURCE_MANAGER_BODIES_BYTES, bytes_of(name), strlen(name),
+                                                 bytes_of(class_name), strlen(class_name));
+    printf("%s, as bytes: ", name);
+    switch (resource_manager_status_of(answer)) {
+    case RESOURCE_MANAGER_OK:
+        printf("'%.*s'\n", (int)resource_manager_length_of(answer),
+               (const char *)bodies + resource_manager_place_of(answer));
+        break;
+    case RESOURCE_MANAGER_NONE:
+        printf("none\n");
+        break;
+    default:
+        printf("refused %d\n", (int)resource_manager_status_of(answer));
+    }
+}
+
+static void show_bool(const char *name, const char *class_name)
+{
+    uint64_t answer = resource_manager_get_bool(contents, RESOURCE_MANAGER_CONTENTS_WORDS, bodies,
+                                                RESOURCE_MANAGER_BODIES_BYTES, bytes_of(name), strlen(name),
+                                                bytes_of(class_name), strlen(class_name));
+    printf("%s, as a boolean: ", name);
+    if (answer == RESOURCE_MANAGER_TRUE || answer == RESOURCE_MANAGER_FALSE) {
+        printf("%s\n", answer == RESOURCE_MANAGER_TRUE ? "true" : "false");
+    } else if (answer == RESOURCE_MANAGER_NONE) {
+        printf("none\n");
+    } else {
+        printf("refused %d\n", (int)resource_manager_status_of(answer));
+    }
+}
+
+static void show_number(const char *name, const char *class_name)
+{
+    int64_t number = 0;
+    uint64_t answer = resource_manager_get_value(contents, RESOURCE_MANAGER_CONTENTS_WORDS, bodies,
+                                                 RESOURCE_MANAGER_BODIES_BYTES, bytes_of(name), strlen(name),
+                                                 bytes_of(class_name), strlen(class_name), &number);
+    printf("%s, as a number: ", name);
+    switch (resource_manager_status_of(answer)) {
+    case RESOURCE_MANAGER_OK:
+        printf("%" PRId64 "\n", number);
+        break;
+    case RESOURCE_MANAGER_NOT_A_NUMBER:
+        printf("not a number\n");
+        break;
+    case RESOURCE_MANAGER_NONE:
+        printf("none\n");
+        break;
+    default:
+        printf("refused %d\n", (int)resource_manager_status_of(answer));
+    }
+}
+
+int main(void)
+{
+    static const char text[] = "#include \"pack/settings\"\n"
+                               "*search.range: book\n"
+                               "reader.hyphenation: on\n";
+    static const struct file files[] = {
+        {"pack/fonts", "reader.font.size: 14\nreader.font.family: Serif\n"},
+        {"pack/settings", "#include \"fonts\"\nreader.search.range: chapter\n"},
+    };
+    uint64_t answer;
+
+    if (!lay_out(&shelf, files, sizeof files / sizeof files[0])) {
+        fputs("the files are too large for a shelf\n", stderr);
+        return 1;
+    }
+    answer = resource_manager_read(bytes_of(text), strlen(text), shelf.bytes, shelf.count, contents,
+                                   RESOURCE_MANAGER_CONTENTS_WORDS, bodies, RESOURCE_MANAGER_BODIES_BYTES);
+    if (resource_manager_status_of(answer) != RESOURCE_MANAGER_OK) {
+        fprintf(stderr, "refused %d\n", (int)resource_manager_status_of(answer));
+        return 1;
+    }
+    printf("%zu entries, %zu files opened\n", resource_manager_entries_of(answer), resource_manager_opens_of(answer));
+
+    show_bytes("reader.search.range", "Reader.Search.Range");
+    show_bytes("library.search.range", "Library.Search.Range");
+    show_bytes("reader.margin", "Reader.Margin");
+    show_bool("reader.hyphenation", "");
+    show_number("reader.font.size", "Reader.Font.Size");
+    show_number("reader.font.family", "Reader.Font.Family");
+    show_number("a.a.a.a.a.a.a.a.a.a.a.a.a.a.a.a.a.a.a.a.a.a.a.a.a.a.a.a.a.a.a.a.a", "");
+    return 0;
+}

@@ -1,0 +1,161 @@
+/*
+ * X resource texts read into a database image, and looked up in it.
+ *
+ * The functions stand in the static library libresource_manager.a, for x86-64 Linux. Their contracts, which
+ * crates/resource_manager states and proves, are here in words. They allocate nothing, keep nothing between calls,
+ * call no function of the host but memcpy and memset, and may run in several threads at once on buffers of their own.
+ * A stack of 64 kilobytes is enough for each, which is tested and not proved.
+ *
+ * The caller answers for what it lends:
+ *   - a pointer is never NULL, also where its count is 0, and is aligned for its type;
+ *   - behind it are as many readable elements as its count says, or writable ones where it is not const;
+ *   - a buffer that is written overlaps nothing else that is lent to the same call.
+ * A count is a count of elements: of 16-bit words for contents, of bytes for all else.
+ */
+#ifndef RESOURCE_MANAGER_H
+#define RESOURCE_MANAGER_H
+
+#include <stddef.h>
+#include <stdint.h>
+
+#ifdef __cplusplus
+extern "C" {
+#endif
+
+/* The two buffers of a database image: at least this long. What is lent beyond is never touched. */
+#define RESOURCE_MANAGER_CONTENTS_WORDS 1538 /* 16-bit words */
+#define RESOURCE_MANAGER_BODIES_BYTES 32768  /* also the most bytes of keys and values in an image */
+
+/* The most that is accepted; one more is refused. */
+#define RESOURCE_MANAGER_TEXT_BYTES 32768
+#define RESOURCE_MANAGER_SHELF_BYTES 65536
+#define RESOURCE_MANAGER_SHELF_FILES 64
+#define RESOURCE_MANAGER_FILE_NAME_BYTES 96
+#define RESOURCE_MANAGER_OPENS 4096
+#define RESOURCE_MANAGER_ENTRY_PARTS 16
+#define RESOURCE_MANAGER_ENTRIES 512
+#define RESOURCE_MANAGER_QUERY_BYTES 1024 /* of the name, and of the class */
+#define RESOURCE_MANAGER_QUERY_PARTS 32   /* of the name, and of the class */
+
+/* Includes nest this deep. A deeper one adds nothing, and is no refusal. */
+#define RESOURCE_MANAGER_DEPTH 100
+
+/* The low 16 bits of every answer. 1 to 10 are refusals, and then all higher bits are 0. */
+enum resource_manager_status {
+    RESOURCE_MANAGER_OK = 0,
+    RESOURCE_MANAGER_SHORT_BUFFERS = 1,     /* contents or bodies too short for an image */
+    RESOURCE_MANAGER_LONG_TEXT = 2,         /* main text too long */
+    RESOURCE_MANAGER_BAD_SHELF = 3,         /* shelf not laid out as below */
+    RESOURCE_MANAGER_MANY_OPENS = 4,        /* too many included files opened */
+    RESOURCE_MANAGER_MANY_ENTRY_PARTS = 5,  /* an entry has too many parts */
+    RESOURCE_MANAGER_MANY_ENTRIES = 6,      /* too many entries */
+    RESOURCE_MANAGER_FULL_STORE = 7,        /* keys and values too large in all */
+    RESOURCE_MANAGER_NO_IMAGE = 8,          /* a lookup's buffers hold no database image */
+    RESOURCE_MANAGER_LONG_QUERY = 9,        /* name or class too long */
+    RESOURCE_MANAGER_MANY_QUERY_PARTS = 10, /* name or class of too many parts */
+    RESOURCE_MANAGER_NOT_A_NUMBER = 65534,  /* get_value: the value is no 64-bit decimal number */
+    RESOURCE_MANAGER_NONE = 65535           /* no such value; compare_without: no such file */
+};
+
+/* The status of any answer. */
+static inline enum resource_manager_status resource_manager_status_of(uint64_t answer)
+{
+    return (enum resource_manager_status)(answer & 65535);
+}
+
+/*
+ * Reads a main text, and the files of a shelf that it includes, into a database image.
+ *
+ * The shelf is an archive of files: the number of files (0 to 64) in two bytes, low byte first; for each file the
+ * lengths of its name and of its body, in two such bytes each; then for each file its name and its body, and nothing
+ * after. A name is parts joined by single '/', of A-Z a-z 0-9 '_' '-' '.', and no part is "." or "..". Names rise
+ * strictly by bytes. The shelf of no files is two zero bytes.
+ *
+ * Accepted: status OK, with the entries and the opens in the answer, and unused words and bytes of the image zeroed.
+ * Refused: status 1 to 7. 1 to 3 change neither buffer; 4 to 7 leave the image of no entries.
+ */
+uint64_t resource_manager_read(const uint8_t *text, size_t text_count, const uint8_t *shelf, size_t shelf_count,
+                               uint16_t *contents, size_t contents_count, uint8_t *bodies, size_t bodies_count);
+
+/* The entries of an accepted reading. */
+static inline size_t resource_manager_entries_of(uint64_t answer)
+{
+    return (size_t)(answer >> 16 & 65535);
+}
+
+/* The opens of an accepted reading: how many times it read an included file. */
+static inline size_t resource_manager_opens_of(uint64_t answer)
+{
+    return (size_t)(answer >> 32);
+}
+
+/*
+ * The value of a query, as bytes: status OK with its place in the bodies and its length, NONE, or refused by 8, 9 or
+ * 10. An empty value has status OK and length 0. Name and class are parts joined by '.', without a zero byte at the
+ * end; the class may be empty. A malformed query finds NONE.
+ */
+uint64_t resource_manager_get_bytes(const uint16_t *contents, size_t contents_count, const uint8_t *bodies,
+                                    size_t bodies_count, const uint8_t *name, size_t name_count,
+                                    const uint8_t *class_name, size_t class_count);
+
+/* As resource_manager_get_bytes, but NONE unless the value is well-formed UTF-8. */
+uint64_t resource_manager_get_string(const uint16_t *contents, size_t contents_count, const uint8_t *bodies,
+                                     size_t bodies_count, const uint8_t *name, size_t name_count,
+                                     const uint8_t *class_name, size_t class_count);
+
+/* Where a value that was found begins in the bodies. */
+static inline size_t resource_manager_place_of(uint64_t answer)
+{
+    return (size_t)(answer >> 16 & 65535);
+}
+
+/* How many bytes a value that was found has. */
+static inline size_t resource_manager_length_of(uint64_t answer)
+{
+    return (size_t)(answer >> 32);
+}
+
+/*
+ * The value of a query as a boolean: status OK with RESOURCE_MANAGER_TRUE or RESOURCE_MANAGER_FALSE as the whole
+ * answer, NONE if there is no value or it is no boolean, or refused by 8, 9 or 10. True are numbers but 0, and true,
+ * on, yes; false are 0, and false, off, no. The case of letters is ignored.
+ */
+uint64_t resource_manager_get_bool(const uint16_t *contents, size_t contents_count, const uint8_t *bodies,
+                                   size_t bodies_count, const uint8_t *name, size_t name_count,
+                                   const uint8_t *class_name, size_t class_count);
+
+#define RESOURCE_MANAGER_FALSE ((uint64_t)0)
+#define RESOURCE_MANAGER_TRUE ((uint64_t)65536)
+
+/*
+ * The value of a query as a decimal number of 64 bits: OK with the number in *out; NOT_A_NUMBER, NONE, or refused by
+ * 8, 9 or 10, with *out as it was.
+ */
+uint64_t resource_manager_get_value(const uint16_t *contents, size_t contents_count, const uint8_t *bodies,
+                                    size_t bodies_count, const uint8_t *name, size_t name_count,
+                                    const uint8_t *class_name, size_t class_count, int64_t *out);
+
+/*
+ * What one file of a shelf changes: reads the text with the shelf, and again with file number `file`, from 0, struck
+ * off, and looks the query up in both images as resource_manager_get_bytes does.
+ *
+ * OK: both answers, the first in *with_it with its place in bodies, the second in *without with its place in
+ * bodies_without. NONE: the shelf has no such file. Refused: 1 for a buffer that is too short, 2 to 7 as the first
+ * reading is, 9 or 10. *with_it and *without change only with OK.
+ *
+ * The buffers of both images are as resource_manager_read takes and leaves them; struck is room for the shelf with the
+ * file struck off, and is at least as long as the shelf. What a call does not come to write is as it was.
+ */
+uint64_t resource_manager_compare_without(const uint8_t *text, size_t text_count, const uint8_t *shelf,
+                                          size_t shelf_count, size_t file, const uint8_t *name, size_t name_count,
+                                          const uint8_t *class_name, size_t class_count, uint8_t *struck,
+                                          size_t struck_count, uint16_t *contents, size_t contents_count,
+                                          uint8_t *bodies, size_t bodies_count, uint16_t *contents_without,
+                                          size_t contents_without_count, uint8_t *bodies_without,
+                                          size_t bodies_without_count, uint64_t *with_it, uint64_t *without);
+
+#ifdef __cplusplus
+}
+#endif
+
+#endif

@@ -1,0 +1,374 @@
+//! A database: read from a text, and looked up.
+
+use crate::error::{Error, NotANumber, ValueError};
+use crate::ffi::{self, Image, ImageMut, Question};
+use crate::limits::{BODIES_BYTES, CONTENTS_WORDS};
+use crate::Archive;
+use std::fmt;
+use std::slice::ChunksExact;
+use std::str::FromStr;
+
+/// The low 16 bits of an answer that is a value, and of one that is none.
+const FOUND: u64 = 0;
+const NONE: u64 = 65_535;
+/// Of `get_value`: there is a value, and it is not a number.
+const NOT_A_NUMBER: u64 = 65_534;
+
+/// A database of X resources.
+///
+/// It is made from a text by [`new_from_data`](Self::new_from_data), or with files for its includes by
+/// [`new_from_data_with_archive`](Self::new_from_data_with_archive). It owns its memory, some 35 kilobytes.
+///
+/// # Queries
+///
+/// A lookup takes a resource name and a resource class: components joined by `.`, of A–Z a–z 0–9 `_` `-`. The class may be
+/// empty. A malformed query finds nothing. If several entries match, X's rules of precedence say which one counts.
+///
+/// # Refused lookups
+///
+/// A query over [`QUERY_BYTES`](crate::limits::QUERY_BYTES) or [`QUERY_PARTS`](crate::limits::QUERY_PARTS) is refused, and
+/// that is not the same as finding nothing. The `get_` methods have the shape of x11rb's, with no room for a refusal:
+/// there it is a panic. A program whose queries are constants uses these. One whose queries are made as it runs uses the
+/// `try_get_` methods, which return the refusal.
+#[derive(Clone)]
+pub struct Database {
+    contents: Box<[u16]>,
+    bodies: Box<[u8]>,
+    opens: usize,
+}
+
+impl Database {
+    /// Reads a text such as `Some.Entry: Value`. A line that is no resource is skipped. An include finds nothing.
+    ///
+    /// ```
+    /// use resource_manager::{Database, Error};
+    ///
+    /// let database = Database::new_from_data(b"*font: fixed\nxterm*font: 9x15")?;
+    /// assert_eq!(database.get_string("xterm.vt100.font", "XTerm.VT100.Font"), Some("9x15"));
+    ///
+    /// let too_long = vec![b'\n'; 32_769];
+    /// assert_eq!(Database::new_from_data(&too_long).unwrap_err(), Error::LongText);
+    /// # Ok::<(), Error>(())
+    /// ```
+    pub fn new_from_data(data: &[u8]) -> Result<Self, Error> {
+        Self::new_from_data_with_archive(data, Archive::new())
+    }
+
+    /// Reads a text, and the files of an archive where the text includes them.
+    ///
+    /// The archive is an [`Archive`], or bytes that are laid out as one.
+    ///
+    /// ```
+    /// use resource_manager::{Archive, Database};
+    ///
+    /// let archive = Archive::from_files([("pack", "*search.range: chapter")])?;
+    /// let text = b"#include \"pack\"\nreader.search.range: book";
+    /// let database = Database::new_from_data_with_archive(text, &archive)?;
+    /// assert_eq!(database.get_string("reader.search.range", ""), Some("book"));
+    /// assert_eq!(database.get_string("viewer.search.range", ""), Some("chapter"));
+    /// # Ok::<(), Box<dyn std::error::Error>>(())
+    /// ```
+    pub fn new_from_data_with_archive(data: &[u8], archive: impl AsRef<[u8]>) -> Result<Self, Error> {
+        let mut database = Self::default();
+        let answer = ffi::read(data, archive.as_ref(), &mut database.contents, &mut database.bodies);
+        if answer & 0xFFFF != FOUND {
+            return Err(Error::of_answer(answer));
+        }
+        database.opens = (answer >> 32) as usize;
+        Ok(database)
+    }
+
+    /// The value of a query, as bytes.
+    ///
+    /// ```
+    /// # use resource_manager::Database;
+    /// fn pointer_shape(database: &Database) -> &[u8] {
+    ///     database.get_bytes("XTerm.vt100.pointerShape", "XTerm.VT100.Cursor").unwrap_or(b"xterm")
+    /// }
+    /// # assert_eq!(pointer_shape(&Database::default()), b"xterm");
+    /// ```
+    ///
+    /// # Panics
+    ///
+    /// If the query is [refused](Self#refused-lookups).
+    #[track_caller]
+    pub fn get_bytes(&self, resource_name: &str, resource_class: &str) -> Option<&[u8]> {
+        unrefused(self.try_get_bytes(resource_name, resource_class))
+    }
+
+    /// The value of a query, as a string; none if it is not UTF-8.
+    ///
+    /// # Panics
+    ///
+    /// If the query is [refused](Self#refused-lookups).
+    #[track_caller]
+    pub fn get_string(&self, resource_name: &str, resource_class: &str) -> Option<&str> {
+        unrefused(self.try_get_string(resource_name, resource_class))
+    }
+
+    /// The value of a query, as a boolean; none if it is neither a decimal number in the range of `i64`, which is true if
+    /// it is not 0, nor, in any case of letters, `true`, `on`, `yes`, `false`, `off` or `no`.
+    ///
+    /// ```
+    /// # use resource_manager::Database;
+    /// let database = Database::new_from_data(b"*hyphenation: Yes")?;
+    /// assert_eq!(database.get_bool("reader.hyphenation", ""), Some(true));
+    /// # Ok::<(), resource_manager::Error>(())
+    /// ```
+    ///
+    /// # Panics
+    ///
+    /// If the query is [refused](Self#refused-lookups).
+    #[track_caller]
+    pub fn get_bool(&self, resource_name: &str, resource_class: &str) -> Option<bool> {
+        unrefused(self.try_get_bool(resource_name, resource_class))
+    }
+
+    /// The string of a query, parsed by the type's own [`FromStr`]; none if there is no such string.
+    ///
+    /// The lookup is the library's, the parsing is not. For a number that the library parses, see
+    /// [`get_i64`](Self::get_i64).
+    ///
+    /// ```
+    /// # use resource_manager::Database;
+    /// let database = Database::new_from_data(b"Xft.dpi: 96")?;
+    /// assert_eq!(database.get_value::<u32>("Xft.dpi", ""), Ok(Some(96)));
+    /// assert_eq!(database.get_value::<u32>("Xft.rgba", ""), Ok(None));
+    /// # Ok::<(), resource_manager::Error>(())
+    /// ```
+    ///
+    /// # Panics
+    ///
+    /// If the query is [refused](Self#refused-lookups).
+    #[track_caller]
+    pub fn get_value<T: FromStr>(&self, resource_name: &str, resource_class: &str) -> Result<Option<T>, T::Err> {
+        self.get_string(resource_name, resource_class).map(T::from_str).transpose()
+    }
+
+    /// The value of a query, as a number: what `get_value::<i64>` gives, parsed by the library.
+    ///
+    /// ```
+    /// # use resource_manager::{Database, NotANumber};
+    /// let database = Database::new_from_data(b"*size: 14\n*family: Serif")?;
+    /// assert_eq!(database.get_i64("font.size", ""), Ok(Some(14)));
+    /// assert_eq!(database.get_i64("font.family", ""), Err(NotANumber));
+    /// assert_eq!(database.get_i64("font.slant", ""), Ok(None));
+    /// # Ok::<(), resource_manager::Error>(())
+    /// ```
+    ///
+    /// # Panics
+    ///
+    /// If the query is [refused](Self#refused-lookups).
+    #[track_caller]
+    pub fn get_i64(&self, resource_name: &str, resource_class: &str) -> Result<Option<i64>, NotANumber> {
+        match self.try_get_i64(resource_name, resource_class) {
+            Ok(number) => Ok(number),
+            Err(ValueError::Parse(not_a_number)) => Err(not_a_number),
+            Err(ValueError::Refused(error)) => unrefused(Err(error)),
+        }
+    }
+
+    /// As [`get_bytes`](Self::get_bytes), with the refusal if the query is refused.
+    ///
+    /// ```
+    /// # use resource_manager::{Database, Error};
+    /// let database = Database::default();
+    /// assert_eq!(database.try_get_bytes("a", ""), Ok(None));
+    /// assert_eq!(database.try_get_bytes(&"a".repeat(1_025), ""), Err(Error::LongQuery));
+    /// assert_eq!(database.try_get_bytes(&"a.".repeat(33), ""), Err(Error::ManyQueryParts));
+    /// ```
+    pub fn try_get_bytes(&self, resource_name: &str, resource_class: &str) -> Result<Option<&[u8]>, Error> {
+        self.value(ffi::get_bytes(self.image(), resource_name.as_bytes(), resource_class.as_bytes()))
+    }
+
+    /// As [`get_string`](Self::get_string), with the refusal if the query is refused.
+    pub fn try_get_string(&self, resource_name: &str, resource_class: &str) -> Result<Option<&str>, Error> {
+        let value = self.value(ffi::get_string(self.image(), resource_name.as_bytes(), resource_class.as_bytes()))?;
+        // The library has judged the bytes; they are judged once more, as the way around that is unsafe.
+        Ok(value.map(|bytes| std::str::from_utf8(bytes).expect("get_string gives UTF-8")))
+    }
+
+    /// As [`get_bool`](Self::get_bool), with the refusal if the query is refused.
+    pub fn try_get_bool(&self, resource_name: &str, resource_class: &str) -> Result<Option<bool>, Error> {
+        match ffi::get_bool(self.image(), resource_name.as_bytes(), resource_class.as_bytes()) {
+            65_536 => Ok(Some(true)),
+            0 => Ok(Some(false)),
+            NONE => Ok(None),
+            refused => Err(Error::of_answer(refused)),
+        }
+    }
+
+    /// As [`get_value`](Self::get_value), with the refusal if the query is refused.
+    pub fn try_get_value<T: FromStr>(&self, resource_name: &str, resource_class: &str) -> Result<Option<T>, ValueError<T::Err>> {
+        let string = self.try_get_string(resource_name, resource_class)?;
+        string.map(T::from_str).transpose().map_err(ValueError::Parse)
+    }
+
+    /// As [`get_i64`](Self::get_i64), with the refusal if the query is refused.
+    pub fn try_get_i64(&self, resource_name: &str, resource_class: &str) -> Result<Option<i64>, ValueError<NotANumber>> {
+        let mut number = 0;
+        match ffi::get_value(self.image(), resource_name.as_bytes(), resource_class.as_bytes(), &mut number) {
+            FOUND => Ok(Some(number)),
+            NOT_A_NUMBER => Err(ValueError::Parse(NotANumber)),
+            NONE => Ok(None),
+            refused => Err(ValueError::Refused(Error::of_answer(refused))),
+        }
+    }
+
+    /// The entries in the order in which they were read.
+    ///
+    /// ```
+    /// # use resource_manager::{Database, Entry};
+    /// let database = Database::new_from_data(b"a.b: x\n*c: yes")?;
+    /// let entries: Vec<Entry> = database.entries().collect();
+    /// assert_eq!(entries, [Entry { key: b".a.b", value: b"x" }, Entry { key: b"*c", value: b"yes" }]);
+    /// # Ok::<(), resource_manager::Error>(())
+    /// ```
+    pub fn entries(&self) -> Entries<'_> {
+        let count = usize::from(self.contents[0]);
+        Entries { rows: self.contents[2..2 + 3 * count].chunks_exact(3), bodies: &self.bodies }
+    }
+
+    /// How many times the reading read an included file.
+    pub fn opens(&self) -> usize {
+        self.opens
+    }
+
+    /// What one file of an archive changes: the value of a query as it is read with the file, and as it is read with the
+    /// file struck off. None if the archive has no such file.
+    ///
+    /// ```
+    /// # use resource_manager::{Archive, Comparison, Database};
+    /// let archive = Archive::from_files([("pack", "reader.search.range: chapter")])?;
+    /// let text = b"*search.range: book\n#include \"pack\"";
+    /// let comparison = Database::compare_without(text, &archive, "pack", "reader.search.range", "")?.expect("a file");
+    /// assert_eq!(comparison.with_file.as_deref(), Some(&b"chapter"[..]));
+    /// assert_eq!(comparison.without_file.as_deref(), Some(&b"book"[..]));
+    /// assert!(!comparison.is_same());
+    /// # Ok::<(), Box<dyn std::error::Error>>(())
+    /// ```
+    pub fn compare_without(
+        data: &[u8],
+        archive: &Archive,
+        file: &str,
+        resource_name: &str,
+        resource_class: &str,
+    ) -> Result<Option<Comparison>, Error> {
+        let question = Question {
+            text: data,
+            archive: archive.as_bytes(),
+            // A name that is not there gets a number that no file has: the library says so, after its other refusals.
+            file: archive.names().position(|name| name == file).unwrap_or(archive.len()),
+            name: resource_name.as_bytes(),
+            class: resource_class.as_bytes(),
+        };
+        let (mut first, mut second) = (Self::default(), Self::default());
+        let mut struck = vec![0; archive.as_bytes().len()];
+        let (mut with_it, mut without) = (NONE, NONE);
+        let answer =
+            ffi::compare_without(question, &mut struck, first.image_mut(), second.image_mut(), &mut with_it, &mut without);
+        match answer {
+            FOUND => {}
+            NONE => return Ok(None),
+            refused => return Err(Error::of_answer(refused)),
+        }
+        let (with_file, without_file) = (first.value(with_it)?, second.value(without)?);
+        Ok(Some(Comparison { with_file: with_file.map(<[u8]>::to_vec), without_file: without_file.map(<[u8]>::to_vec) }))
+    }
+
+    fn image_mut(&mut self) -> ImageMut<'_> {
+        ImageMut { contents: &mut self.contents, bodies: &mut self.bodies }
+    }
+
+    fn image(&self) -> Image<'_> {
+        Image { contents: &self.contents, bodies: &self.bodies }
+    }
+
+    fn value(&self, answer: u64) -> Result<Option<&[u8]>, Error> {
+        match answer & 0xFFFF {
+            FOUND => {
+                let (place, length) = ((answer >> 16 & 0xFFFF) as usize, (answer >> 32) as usize);
+                Ok(Some(&self.bodies[place..place + length]))
+            }
+            NONE => Ok(None),
+            _ => Err(Error::of_answer(answer)),
+        }
+    }
+}
+
+#[track_caller]
+fn unrefused<T>(answer: Result<T, Error>) -> T {
+    match answer {
+        Ok(answer) => answer,
+        Err(error) => panic!("lookup refused: {error}"),
+    }
+}
+
+/// A database of no entries.
+impl Default for Database {
+    fn default() -> Self {
+        Self { contents: vec![0; CONTENTS_WORDS].into(), bodies: vec![0; BODIES_BYTES].into(), opens: 0 }
+    }
+}
+
+impl fmt::Debug for Database {
+    fn fmt(&self, f: &mut fmt::Formatter) -> fmt::Result {
+        f.debug_list().entries(self.entries()).finish()
+    }
+}
+
+/// A query's values with a file and without it: see [`Database::compare_without`].
+#[derive(Clone, Debug, PartialEq, Eq)]
+pub struct Comparison {
+    /// The value if the file is in the archive.
+    pub with_file: Option<Vec<u8>>,
+    /// The value if the file is struck off.
+    pub without_file: Option<Vec<u8>>,
+}
+
+impl Comparison {
+    /// Whether the file changes nothing for the query.
+    pub fn is_same(&self) -> bool {
+        self.with_file == self.without_file
+    }
+}
+
+/// The entries of a database: see [`Database::entries`].
+#[derive(Clone, Debug)]
+pub struct Entries<'a> {
+    /// For each entry its start, and the lengths of its key and of its value.
+    rows: ChunksExact<'a, u16>,
+    bodies: &'a [u8],
+}
+
+impl<'a> Iterator for Entries<'a> {
+    type Item = Entry<'a>;
+
+    fn next(&mut self) -> Option<Entry<'a>> {
+        let row = self.rows.next()?;
+        let [start, key, value] = [row[0], row[1], row[2]].map(usize::from);
+        let (key, value) = self.bodies[start..start + key + value].split_at(key);
+        Some(Entry { key, value })
+    }
+
+    fn size_hint(&self) -> (usize, Option<usize>) {
+        self.rows.size_hint()
+    }
+}
+
+impl ExactSizeIterator for Entries<'_> {}
+
+/// An entry of a database.
+#[derive(Clone, Copy, PartialEq, Eq, Hash)]
+pub struct Entry<'a> {
+    /// Each component after its binding: `.` if it is tight, `*` if it is loose.
+    pub key: &'a [u8],
+    /// The value, with its escapes undone.
+    pub value: &'a [u8],
+}
+
+impl fmt::Debug for Entry<'_> {
+    fn fmt(&self, f: &mut fmt::Formatter) -> fmt::Result {
+        write!(f, "\"{}: {}\"", self.key.escape_ascii(), self.value.escape_ascii())
+    }
+}

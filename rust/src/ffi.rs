@@ -1,0 +1,320 @@
+//! The calls of the static library, as `include/resource_manager.h` declares them. All unsafe code of the crate is here.
+
+#![allow(unsafe_code)]
+
+/// A lookup but `resource_manager_get_value`. A slice passes as a pointer and a count of elements.
+type Lookup = unsafe extern "C" fn(
+    contents: *const u16,
+    contents_count: usize,
+    bodies: *const u8,
+    bodies_count: usize,
+    name: *const u8,
+    name_count: usize,
+    class: *const u8,
+    class_count: usize,
+) -> u64;
+
+extern "C" {
+    fn resource_manager_read(
+        text: *const u8,
+        text_count: usize,
+        shelf: *const u8,
+        shelf_count: usize,
+        contents: *mut u16,
+        contents_count: usize,
+        bodies: *mut u8,
+        bodies_count: usize,
+    ) -> u64;
+
+    fn resource_manager_get_bytes(
+        contents: *const u16,
+        contents_count: usize,
+        bodies: *const u8,
+        bodies_count: usize,
+        name: *const u8,
+        name_count: usize,
+        class: *const u8,
+        class_count: usize,
+    ) -> u64;
+
+    fn resource_manager_get_string(
+        contents: *const u16,
+        contents_count: usize,
+        bodies: *const u8,
+        bodies_count: usize,
+        name: *const u8,
+        name_count: usize,
+        class: *const u8,
+        class_count: usize,
+    ) -> u64;
+
+    fn resource_manager_get_bool(
+        contents: *const u16,
+        contents_count: usize,
+        bodies: *const u8,
+        bodies_count: usize,
+        name: *const u8,
+        name_count: usize,
+        class: *const u8,
+        class_count: usize,
+    ) -> u64;
+
+    fn resource_manager_get_value(
+        contents: *const u16,
+        contents_count: usize,
+        bodies: *const u8,
+        bodies_count: usize,
+        name: *const u8,
+        name_count: usize,
+        class: *const u8,
+        class_count: usize,
+        out: *mut i64,
+    ) -> u64;
+
+    fn resource_manager_compare_without(
+        text: *const u8,
+        text_count: usize,
+        shelf: *const u8,
+        shelf_count: usize,
+        file: usize,
+        name: *const u8,
+        name_count: usize,
+        class: *const u8,
+        class_count: usize,
+        struck: *mut u8,
+        struck_count: usize,
+        contents: *mut u16,
+        contents_count: usize,
+        bodies: *mut u8,
+        bodies_count: usize,
+        contents_without: *mut u16,
+        contents_without_count: usize,
+        bodies_without: *mut u8,
+        bodies_without_count: usize,
+        with_it: *mut u64,
+        without: *mut u64,
+    ) -> u64;
+}
+
+/// The two buffers of a database image.
+#[derive(Clone, Copy)]
+pub(crate) struct Image<'a> {
+    pub(crate) contents: &'a [u16],
+    pub(crate) bodies: &'a [u8],
+}
+
+/// The two buffers that a reading writes.
+pub(crate) struct ImageMut<'a> {
+    pub(crate) contents: &'a mut [u16],
+    pub(crate) bodies: &'a mut [u8],
+}
+
+/// What a comparison takes: a text, an archive, the number of a file in it, and a query.
+#[derive(Clone, Copy)]
+pub(crate) struct Question<'a> {
+    pub(crate) text: &'a [u8],
+    pub(crate) archive: &'a [u8],
+    pub(crate) file: usize,
+    pub(crate) name: &'a [u8],
+    pub(crate) class: &'a [u8],
+}
+
+/// 0 in bits 0 to 15, entries in bits 16 to 31 and opens from bit 32 on; or the refusal's number alone.
+pub(crate) fn read(text: &[u8], archive: &[u8], contents: &mut [u16], bodies: &mut [u8]) -> u64 {
+    // SAFETY: each pointer and count are those of a slice that is borrowed for the call, the last two for writing. The
+    // call is proved to stay within them and to keep nothing.
+    unsafe {
+        resource_manager_read(
+            text.as_ptr(),
+            text.len(),
+            archive.as_ptr(),
+            archive.len(),
+            contents.as_mut_ptr(),
+            contents.len(),
+            bodies.as_mut_ptr(),
+            bodies.len(),
+        )
+    }
+}
+
+/// 0 in bits 0 to 15, the value's place in the bodies in bits 16 to 31 and its length from bit 32 on; 65535 for none; or
+/// the refusal's number.
+pub(crate) fn get_bytes(image: Image, name: &[u8], class: &[u8]) -> u64 {
+    // SAFETY: this is one of the lookups of the library.
+    unsafe { look_up(resource_manager_get_bytes, image, name, class) }
+}
+
+/// As `get_bytes`, and none for a value that is not UTF-8.
+pub(crate) fn get_string(image: Image, name: &[u8], class: &[u8]) -> u64 {
+    // SAFETY: this is one of the lookups of the library.
+    unsafe { look_up(resource_manager_get_string, image, name, class) }
+}
+
+/// 65536 for true, 0 for false, 65535 for none, or the refusal's number.
+pub(crate) fn get_bool(image: Image, name: &[u8], class: &[u8]) -> u64 {
+    // SAFETY: this is one of the lookups of the library.
+    unsafe { look_up(resource_manager_get_bool, image, name, class) }
+}
+
+/// # Safety
+/// `call` must be one of the library's lookups.
+unsafe fn look_up(call: Lookup, Image { contents, bodies }: Image, name: &[u8], class: &[u8]) -> u64 {
+    // SAFETY: each pointer and count are those of a slice that is borrowed for the call. The lookups are proved to stay
+    // within them, to write nothing and to keep nothing.
+    unsafe {
+        call(
+            contents.as_ptr(),
+            contents.len(),
+            bodies.as_ptr(),
+            bodies.len(),
+            name.as_ptr(),
+            name.len(),
+            class.as_ptr(),
+            class.len(),
+        )
+    }
+}
+
+/// 0 with the number in `out`; 65534 if the value is not a number, 65535 for none, or the refusal's number, with `out` as
+/// it was.
+pub(crate) fn get_value(Image { contents, bodies }: Image, name: &[u8], class: &[u8], out: &mut i64) -> u64 {
+    // SAFETY: as for the other lookups; `out` is borrowed for writing, and is all that the call writes.
+    unsafe {
+        resource_manager_get_value(
+            contents.as_ptr(),
+            contents.len(),
+            bodies.as_ptr(),
+            bodies.len(),
+            name.as_ptr(),
+            name.len(),
+            class.as_ptr(),
+            class.len(),
+            out,
+        )
+    }
+}
+
+/// 0 with the answers of both lookups, as `get_bytes` gives them, in `with_it` and `without`; 65535 if there is no such
+/// file, or the refusal's number, with both as they were. `struck` is room for the archive without the file.
+pub(crate) fn compare_without(
+    Question { text, archive, file, name, class }: Question,
+    struck: &mut [u8],
+    first: ImageMut,
+    second: ImageMut,
+    with_it: &mut u64,
+    without: &mut u64,
+) -> u64 {
+    // SAFETY: each pointer and count are those of a slice that is borrowed for the call, from `struck` on for writing, and
+    // the last two are numbers that are so borrowed. The call is proved to stay within them and to keep nothing.
+    unsafe {
+        resource_manager_compare_without(
+            text.as_ptr(),
+            text.len(),
+            archive.as_ptr(),
+            archive.len(),
+            file,
+            name.as_ptr(),
+            name.len(),
+            class.as_ptr(),
+            class.len(),
+            struck.as_mut_ptr(),
+            struck.len(),
+            first.contents.as_mut_ptr(),
+            first.contents.len(),
+            first.bodies.as_mut_ptr(),
+            first.bodies.len(),
+            second.contents.as_mut_ptr(),
+            second.contents.len(),
+            second.bodies.as_mut_ptr(),
+            second.bodies.len(),
+            with_it,
+            without,
+        )
+    }
+}
+
+#[cfg(test)]
+mod tests {
+    use super::*;
+    use crate::limits::{BODIES_BYTES, CONTENTS_WORDS};
+
+    const NO_FILES: &[u8] = b"\0\0";
+
+    /// Buffers that end with the memory they stand in, full of garbage.
+    fn buffers(words: usize, bytes: usize) -> (Box<[u16]>, Box<[u8]>) {
+        (vec![0xA5A5; words].into(), vec![0xA5; bytes].into())
+    }
+
+    #[test]
+    fn buffers_just_long_enough_are_accepted() {
+        let (mut contents, mut bodies) = buffers(CONTENTS_WORDS, BODIES_BYTES);
+        assert_eq!(read(b"a:1\nb: -5", NO_FILES, &mut contents, &mut bodies), 2 << 16);
+        assert_eq!(contents[..8], [2, 7, 0, 2, 1, 3, 2, 2]);
+        assert_eq!(&bodies[..8], b".a1.b-5\0");
+        let image = Image { contents: &contents, bodies: &bodies };
+        assert_eq!(get_bytes(image, b"b", b""), 5 << 16 | 2 << 32);
+        assert_eq!(get_string(image, b"a", b""), 2 << 16 | 1 << 32);
+        assert_eq!(get_bool(image, b"", b"a"), 65536);
+        let mut out = 7;
+        assert_eq!((get_value(image, b"b", b"", &mut out), out), (0, -5));
+    }
+
+    #[test]
+    fn buffers_one_short_are_refused_and_left() {
+        for (words, bytes) in [(CONTENTS_WORDS - 1, BODIES_BYTES), (CONTENTS_WORDS, BODIES_BYTES - 1), (0, 0)] {
+            let (mut contents, mut bodies) = buffers(words, bytes);
+            assert_eq!(read(b"a:1", NO_FILES, &mut contents, &mut bodies), 1);
+            assert_eq!((&contents, &bodies), (&buffers(words, bytes).0, &buffers(words, bytes).1));
+            contents.fill(0);
+            no_image(Image { contents: &contents, bodies: &bodies });
+        }
+    }
+
+    #[test]
+    fn longer_buffers_are_left_beyond_an_image() {
+        let (mut contents, mut bodies) = buffers(CONTENTS_WORDS + 1, BODIES_BYTES + 1);
+        assert_eq!(read(b"a:1", NO_FILES, &mut contents, &mut bodies), 1 << 16);
+        assert_eq!((contents[CONTENTS_WORDS - 1], contents[CONTENTS_WORDS]), (0, 0xA5A5));
+        assert_eq!((bodies[BODIES_BYTES - 1], bodies[BODIES_BYTES]), (0, 0xA5));
+    }
+
+    #[test]
+    fn garbage_is_no_image() {
+        let (contents, bodies) = buffers(CONTENTS_WORDS, BODIES_BYTES);
+        no_image(Image { contents: &contents, bodies: &bodies });
+    }
+
+    /// Compares without the file, with buffers so much too short.
+    fn compare(file: usize, short: [usize; 5]) -> (u64, u64, u64) {
+        let archive = b"\x01\0\x01\0\x03\0pa:1";
+        let question = Question { text: b"#include \"p\"\na*b:2", archive, file, name: b"a", class: b"" };
+        let (mut contents, mut bodies) = buffers(CONTENTS_WORDS - short[0], BODIES_BYTES - short[1]);
+        let (mut contents_without, mut bodies_without) = buffers(CONTENTS_WORDS - short[2], BODIES_BYTES - short[3]);
+        let mut struck = vec![0xA5; archive.len() - short[4]];
+        let (mut with_it, mut without) = (7, 7);
+        let first = ImageMut { contents: &mut contents, bodies: &mut bodies };
+        let second = ImageMut { contents: &mut contents_without, bodies: &mut bodies_without };
+        let answer = compare_without(question, &mut struck, first, second, &mut with_it, &mut without);
+        (answer, with_it, without)
+    }
+
+    #[test]
+    fn a_comparison_in_buffers_just_long_enough_and_one_short() {
+        assert_eq!(compare(0, [0; 5]), (0, 2 << 16 | 1 << 32, 65535));
+        assert_eq!(compare(1, [0; 5]), (65535, 7, 7));
+        assert_eq!(compare(usize::MAX, [0; 5]), (65535, 7, 7));
+        for place in 0..5 {
+            let mut short = [0; 5];
+            short[place] = 1;
+            assert_eq!(compare(0, short), (1, 7, 7), "{short:?}");
+        }
+    }
+
+    fn no_image(image: Image) {
+        let mut out = 7;
+        assert_eq!(get_bytes(image, b"a", b""), 8);
+        assert_eq!(get_string(image, b"a", b""), 8);
+        assert_eq!(get_bool(image, b"a", b""), 8);
+        assert_eq!((get_value(image, b"a", b"", &mut out), out), (8, 7));
+    }
+}

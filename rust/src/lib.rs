@@ -1,0 +1,57 @@
+//! X resource databases, as `resource_manager` of the crate x11rb-protocol has them, over a library whose reading and
+//! lookups are proved.
+//!
+//! ```
+//! use resource_manager::{Archive, Database};
+//!
+//! let archive = Archive::from_files([("pack", "reader.font.size: 14")])?;
+//! let database = Database::new_from_data_with_archive(b"#include \"pack\"\n*hyphenation: on", &archive)?;
+//! assert_eq!(database.get_string("reader.font.size", "Reader.Font.Size"), Some("14"));
+//! assert_eq!(database.get_bool("reader.hyphenation", "Reader.Hyphenation"), Some(true));
+//! assert_eq!(database.get_bytes("reader.margin", "Reader.Margin"), None);
+//! # Ok::<(), Box<dyn std::error::Error>>(())
+//! ```
+//!
+//! # From x11rb to this crate
+//!
+//! | x11rb | here |
+//! |---|---|
+//! | `use x11rb_protocol::resource_manager::Database` | `use resource_manager::Database` |
+//! | `Database::new_from_data(data)` | `Database::new_from_data(data)?` |
+//! | `Database::new_from_data_with_base_directory(data, directory)` | `Database::new_from_data_with_archive(data, Archive::from_directory(directory)?)?` |
+//! | `get_bytes`, `get_string`, `get_bool`, `get_value` | the same |
+//! | `new_from_get_property_reply(reply)` | `new_from_data(&reply.value)?`, if `reply.format` is 8 and the value is not empty |
+//! | `new_from_default` | none: the program says what is read |
+//!
+//! What x11rb has no limits for has [`limits`] here, and what is past them is refused by an [`Error`]. A reading returns
+//! it. A lookup panics with it, or returns it from the `try_get_` methods: it never passes for "no value". No file is
+//! opened in a reading: what a text includes is in an [`Archive`].
+//!
+//! # Proved, and not
+//!
+//! The library's calls are proved to meet their contracts. This crate is Rust as any other, and is tested: it owns the
+//! buffers, lays archives out and takes answers apart. All its unsafe code is in one module, the calls themselves.
+//!
+//! # Building
+//!
+//! `rt staticlib resource_manager`, in the repository, makes `target/staticlib/libresource_manager.a`, where the build
+//! looks for it. Elsewhere, the environment variable `RESOURCE_MANAGER_LIB_DIR` says in which directory it is.
+
+#![deny(unsafe_code, missing_docs)]
+
+mod archive;
+mod database;
+mod directory;
+mod error;
+mod ffi;
+pub mod limits;
+
+pub use archive::{Archive, ArchiveError, ArchiveErrorKind};
+pub use database::{Comparison, Database, Entries, Entry};
+pub use directory::DirectoryError;
+pub use error::{Error, NotANumber, ValueError};
+
+/// The example of the README is a test too.
+#[cfg(doctest)]
+#[doc = include_str!("../README.md")]
+struct Readme;

@@ -1,0 +1,37 @@
+//! The most that is accepted. One more is refused, with the [`Error`](crate::Error) named.
+
+/// Bytes of a main text ([`LongText`](crate::Error::LongText)).
+pub const TEXT_BYTES: usize = 32_768;
+
+/// Bytes of an archive ([`BadArchive`](crate::Error::BadArchive)).
+pub const ARCHIVE_BYTES: usize = 65_536;
+
+/// Files of an archive ([`BadArchive`](crate::Error::BadArchive)).
+pub const ARCHIVE_FILES: usize = 64;
+
+/// Bytes of a file's name ([`BadArchive`](crate::Error::BadArchive)).
+pub const FILE_NAME_BYTES: usize = 96;
+
+/// How deep includes nest. A deeper one adds nothing, and is no refusal.
+pub const DEPTH: usize = 100;
+
+/// How many times a reading reads an included file ([`ManyOpens`](crate::Error::ManyOpens)).
+pub const OPENS: usize = 4_096;
+
+/// Parts of an entry ([`ManyEntryParts`](crate::Error::ManyEntryParts)).
+pub const ENTRY_PARTS: usize = 16;
+
+/// Entries of a database ([`ManyEntries`](crate::Error::ManyEntries)).
+pub const ENTRIES: usize = 512;
+
+/// Bytes of a database's keys and values together ([`FullStore`](crate::Error::FullStore)).
+pub const BODIES_BYTES: usize = 32_768;
+
+/// Bytes of a query's name, and of its class ([`LongQuery`](crate::Error::LongQuery)).
+pub const QUERY_BYTES: usize = 1_024;
+
+/// Parts of a query's name, and of its class ([`ManyQueryParts`](crate::Error::ManyQueryParts)).
+pub const QUERY_PARTS: usize = 32;
+
+/// Words that say where entries stand: two, and three for each entry.
+pub(crate) const CONTENTS_WORDS: usize = 2 + 3 * ENTRIES;

@@ -1,0 +1,88 @@
+//! Lookups, and what a database shows of itself.
+
+use resource_manager::{Archive, Database, Entry, ValueError};
+
+#[test]
+fn document_01s_queries() {
+    let value = |text: &str| {
+        let database = Database::new_from_data(text.as_bytes()).unwrap();
+        database.get_string("a.b", "").map(str::to_string)
+    };
+    assert_eq!(value("a*b: 2\n*b: 1").as_deref(), Some("2"));
+    assert_eq!(value("?.b: 1\n*b: 2").as_deref(), Some("1"));
+    assert_eq!(value("a*b: 1\na*b: 2").as_deref(), Some("2"));
+    assert_eq!(value("a*c: 1"), None);
+}
+
+#[test]
+fn none_is_not_an_empty_value() {
+    let database = Database::new_from_data(b"a:\nb:\\377").unwrap();
+    assert_eq!(database.get_bytes("a", ""), Some(&b""[..]));
+    assert_eq!(database.get_bytes("c", ""), None);
+    assert_eq!(database.get_bytes("b", ""), Some(&b"\xFF"[..]));
+    assert_eq!(database.get_string("b", ""), None);
+}
+
+#[test]
+fn name_and_class_are_told_apart() {
+    let database = Database::new_from_data(b"a.b: lower\na.B: upper").unwrap();
+    assert_eq!(database.get_string("a.b", "A.B"), Some("lower"));
+    assert_eq!(database.get_string("A.B", "a.b"), Some("upper"));
+}
+
+#[test]
+fn booleans() {
+    let boolean = |value: &str| Database::new_from_data(format!("a: {value}").as_bytes()).unwrap().get_bool("a", "");
+    for word in ["true", "ON", "Yes", "1", "-7", "+5"] {
+        assert_eq!(boolean(word), Some(true), "{word}");
+    }
+    for word in ["false", "oFF", "no", "0", "-0"] {
+        assert_eq!(boolean(word), Some(false), "{word}");
+    }
+    for word in ["", "-", "yes.", "9223372036854775808"] {
+        assert_eq!(boolean(word), None, "{word}");
+    }
+}
+
+#[test]
+fn values_of_other_types() {
+    let database = Database::new_from_data(b"a: 1.5\nb: 300").unwrap();
+    assert_eq!(database.get_value("a", ""), Ok(Some(1.5f64)));
+    assert_eq!(database.get_value::<u16>("b", ""), Ok(Some(300)));
+    assert!(database.get_value::<u8>("b", "").is_err());
+    assert!(matches!(database.try_get_value::<u8>("b", ""), Err(ValueError::Parse(_))));
+    assert_eq!(database.try_get_value::<u8>("c", ""), Ok(None));
+}
+
+#[test]
+fn an_empty_database() {
+    let database = Database::default();
+    assert_eq!((database.entries().len(), database.opens()), (0, 0));
+    assert_eq!(database.get_bytes("a", ""), None);
+}
+
+#[test]
+fn entries_in_the_order_of_the_text() {
+    let archive = Archive::from_files([("d/p", "#include \"q\"\nb:2"), ("d/q", "c?d: 3")]).unwrap();
+    let database = Database::new_from_data_with_archive(b"a:1\n#include \"d/p\"\na:1", archive).unwrap();
+    let entry = |key: &'static str, value: &'static str| Entry { key: key.as_bytes(), value: value.as_bytes() };
+    let expected = [entry(".a", "1"), entry(".c.?.d", "3"), entry(".b", "2"), entry(".a", "1")];
+    assert_eq!(database.entries().collect::<Vec<_>>(), expected);
+    assert_eq!(database.opens(), 2);
+}
+
+#[test]
+fn a_database_shows_its_entries() {
+    let database = Database::new_from_data(b"a*b: \\001x").unwrap();
+    assert_eq!(format!("{:?}", database.clone()), "[\".a*b: \\x01x\"]");
+}
+
+#[test]
+fn a_database_goes_to_other_threads() {
+    let database = Database::new_from_data(b"a: 1").unwrap();
+    let found = std::thread::scope(|scope| {
+        let asked: Vec<_> = (0..4).map(|_| scope.spawn(|| database.get_i64("a", ""))).collect();
+        asked.into_iter().map(|thread| thread.join().unwrap()).collect::<Vec<_>>()
+    });
+    assert_eq!(found, [Ok(Some(1)); 4]);
+}

@@ -1,0 +1,490 @@
+/*
+ * Each call of the header at its limits: what is within them is accepted, and one more is refused. Everything lent
+ * ends at a page that nobody may touch, so that a call that goes past it is stopped by the machine.
+ */
+#define _DEFAULT_SOURCE
+#include "resource_manager.h"
+
+#include <inttypes.h>
+#include <pthread.h>
+#include <stdio.h>
+#include <stdlib.h>
+#include <string.h>
+#include <sys/mman.h>
+
+#define PAGE ((size_t)4096)
+#define ROOM (20 * PAGE)  /* more than anything that is lent */
+#define STACK (16 * PAGE) /* what the header says that a call may take */
+
+/* Where the room for each thing that is lent ends. */
+static uint8_t *text_end, *shelf_end, *contents_end, *bodies_end, *name_end, *class_end;
+static uint8_t *struck_end, *contents_without_end, *bodies_without_end;
+static size_t text_count, shelf_count;
+static size_t contents_count = RESOURCE_MANAGER_CONTENTS_WORDS, bodies_count = RESOURCE_MANAGER_BODIES_BYTES;
+static int checks;
+
+static void fail(const char *what)
+{
+    printf("%s\n", what);
+    exit(1);
+}
+
+static void expect(const char *what, uint64_t seen, uint64_t wanted)
+{
+    checks++;
+    if (seen != wanted) {
+        printf("%s: %" PRIu64 ", and not %" PRIu64 "\n", what, seen, wanted);
+        exit(1);
+    }
+}
+
+/* The end of a room of its own, with a fence behind it. */
+static uint8_t *fenced(void)
+{
+    uint8_t *start = (uint8_t *)mmap(NULL, ROOM + PAGE, PROT_READ | PROT_WRITE, MAP_PRIVATE | MAP_ANONYMOUS, -1, 0);
+    if (start == MAP_FAILED || mprotect(start + ROOM, PAGE, PROT_NONE) != 0) {
+        fail("no room");
+    }
+    return start + ROOM;
+}
+
+/* ---- What is lent */
+
+static uint16_t *lent_contents(void)
+{
+    return (uint16_t *)(void *)contents_end - contents_count;
+}
+
+static uint8_t *lent_bodies(void)
+{
+    return bodies_end - bodies_count;
+}
+
+/* A text of `times` times `piece` and then `last`. */
+static void set_text(const char *piece, size_t times, const char *last)
+{
+    size_t size = strlen(piece), n;
+    uint8_t *at;
+    text_count = size * times + strlen(last);
+    at = text_end - text_count;
+    for (n = 0; n < times; n++) {
+        memcpy(at + n * size, piece, size);
+    }
+    memcpy(at + times * size, last, strlen(last));
+}
+
+struct file {
+    const char *name;
+    const char *body;
+};
+
+static uint8_t *put_number(uint8_t *at, size_t number)
+{
+    at[0] = (uint8_t)(number & 255);
+    at[1] = (uint8_t)(number >> 8 & 255);
+    return at + 2;
+}
+
+static uint8_t *put(uint8_t *at, const char *bytes)
+{
+    memcpy(at, bytes, strlen(bytes));
+    return at + strlen(bytes);
+}
+
+static void set_shelf(const struct file *files, size_t count)
+{
+    uint8_t *at;
+    size_t n;
+    shelf_count = 2;
+    for (n = 0; n < count; n++) {
+        shelf_count += 4 + strlen(files[n].name) + strlen(files[n].body);
+    }
+    at = put_number(shelf_end - shelf_count, count);
+    for (n = 0; n < count; n++) {
+        at = put_number(put_number(at, strlen(files[n].name)), strlen(files[n].body));
+    }
+    for (n = 0; n < count; n++) {
+        at = put(put(at, files[n].name), files[n].body);
+    }
+}
+
+/* Text that is kept as long as the program runs: `count` times `byte`, then `last`. */
+static char *repeated(const char *first, char byte, size_t count, const char *last)
+{
+    size_t before = strlen(first);
+    char *all = (char *)malloc(before + count + strlen(last) + 1);
+    if (all == NULL) {
+        fail("no memory");
+    }
+    memcpy(all, first, before);
+    memset(all + before, byte, count);
+    strcpy(all + before + count, last);
+    return all;
+}
+
+/* So many `a` joined by '.', and then `last`. */
+static char *parts(size_t count, const char *last)
+{
+    char *all = repeated("", 'a', 2 * count - 1, last);
+    size_t n;
+    for (n = 1; n < 2 * count - 1; n += 2) {
+        all[n] = '.';
+    }
+    return all;
+}
+
+static uint64_t read_it(void)
+{
+    return resource_manager_read(text_end - text_count, text_count, shelf_end - shelf_count, shelf_count,
+                                 lent_contents(), contents_count, lent_bodies(), bodies_count);
+}
+
+typedef uint64_t lookup(const uint16_t *, size_t, const uint8_t *, size_t, const uint8_t *, size_t, const uint8_t *,
+                        size_t);
+
+static uint64_t ask(lookup *call, const char *name, const char *class_name)
+{
+    uint8_t *lent_name = name_end - strlen(name), *lent_class = class_end - strlen(class_name);
+    memcpy(lent_name, name, strlen(name));
+    memcpy(lent_class, class_name, strlen(class_name));
+    return call(lent_contents(), contents_count, lent_bodies(), bodies_count, lent_name, strlen(name), lent_class,
+                strlen(class_name));
+}
+
+static int64_t number;
+
+/* resource_manager_get_value in the shape of the others; the number is left in `number`. */
+static uint64_t get_value(const uint16_t *contents, size_t words, const uint8_t *bodies, size_t bytes,
+                          const uint8_t *name, size_t name_count, const uint8_t *class_name, size_t class_count)
+{
+    return resource_manager_get_value(contents, words, bodies, bytes, name, name_count, class_name, class_count,
+                                      &number);
+}
+
+static lookup *const lookups[] = {resource_manager_get_bytes, resource_manager_get_string, resource_manager_get_bool,
+                                  get_value};
+
+/* How much too short the buffers of a comparison are that no other call takes. */
+static size_t short_struck, short_contents, short_bodies;
+static uint64_t with_it, without;
+
+/* Compares with the shelf, and without one of its files. */
+static uint64_t compare(size_t file, const char *name)
+{
+    size_t struck = shelf_count - short_struck;
+    size_t words = RESOURCE_MANAGER_CONTENTS_WORDS - short_contents;
+    size_t bytes = RESOURCE_MANAGER_BODIES_BYTES - short_bodies;
+    uint8_t *lent_name = name_end - strlen(name);
+    memcpy(lent_name, name, strlen(name));
+    with_it = without = 77;
+    return resource_manager_compare_without(
+        text_end - text_count, text_count, shelf_end - shelf_count, shelf_count, file, lent_name, strlen(name),
+        class_end, 0, struck_end - struck, struck, lent_contents(), contents_count, lent_bodies(), bodies_count,
+        (uint16_t *)(void *)contents_without_end - words, words, bodies_without_end - bytes, bytes, &with_it, &without);
+}
+
+static uint64_t accepted(size_t entries, size_t opens)
+{
+    return (uint64_t)entries << 16 | (uint64_t)opens << 32;
+}
+
+/* ---- The limits of a reading */
+
+static void short_buffers(void)
+{
+    set_text("", 0, "a:1");
+    set_shelf(NULL, 0);
+    expect("buffers just long enough", read_it(), accepted(1, 0));
+    contents_count = RESOURCE_MANAGER_CONTENTS_WORDS - 1;
+    expect("contents one word short", read_it(), RESOURCE_MANAGER_SHORT_BUFFERS);
+    expect("a lookup in them", ask(resource_manager_get_bytes, "a", ""), RESOURCE_MANAGER_NO_IMAGE);
+    contents_count = RESOURCE_MANAGER_CONTENTS_WORDS;
+    bodies_count = RESOURCE_MANAGER_BODIES_BYTES - 1;
+    expect("bodies one byte short", read_it(), RESOURCE_MANAGER_SHORT_BUFFERS);
+    expect("a lookup in them", ask(resource_manager_get_bytes, "a", ""), RESOURCE_MANAGER_NO_IMAGE);
+    bodies_count = RESOURCE_MANAGER_BODIES_BYTES;
+}
+
+static void long_text(void)
+{
+    set_shelf(NULL, 0);
+    set_text("\n", RESOURCE_MANAGER_TEXT_BYTES, "");
+    expect("the longest text", read_it(), accepted(0, 0));
+    set_text("\n", RESOURCE_MANAGER_TEXT_BYTES + 1, "");
+    expect("a text one byte longer", read_it(), RESOURCE_MANAGER_LONG_TEXT);
+}
+
+static void shelf_files(void)
+{
+    static char names[RESOURCE_MANAGER_SHELF_FILES + 1][4];
+    struct file files[RESOURCE_MANAGER_SHELF_FILES + 1];
+    size_t n;
+    for (n = 0; n <= RESOURCE_MANAGER_SHELF_FILES; n++) {
+        sprintf(names[n], "p%02u", (unsigned)(n % 100));
+        files[n].name = names[n];
+        files[n].body = "a:1";
+    }
+    set_text("", 0, "#include \"p63\"");
+    set_shelf(files, RESOURCE_MANAGER_SHELF_FILES);
+    expect("the most files", read_it(), accepted(1, 1));
+    set_shelf(files, RESOURCE_MANAGER_SHELF_FILES + 1);
+    expect("a file more", read_it(), RESOURCE_MANAGER_BAD_SHELF);
+}
+
+static void shelf_bytes(void)
+{
+    struct file file = {"p", repeated("a:1\n", '\n', RESOURCE_MANAGER_SHELF_BYTES - 11, "")};
+    set_text("", 0, "#include \"p\"");
+    set_shelf(&file, 1);
+    expect("the largest shelf's bytes", shelf_count, RESOURCE_MANAGER_SHELF_BYTES);
+    expect("the largest shelf", read_it(), accepted(1, 1));
+    file.body = repeated("a:1\n", '\n', RESOURCE_MANAGER_SHELF_BYTES - 10, "");
+    set_shelf(&file, 1);
+    expect("a shelf one byte larger", read_it(), RESOURCE_MANAGER_BAD_SHELF);
+    shelf_count = 0;
+    expect("a shelf of no bytes", read_it(), RESOURCE_MANAGER_BAD_SHELF);
+}
+
+static void shelf_names(void)
+{
+    struct file file = {repeated("", 'p', RESOURCE_MANAGER_FILE_NAME_BYTES, ""), "a:1"};
+    set_text("", 0, "b:");
+    set_shelf(&file, 1);
+    expect("the longest name of a file", read_it(), accepted(1, 0));
+    file.name = repeated("", 'p', RESOURCE_MANAGER_FILE_NAME_BYTES + 1, "");
+    set_shelf(&file, 1);
+    expect("a name one byte longer", read_it(), RESOURCE_MANAGER_BAD_SHELF);
+}
+
+/* Each include of p makes 16 opens, each of q one. */
+static void opens(void)
+{
+    const char *many = "#include \"q\"\n#include \"q\"\n#include \"q\"\n#include \"q\"\n#include \"q\"\n";
+    char three[256];
+    struct file files[] = {{"p", three}, {"q", ""}};
+    char single[512] = "";
+    size_t n;
+    sprintf(three, "%s%s%s", many, many, many);
+    for (n = 0; n < RESOURCE_MANAGER_OPENS % 16 + 16; n++) {
+        strcat(single, "#include \"q\"\n");
+    }
+    set_shelf(files, 2);
+    set_text("#include \"p\"\n", RESOURCE_MANAGER_OPENS / 16 - 1, single);
+    expect("the most opens", read_it(), accepted(0, RESOURCE_MANAGER_OPENS));
+    strcat(single, "#include \"q\"\n");
+    set_text("#include \"p\"\n", RESOURCE_MANAGER_OPENS / 16 - 1, single);
+    expect("an open more", read_it(), RESOURCE_MANAGER_MANY_OPENS);
+    expect("what it leaves", lent_contents()[0], 0);
+}
+
+static void depth(void)
+{
+    struct file file = {"p", "#include \"p\"\na:1"};
+    set_text("", 0, "#include \"p\"");
+    set_shelf(&file, 1);
+    expect("the deepest include", read_it(), accepted(RESOURCE_MANAGER_DEPTH, RESOURCE_MANAGER_DEPTH));
+}
+
+static void entry_parts(void)
+{
+    set_shelf(NULL, 0);
+    set_text("", 0, parts(RESOURCE_MANAGER_ENTRY_PARTS, ":"));
+    expect("the most parts", read_it(), accepted(1, 0));
+    set_text("", 0, parts(RESOURCE_MANAGER_ENTRY_PARTS + 1, ":"));
+    expect("a part more", read_it(), RESOURCE_MANAGER_MANY_ENTRY_PARTS);
+}
+
+static void entries(void)
+{
+    set_shelf(NULL, 0);
+    set_text("a:\n", RESOURCE_MANAGER_ENTRIES, "");
+    expect("the most entries", read_it(), accepted(RESOURCE_MANAGER_ENTRIES, 0));
+    set_text("a:\n", RESOURCE_MANAGER_ENTRIES + 1, "");
+    expect("an entry more", read_it(), RESOURCE_MANAGER_MANY_ENTRIES);
+}
+
+/* Two files fill the store but for two bytes, which are the key of an entry with an empty value. */
+static void store(void)
+{
+    struct file files[] = {{"p", repeated("a:", 'z', RESOURCE_MANAGER_BODIES_BYTES - 20002, "")},
+                           {"q", repeated("b:", 'z', 20000 - 4, "")}};
+    uint64_t found;
+    set_shelf(files, 2);
+    set_text("", 0, "#include \"p\"\n#include \"q\"\nc:");
+    expect("a full store", read_it(), accepted(3, 2));
+    found = ask(resource_manager_get_bytes, "c", "");
+    expect("status of an empty value", resource_manager_status_of(found), RESOURCE_MANAGER_OK);
+    expect("its place", resource_manager_place_of(found), RESOURCE_MANAGER_BODIES_BYTES);
+    expect("its length", resource_manager_length_of(found), 0);
+    found = ask(resource_manager_get_string, "b", "");
+    expect("a long value's place", resource_manager_place_of(found), RESOURCE_MANAGER_BODIES_BYTES - 20000 + 2);
+    expect("a long value's length", resource_manager_length_of(found), 20000 - 4);
+    set_text("", 0, "#include \"p\"\n#include \"q\"\nc:1");
+    expect("a byte more", read_it(), RESOURCE_MANAGER_FULL_STORE);
+    expect("what it leaves", ask(resource_manager_get_bytes, "a", ""), RESOURCE_MANAGER_NONE);
+}
+
+/* ---- The limits of a lookup */
+
+static void queries(void)
+{
+    const char *longest = repeated("", 'a', RESOURCE_MANAGER_QUERY_BYTES, "");
+    const char *longer = repeated("", 'a', RESOURCE_MANAGER_QUERY_BYTES + 1, "");
+    const char *most = parts(RESOURCE_MANAGER_QUERY_PARTS, ""), *more = parts(RESOURCE_MANAGER_QUERY_PARTS + 1, "");
+    size_t n;
+    set_shelf(NULL, 0);
+    set_text("", 0, "b:1");
+    expect("a reading", read_it(), accepted(1, 0));
+    for (n = 0; n < sizeof lookups / sizeof lookups[0]; n++) {
+        expect("the longest name", ask(lookups[n], longest, ""), RESOURCE_MANAGER_NONE);
+        expect("a longer name", ask(lookups[n], longer, ""), RESOURCE_MANAGER_LONG_QUERY);
+        expect("the longest class", ask(lookups[n], "a", longest), RESOURCE_MANAGER_NONE);
+        expect("a longer class", ask(lookups[n], "a", longer), RESOURCE_MANAGER_LONG_QUERY);
+        expect("the most parts in a name", ask(lookups[n], most, ""), RESOURCE_MANAGER_NONE);
+        expect("a part more", ask(lookups[n], more, ""), RESOURCE_MANAGER_MANY_QUERY_PARTS);
+        expect("the most parts in a class", ask(lookups[n], "a", most), RESOURCE_MANAGER_NONE);
+        expect("a part more", ask(lookups[n], "a", more), RESOURCE_MANAGER_MANY_QUERY_PARTS);
+        expect("a malformed name", ask(lookups[n], ".b", ""), RESOURCE_MANAGER_NONE);
+        expect("an empty query", ask(lookups[n], "", ""), RESOURCE_MANAGER_NONE);
+    }
+}
+
+static void images(void)
+{
+    size_t n;
+    for (n = 0; n < sizeof lookups / sizeof lookups[0]; n++) {
+        memset(lent_contents(), 0, 2 * contents_count);
+        expect("an image of no entries", ask(lookups[n], "a", ""), RESOURCE_MANAGER_NONE);
+        lent_contents()[0] = RESOURCE_MANAGER_ENTRIES + 1;
+        expect("no image", ask(lookups[n], "a", ""), RESOURCE_MANAGER_NO_IMAGE);
+    }
+}
+
+static void a_number(const char *line, uint64_t status, int64_t wanted)
+{
+    set_shelf(NULL, 0);
+    set_text("", 0, line);
+    expect("a reading", read_it(), accepted(1, 0));
+    number = 77;
+    expect(line, ask(get_value, "a", ""), status);
+    expect("the number", (uint64_t)number, (uint64_t)wanted);
+}
+
+static void numbers(void)
+{
+    a_number("a:9223372036854775807", RESOURCE_MANAGER_OK, INT64_MAX);
+    a_number("a:9223372036854775808", RESOURCE_MANAGER_NOT_A_NUMBER, 77);
+    a_number("a:-9223372036854775808", RESOURCE_MANAGER_OK, INT64_MIN);
+    a_number("a:-9223372036854775809", RESOURCE_MANAGER_NOT_A_NUMBER, 77);
+    a_number("b:1", RESOURCE_MANAGER_NONE, 77);
+    a_number("a:\\377", RESOURCE_MANAGER_NONE, 77);
+}
+
+static void a_boolean(const char *line, uint64_t wanted)
+{
+    set_shelf(NULL, 0);
+    set_text("", 0, line);
+    expect("a reading", read_it(), accepted(1, 0));
+    expect(line, ask(resource_manager_get_bool, "a", ""), wanted);
+}
+
+static void booleans(void)
+{
+    a_boolean("a:Yes", RESOURCE_MANAGER_TRUE);
+    a_boolean("a:oFF", RESOURCE_MANAGER_FALSE);
+    a_boolean("a:-0", RESOURCE_MANAGER_FALSE);
+    a_boolean("a:-9223372036854775808", RESOURCE_MANAGER_TRUE);
+    a_boolean("a:9223372036854775808", RESOURCE_MANAGER_NONE);
+}
+
+/* Two files with a value each: the second's counts, and the first's if the second is struck off. */
+static void set_comparison(void)
+{
+    const struct file files[] = {{"p", "a:first"}, {"q", "b:\na:2"}};
+    set_shelf(files, 2);
+    set_text("", 0, "#include \"p\"\n#include \"q\"");
+}
+
+static void comparisons(void)
+{
+    const uint8_t *found;
+    set_comparison();
+    expect("a file struck off", compare(1, "a"), RESOURCE_MANAGER_OK);
+    expect("the place with it", resource_manager_place_of(with_it), 2 + 5 + 2 + 2);
+    expect("the length with it", resource_manager_length_of(with_it), 1);
+    expect("the place without it", resource_manager_place_of(without), 2);
+    expect("the length without it", resource_manager_length_of(without), 5);
+    found = bodies_without_end - RESOURCE_MANAGER_BODIES_BYTES + resource_manager_place_of(without);
+    expect("the bytes without it", (uint64_t)memcmp(found, "first", 5), 0);
+    expect("a value that goes", compare(1, "b"), RESOURCE_MANAGER_OK);
+    expect("it, with the file", resource_manager_status_of(with_it), RESOURCE_MANAGER_OK);
+    expect("it, without the file", without, RESOURCE_MANAGER_NONE);
+}
+
+static void refused_comparison(const char *what, uint64_t wanted, size_t file, const char *name)
+{
+    expect(what, compare(file, name), wanted);
+    expect("the first answer", with_it, 77);
+    expect("the second answer", without, 77);
+}
+
+static void refused_comparisons(void)
+{
+    set_comparison();
+    refused_comparison("no such file", RESOURCE_MANAGER_NONE, 2, "a");
+    refused_comparison("the highest number of a file", RESOURCE_MANAGER_NONE, SIZE_MAX, "a");
+    refused_comparison("a longer name", RESOURCE_MANAGER_LONG_QUERY, 0,
+                       repeated("", 'a', RESOURCE_MANAGER_QUERY_BYTES + 1, ""));
+    refused_comparison("a part more", RESOURCE_MANAGER_MANY_QUERY_PARTS, 0,
+                       parts(RESOURCE_MANAGER_QUERY_PARTS + 1, ""));
+    short_struck = 1;
+    refused_comparison("no room for a shelf", RESOURCE_MANAGER_SHORT_BUFFERS, 0, "a");
+    short_struck = 0;
+    short_contents = 1;
+    refused_comparison("second contents one word short", RESOURCE_MANAGER_SHORT_BUFFERS, 0, "a");
+    short_contents = 0;
+    short_bodies = 1;
+    refused_comparison("second bodies one byte short", RESOURCE_MANAGER_SHORT_BUFFERS, 0, "a");
+    short_bodies = 0;
+    set_text("a:\n", RESOURCE_MANAGER_ENTRIES + 1, "");
+    refused_comparison("a refused reading", RESOURCE_MANAGER_MANY_ENTRIES, 0, "a");
+}
+
+static void *all(void *unused)
+{
+    short_buffers();
+    long_text();
+    shelf_files();
+    shelf_bytes();
+    shelf_names();
+    opens();
+    depth();
+    entry_parts();
+    entries();
+    store();
+    queries();
+    images();
+    numbers();
+    booleans();
+    comparisons();
+    refused_comparisons();
+    return unused;
+}
+
+int main(void)
+{
+    pthread_attr_t small;
+    pthread_t thread;
+    uint8_t **ends[] = {&text_end, &shelf_end, &contents_end, &bodies_end, &name_end, &class_end,
+                        &struck_end, &contents_without_end, &bodies_without_end};
+    size_t n;
+    for (n = 0; n < sizeof ends / sizeof ends[0]; n++) {
+        *ends[n] = fenced();
+    }
+    if (pthread_attr_init(&small) != 0 || pthread_attr_setstacksize(&small, STACK) != 0 ||
+        pthread_create(&thread, &small, all, NULL) != 0 || pthread_join(thread, NULL) != 0) {
+        fail("no thread");
+    }
+    printf("%d answers\n", checks);
+    return 0;
+}

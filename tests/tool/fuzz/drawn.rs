@@ -1,0 +1,94 @@
+//! What the fuzzing draws: sources with queries, and files for an archive.
+
+use cases::damage::damaged;
+use cases::draw::Draw;
+use cases::{archives, crowded, realistic, texts};
+use model::limits::{ARCHIVE_BYTES, ARCHIVE_FILES, FILE_NAME_BYTES, QUERY_BYTES, QUERY_PARTS};
+use records::{Query, Source};
+
+/// A source, and queries of which some meet its entries.
+pub fn source(draw: &mut Draw) -> (Source, Vec<Query>) {
+    // Few near the limits of a reading, which take the model long.
+    let (source, query) = match draw.below(100) {
+        0 => (crowded::source(draw), texts::query(draw)),
+        1..=35 => archives::source(draw),
+        36..=56 => plain(draw),
+        57..=60 => long_value(draw),
+        61..=75 => (realistic::source(draw, 30), realistic::query(draw)),
+        76..=90 => {
+            let (mut source, query) = archives::source(draw);
+            source.text = damaged(draw, &source.text);
+            (source, query)
+        }
+        _ => {
+            let (mut source, query) = archives::source(draw);
+            source.archive = damaged(draw, &source.archive);
+            (source, query)
+        }
+    };
+    let other = texts::query(draw);
+    let limit = limit_query(draw);
+    (source, vec![swapped(&query), query, other, limit])
+}
+
+fn plain(draw: &mut Draw) -> (Source, Query) {
+    let query = texts::query(draw);
+    (Source::plain(&texts::text(draw, 8, &query)), query)
+}
+
+/// A value of more than 255 bytes, which takes both bytes of a length.
+fn long_value(draw: &mut Draw) -> (Source, Query) {
+    let query = texts::query(draw);
+    let value = vec![b'z'; draw.between(250, 2_000)];
+    let text = [texts::aligned_key(draw, &query, 2), b": ".to_vec(), value, b"\nb: 1".to_vec()].concat();
+    (Source::plain(&text), query)
+}
+
+fn swapped(query: &Query) -> Query {
+    Query::new(&query.class, &query.name)
+}
+
+/// A limit, or up to two less or more.
+fn near(draw: &mut Draw, limit: usize) -> usize {
+    limit - 2 + draw.below(5)
+}
+
+/// A query near a limit in its name or in its class.
+fn limit_query(draw: &mut Draw) -> Query {
+    let long = match draw.below(4) {
+        0 => vec![b'a'; near(draw, QUERY_BYTES)],
+        1 => vec![b"a".as_slice(); near(draw, QUERY_PARTS)].join(&b'.'),
+        2 => b"a.".repeat(near(draw, QUERY_PARTS)),
+        _ => "a.\u{e9}".as_bytes().to_vec(),
+    };
+    let query = Query::new(&long, &texts::query(draw).class);
+    if draw.one_in(2) {
+        swapped(&query)
+    } else {
+        query
+    }
+}
+
+/// Files to put into an archive one after the other, some of which it must refuse.
+pub fn files(draw: &mut Draw) -> Vec<(String, Vec<u8>)> {
+    let count = if draw.one_in(6) { near(draw, ARCHIVE_FILES) } else { draw.below(5) };
+    let mut files: Vec<(String, Vec<u8>)> = (0..count).map(|n| (file_name(draw, n), texts::word(draw))).collect();
+    if draw.one_in(3) {
+        let taken: usize = files.iter().map(|(name, body)| 4 + name.len() + body.len()).sum();
+        let room = ARCHIVE_BYTES - 2 - taken;
+        files.push(("q".to_string(), vec![b'\n'; near(draw, room - 5)]));
+        files.push(("r".to_string(), Vec::new()));
+    }
+    files
+}
+
+fn file_name(draw: &mut Draw, number: usize) -> String {
+    match draw.below(30) {
+        0 => "p".repeat(near(draw, FILE_NAME_BYTES)),
+        1 => String::new(),
+        2 => ["a", "/", ".", "..", "\u{e9}"][draw.below(5)].repeat(draw.between(1, 3)),
+        3 => format!("{}/p", draw.pick(&["a", ".", "..", "...", "a b", ""])),
+        4 => char::from(draw.byte()).to_string(),
+        _ => format!("f{number}"),
+    }
+}

@@ -1,0 +1,211 @@
+//! The crate's answers held to the model's, and to the Rust's by `rusts.rs`.
+
+use model::image;
+use model::lookup::{get_bool, get_bytes, get_string, get_value, Number};
+use records::{Query, Source};
+use resource_manager::{Database, Error, ValueError};
+use std::any::Any;
+use std::fmt::Debug;
+use std::panic::{catch_unwind, AssertUnwindSafe};
+
+use crate::files;
+#[cfg(feature = "rust")]
+use crate::rusts::Rusts;
+
+#[derive(Default)]
+pub struct Counts {
+    pub archives: usize,
+    pub refused_files: usize,
+    pub readings: usize,
+    pub refused_readings: usize,
+    pub lookups: usize,
+    pub refused_lookups: usize,
+    pub comparisons: usize,
+    /// Comparisons with another answer without the file.
+    pub moved: usize,
+    pub rusts_readings: usize,
+    pub rusts_lookups: usize,
+    pub rusts_comparisons: usize,
+}
+
+impl Counts {
+    /// What was compared; an error if some of it was not.
+    pub fn report(&self) -> Result<String, String> {
+        let Self { archives, refused_files, readings, refused_readings, lookups, refused_lookups, comparisons, moved, .. } = self;
+        let [rusts_readings, rusts_lookups, rusts_comparisons] =
+            [self.rusts_readings, self.rusts_lookups, self.rusts_comparisons];
+        let beside_the_rust = rusts_readings.min(rusts_lookups).min(rusts_comparisons);
+        if [archives, refused_files, readings, refused_readings, lookups, refused_lookups, comparisons, moved].contains(&&0)
+            || cfg!(feature = "rust") && beside_the_rust == 0
+        {
+            return Err("too little was compared".to_string());
+        }
+        let rusts = if cfg!(feature = "rust") {
+            format!("{rusts_readings}, {rusts_lookups} and {rusts_comparisons} of them beside the Rust")
+        } else {
+            "none beside the Rust, which is not at hand".to_string()
+        };
+        Ok(format!(
+            "{archives} archives built ({refused_files} files refused), {readings} readings ({refused_readings} refused), \
+             {lookups} lookups ({refused_lookups} refused) and {comparisons} comparisons ({moved} moved) beside the model, {rusts}"
+        ))
+    }
+}
+
+pub struct Held {
+    contents: Vec<u16>,
+    bodies: Vec<u8>,
+    #[cfg(feature = "rust")]
+    rusts: Rusts,
+    pub counts: Counts,
+}
+
+impl Held {
+    pub fn new(_room: &str) -> Self {
+        let (contents, bodies) = records::buffers();
+        Self {
+            contents,
+            bodies,
+            #[cfg(feature = "rust")]
+            rusts: Rusts::new(_room),
+            counts: Counts::default(),
+        }
+    }
+
+    /// Builds an archive of files, each accepted or refused as the model would.
+    pub fn build(&mut self, files: &[(String, Vec<u8>)]) -> Result<(), String> {
+        self.counts.refused_files += files::build(files)?;
+        self.counts.archives += 1;
+        Ok(())
+    }
+
+    /// Compares a reading, and lookups in what it left.
+    pub fn ask(&mut self, source: &Source, queries: &[Query]) -> Result<(), String> {
+        let why = |why: String| format!("{why}\n{}", files::described(source));
+        let Some(database) = self.read(source).map_err(why)? else { return Ok(()) };
+        for query in queries {
+            let (name, class) = (String::from_utf8_lossy(&query.name), String::from_utf8_lossy(&query.class));
+            let why = |w| why(format!("{w}\nname {name:?}, class {class:?}"));
+            self.look_up(&database, source, &name, &class).map_err(why)?;
+            // Not every query, as a comparison takes each side two readings.
+            if self.counts.lookups % 3 == 0 {
+                self.compare(source, &name, &class).map_err(why)?;
+            }
+        }
+        Ok(())
+    }
+
+    /// Compares what the file that is next in turn changes for a query; one turn is that of a file that is not there.
+    fn compare(&mut self, source: &Source, name: &str, class: &str) -> Result<(), String> {
+        let Some(archive) = files::archive(source)? else { return Ok(()) };
+        let which = self.counts.comparisons % (archive.len() + 1);
+        let file = archive.names().nth(which).unwrap_or("not/there");
+        let answer = Database::compare_without(&source.text, &archive, file, name, class);
+        let answer = answer.map_err(Error::number).map(|found| found.map(|both| (both.with_file, both.without_file)));
+        let models = files::compared(source, which, name.as_bytes(), class.as_bytes());
+        same(&format!("compare_without of {file:?}"), &answer, &models)?;
+        self.counts.comparisons += 1;
+        if let Ok(Some((with_file, without_file))) = answer {
+            self.counts.moved += usize::from(with_file != without_file);
+            #[cfg(feature = "rust")]
+            {
+                let case = crate::rusts::Struck { source, which, name, class };
+                self.counts.rusts_comparisons += usize::from(self.rusts.compare(&case, with_file, without_file)?);
+            }
+        }
+        Ok(())
+    }
+
+    /// The crate's reading, or none if it is refused.
+    fn read(&mut self, source: &Source) -> Result<Option<Database>, String> {
+        let read = match files::archive(source)? {
+            Some(archive) => Database::new_from_data_with_archive(&source.text, archive),
+            None => Database::new_from_data_with_archive(&source.text, &source.archive),
+        };
+        let models = image::read(&mut self.contents, &mut self.bodies, &source.text, &source.archive);
+        self.counts.readings += 1;
+        let answer = read.as_ref().map(|database| (database.entries().len(), database.opens())).map_err(|e| e.number());
+        let models = models.map(|accepted| (accepted.entries, accepted.opens)).map_err(|refusal| refusal.number());
+        same("reading", answer, models)?;
+        let Ok(database) = read else {
+            self.counts.refused_readings += 1;
+            return Ok(None);
+        };
+        same("entries", files::listed(&database), records::listed(&self.contents, &self.bodies))?;
+        #[cfg(feature = "rust")]
+        {
+            self.counts.rusts_readings += usize::from(self.rusts.read(source, &database)?);
+        }
+        Ok(Some(database))
+    }
+
+    fn look_up(&mut self, database: &Database, _source: &Source, name: &str, class: &str) -> Result<(), String> {
+        let (contents, bodies) = (&self.contents, &self.bodies);
+        let (n, c) = (name.as_bytes(), class.as_bytes());
+        let bytes = get_bytes(contents, bodies, n, c).map(|found| found.map(|place| place.of(bodies)));
+        let string = get_string(contents, bodies, n, c).map(|found| found.map(|place| place.of(bodies)));
+        let refused = bytes.is_err();
+        same("get_bytes", database.try_get_bytes(name, class).map_err(Error::number), bytes.map_err(|r| r.number()))?;
+        let strings = database.try_get_string(name, class).map(|found| found.map(str::as_bytes));
+        same("get_string", strings.map_err(Error::number), string.map_err(|r| r.number()))?;
+        let boolean = get_bool(contents, bodies, n, c).map_err(|r| r.number());
+        same("get_bool", database.try_get_bool(name, class).map_err(Error::number), boolean)?;
+        let number = get_value(contents, bodies, n, c).map_err(|r| r.number());
+        same("get_i64", number_of(database.try_get_i64(name, class)), number)?;
+        in_the_shape_of_x11rb(database, name, class)?;
+        self.counts.lookups += 1;
+        self.counts.refused_lookups += usize::from(refused);
+        #[cfg(feature = "rust")]
+        {
+            self.counts.rusts_lookups += usize::from(self.rusts.look_up(_source, database, name, class)?);
+        }
+        Ok(())
+    }
+}
+
+/// Each `get_` method gives what its `try_get_` gives, and panics where that gives a refusal.
+fn in_the_shape_of_x11rb(database: &Database, name: &str, class: &str) -> Result<(), String> {
+    let refusal = |error: Error| format!("lookup refused: {error}");
+    same("get_bytes", caught(|| database.get_bytes(name, class)), database.try_get_bytes(name, class).map_err(refusal))?;
+    same("get_string", caught(|| database.get_string(name, class)), database.try_get_string(name, class).map_err(refusal))?;
+    same("get_bool", caught(|| database.get_bool(name, class)), database.try_get_bool(name, class).map_err(refusal))?;
+    let numbers = match database.try_get_i64(name, class) {
+        Ok(number) => Ok(Ok(number)),
+        Err(ValueError::Parse(error)) => Ok(Err(error)),
+        Err(ValueError::Refused(error)) => Err(refusal(error)),
+    };
+    same("get_i64", caught(|| database.get_i64(name, class)), numbers)?;
+    let values = match database.try_get_value::<i8>(name, class) {
+        Ok(number) => Ok(Ok(number)),
+        Err(ValueError::Parse(error)) => Ok(Err(error)),
+        Err(ValueError::Refused(error)) => Err(refusal(error)),
+    };
+    same("get_value", caught(|| database.get_value::<i8>(name, class)), values)
+}
+
+/// What a call gives, or the words of its panic.
+fn caught<T>(call: impl FnOnce() -> T) -> Result<T, String> {
+    catch_unwind(AssertUnwindSafe(call)).map_err(|panic| words(&*panic))
+}
+
+/// The words of a panic.
+pub fn words(panic: &(dyn Any + Send)) -> String {
+    let string = panic.downcast_ref::<String>().cloned();
+    string.or_else(|| panic.downcast_ref::<&str>().map(|words| words.to_string())).unwrap_or_default()
+}
+
+fn number_of<E>(answer: Result<Option<i64>, ValueError<E>>) -> Result<Number, u8> {
+    match answer {
+        Ok(Some(number)) => Ok(Number::Is(number)),
+        Ok(None) => Ok(Number::None),
+        Err(ValueError::Parse(_)) => Ok(Number::NotANumber),
+        Err(ValueError::Refused(error)) => Err(error.number()),
+    }
+}
+
+pub fn same<T: Debug + PartialEq>(what: &str, crates: T, others: T) -> Result<(), String> {
+    if crates == others {
+        return Ok(());
+    }
+    Err(format!("{what}: {crates:?} by the crate, and not {others:?}"))
+}
