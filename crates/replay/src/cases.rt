@@ -3,21 +3,21 @@ ghost use mathlib.Core.Path.{_≡_};
 ghost use Prim.Native.Nat.{_≤_, _<_};
 ghost use lib.ListN.{length};
 use crate::fields::Taken;
-use crate::fields::field;
-use crate::fields::is_decimal;
 use crate::fields::pass_bytes;
+use crate::fields::pass_integer;
 use crate::fields::pass_number;
 use crate::fields::pass_word;
 use crate::fields::take_bytes;
 use crate::fields::until;
 use check::same;
+use lookup::Lookup;
+use lookup::Truth;
+use lookup::Value;
+use lookup::get_bool;
+use lookup::get_bytes;
+use lookup::get_string;
+use lookup::get_value;
 use reader::Answer;
-
-pub enum Verdict {
-    Equal,
-    Later,
-    Differs,
-}
 
 // What a line asks.
 enum Kind {
@@ -132,93 +132,122 @@ fn is_word(rest: &[u8], word: &[u8]) -> bool {
     end == rest.len()
 }
 
-// Is the rest of the line one field of bytes?
-fn is_field(rest: &[u8]) -> bool {
-    let mut value = [0; 32768];
-    let taken = take_bytes(rest, &mut value);
-    match taken {
-        Taken::Bytes(_, end) => end == rest.len(),
-        Taken::Malformed => false,
+// Is it these bytes alone?
+fn is_field(rest: &[u8], bytes: &[u8]) -> bool {
+    let end = pass_bytes(rest, bytes);
+    if end == 0 {
+        return false;
+    }
+    end == rest.len()
+}
+
+// Is it this number alone?
+fn is_number(rest: &[u8], number: i64) -> bool {
+    let end = pass_integer(rest, number);
+    if end == 0 {
+        return false;
+    }
+    end == rest.len()
+}
+
+// Is a lookup's answer that of the line? Every recorded lookup is accepted.
+fn is_place(rest: &[u8], answer: Lookup, bodies: &[u8]) -> bool {
+    match answer {
+        Lookup::Found(start, size) => {
+            if start > bodies.len() {
+                return false;
+            }
+            if size > bodies.len() - start {
+                return false;
+            }
+            is_field(rest, &bodies[start..start + size])
+        }
+        Lookup::Nothing => is_word(rest, b"none"),
+        Lookup::Refused(_) => false,
     }
 }
 
-// Is it a number, in decimal with no leading zeros?
-fn is_number(rest: &[u8]) -> bool {
-    let end = field(rest);
-    if end < 2 {
-        return false;
-    }
-    if end != rest.len() {
-        return false;
-    }
-    is_decimal(&rest[1..])
-}
-
-// The answer of a lookup is not asked yet: is there one of its kind?
-fn is_answer(kind: Kind, rest: &[u8]) -> bool {
-    if is_word(rest, b"none") {
-        return true;
-    }
-    match kind {
-        Kind::Bytes => is_field(rest),
-        Kind::Text => is_field(rest),
-        Kind::Bool => {
-            if is_word(rest, b"true") {
-                return true;
+// The same for a boolean, and for a number.
+fn is_truth(rest: &[u8], answer: Truth) -> bool {
+    match answer {
+        Truth::Is(truth) => {
+            if truth {
+                return is_word(rest, b"true");
             }
             is_word(rest, b"false")
         }
-        Kind::Number => {
-            if is_word(rest, b"notnumber") {
-                return true;
-            }
-            is_number(rest)
-        }
+        Truth::Nothing => is_word(rest, b"none"),
+        Truth::Refused(_) => false,
+    }
+}
+
+fn is_value(rest: &[u8], answer: Value) -> bool {
+    match answer {
+        Value::Is(number) => is_number(rest, number),
+        Value::NotANumber => is_word(rest, b"notnumber"),
+        Value::Nothing => is_word(rest, b"none"),
+        Value::Refused(_) => false,
+    }
+}
+
+// The query is asked of the image.
+fn is_answer(
+    kind: Kind,
+    rest: &[u8],
+    contents: &[u16],
+    bodies: &[u8],
+    name: &[u8],
+    class: &[u8],
+) -> bool {
+    match kind {
+        Kind::Bytes => is_place(rest, get_bytes(contents, bodies, name, class), bodies),
+        Kind::Text => is_place(rest, get_string(contents, bodies, name, class), bodies),
+        Kind::Bool => is_truth(rest, get_bool(contents, bodies, name, class)),
+        Kind::Number => is_value(rest, get_value(contents, bodies, name, class)),
         Kind::Reading => false,
         Kind::Unknown => false,
     }
 }
 
 // A query's name and class, and the answer.
-fn replay_lookup(kind: Kind, rest: &[u8]) -> Verdict {
+fn replay_lookup(kind: Kind, rest: &[u8], contents: &[u16], bodies: &[u8]) -> bool {
     let mut name = [0; 1024];
     let mut class = [0; 1024];
     let first = take_bytes(rest, &mut name);
-    let Taken::Bytes(_, middle) = first else {
-        return Verdict::Differs;
+    let Taken::Bytes(size, middle) = first else {
+        return false;
     };
     let more = &rest[middle..];
     let second = take_bytes(more, &mut class);
-    let Taken::Bytes(_, end) = second else {
-        return Verdict::Differs;
+    let Taken::Bytes(length, end) = second else {
+        return false;
     };
-    if is_answer(kind, &more[end..]) {
-        Verdict::Later
-    } else {
-        Verdict::Differs
-    }
+    is_answer(
+        kind,
+        &more[end..],
+        contents,
+        bodies,
+        &name[..size],
+        &class[..length],
+    )
 }
 
 // The text is read again. Every recorded reading is accepted.
-fn replay_reading(kind: Kind, rest: &[u8], text: &[u8], archive: &[u8]) -> Verdict {
+fn replay_reading(kind: Kind, rest: &[u8], text: &[u8], archive: &[u8]) -> bool {
     let mut contents = [0; 1538];
     let mut bodies = [0; 32768];
     let answer = reader::read(text, archive, &mut contents, &mut bodies);
     let Answer::Accepted(entries, opens) = answer else {
-        return Verdict::Differs;
+        return false;
     };
     let Kind::Reading = kind else {
-        return replay_lookup(kind, rest);
+        return replay_lookup(kind, rest, &contents, &bodies);
     };
-    if is_reading(rest, entries, opens, &contents, &bodies) {
-        Verdict::Equal
-    } else {
-        Verdict::Differs
-    }
+    is_reading(rest, entries, opens, &contents, &bodies)
 }
 
-// A line without its newline.
-pub fn replay_case(line: &[u8]) -> Verdict {
+// Is a line, without its newline, what the calls answer?
+pub fn replay_case(line: &[u8]) -> bool {
     let mut text = [0; 32768];
     let mut archive = [0; 65536];
     let n = until(line, b' ');
@@ -226,12 +255,12 @@ pub fn replay_case(line: &[u8]) -> Verdict {
     let rest = &line[n..];
     let first = take_bytes(rest, &mut text);
     let Taken::Bytes(size, middle) = first else {
-        return Verdict::Differs;
+        return false;
     };
     let more = &rest[middle..];
     let second = take_bytes(more, &mut archive);
     let Taken::Bytes(length, end) = second else {
-        return Verdict::Differs;
+        return false;
     };
     replay_reading(kind, &more[end..], &text[..size], &archive[..length])
 }

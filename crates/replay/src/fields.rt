@@ -19,7 +19,7 @@ pub fn until(text: &[u8], byte: u8) -> usize
 }
 
 // How many bytes the next field takes with the space before it: 0 if there is none.
-pub fn field(rest: &[u8]) -> usize
+fn field(rest: &[u8]) -> usize
     ensures { λ r. ⌜ r ≤ length (now (rest .entry)) ⌝ }
 {
     if rest.len() == 0 {
@@ -118,36 +118,6 @@ fn is_bytes(digits: &[u8], bytes: &[u8]) -> bool {
     true
 }
 
-// Is it a number in decimal, with no leading zeros?
-fn is_natural(text: &[u8]) -> bool {
-    if text.len() > 1 {
-        if text[0] == b'0' {
-            return false;
-        }
-    }
-    let mut n = 0;
-    while n < text.len() {
-        if digit(text[n]) > 9 {
-            return false;
-        }
-        n += 1;
-    }
-    n > 0
-}
-
-// The same, where a `-` may stand before a number that is not 0.
-pub fn is_decimal(text: &[u8]) -> bool {
-    if text.len() > 1 {
-        if text[0] == b'-' {
-            if text[1] == b'0' {
-                return false;
-            }
-            return is_natural(&text[1..]);
-        }
-    }
-    is_natural(text)
-}
-
 // How many bytes the next field takes with the space before it, if it is these bytes: 0 if it is not.
 pub fn pass_bytes(rest: &[u8], bytes: &[u8]) -> usize
     ensures { λ r. ⌜ r ≤ length (now (rest .entry)) ⌝ }
@@ -182,4 +152,41 @@ pub fn pass_number(rest: &[u8], number: usize) -> usize
     let mut digits = [0; 20];
     let n = io::decimal(number as u64, &mut digits);
     pass_word(rest, &digits[..n])
+}
+
+// How far a number is from 0. The negative of the least `i64` does not fit one, so that is made of the number after it.
+fn magnitude(number: i64) -> usize {
+    if number >= 0 {
+        return number as usize;
+    }
+    (-1 - number) as usize + 1
+}
+
+// A number below 0: its sign, then its magnitude.
+fn pass_negative(rest: &[u8], size: usize) -> usize
+    ensures { λ r. ⌜ r ≤ length (now (rest .entry)) ⌝ }
+{
+    let mut digits = [0; 20];
+    let n = io::decimal(size as u64, &mut digits);
+    let end = field(rest);
+    if end < 2 {
+        return 0;
+    }
+    if rest[1] != b'-' {
+        return 0;
+    }
+    if same(&rest[2..end], &digits[..n]) {
+        return end;
+    }
+    0
+}
+
+pub fn pass_integer(rest: &[u8], number: i64) -> usize
+    ensures { λ r. ⌜ r ≤ length (now (rest .entry)) ⌝ }
+{
+    let size = magnitude(number);
+    if number < 0 {
+        return pass_negative(rest, size);
+    }
+    pass_number(rest, size)
 }

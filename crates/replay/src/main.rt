@@ -1,14 +1,13 @@
 // Replays the recorded answers of the Rust: the files of data/, a line each case (data/README.md).
 //
-// For each file it writes the name, how many lines are equal, how many are left for later, and the first that differs, if one
-// does. A line that is not built as the README says differs.
+// For each file it writes the name, how many lines are equal, and the first that differs, if one does. A line that is not built
+// as the README says differs.
 mod cases;
 mod fields;
 
 ghost use Prim.Native.Nat.{_≤_};
 ghost use lib.ListN.{length};
 ghost use Rattle.replay.specs.Files.{filled};
-use cases::Verdict;
 use cases::replay_case;
 use fields::until;
 use libc::STDOUT_FILENO;
@@ -18,27 +17,20 @@ use std::num::wrapping_add_usize;
 // count wraps.
 struct Tally {
     equal: usize,
-    later: usize,
     lines: usize,
     differs: usize,
 }
 
 // The tally after one line more.
-fn counted(tally: Tally, verdict: Verdict) -> Tally {
+fn counted(tally: Tally, equal: bool) -> Tally {
     let mut next = tally;
     next.lines = wrapping_add_usize(next.lines, 1);
-    match verdict {
-        Verdict::Equal => {
-            next.equal = wrapping_add_usize(next.equal, 1);
-        }
-        Verdict::Later => {
-            next.later = wrapping_add_usize(next.later, 1);
-        }
-        Verdict::Differs => {
-            if next.differs == 0 {
-                next.differs = next.lines;
-            }
-        }
+    if equal {
+        next.equal = wrapping_add_usize(next.equal, 1);
+        return next;
+    }
+    if next.differs == 0 {
+        next.differs = next.lines;
     }
     next
 }
@@ -50,10 +42,10 @@ fn ended(tally: Tally, held: usize, read: More) -> Tally {
             if held == 0 {
                 return tally;
             }
-            counted(tally, Verdict::Differs)
+            counted(tally, false)
         }
-        More::To(_) => counted(tally, Verdict::Differs),
-        More::Failed => counted(tally, Verdict::Differs),
+        More::To(_) => counted(tally, false),
+        More::Failed => counted(tally, false),
     }
 }
 
@@ -119,7 +111,6 @@ fn read_more(fd: i32, window: &mut [u8], held: usize) -> More
 fn replay_open(fd: i32, window: &mut [u8]) -> Tally {
     let mut tally = Tally {
         equal: 0,
-        later: 0,
         lines: 0,
         differs: 0,
     };
@@ -152,9 +143,7 @@ fn write_tally(name: &[u8], tally: Tally, first: &[u8], last: &[u8]) {
     write(name);
     write(b": ");
     write_number(tally.equal);
-    write(b" equal, ");
-    write_number(tally.later);
-    write(b" left for later");
+    write(b" equal");
     let differs = tally.differs;
     if differs > 0 {
         write(first);
@@ -181,7 +170,6 @@ fn replay_file(name: &[u8]) -> Tally {
 fn added(total: Tally, tally: Tally) -> Tally {
     let mut sum = total;
     sum.equal = wrapping_add_usize(sum.equal, tally.equal);
-    sum.later = wrapping_add_usize(sum.later, tally.later);
     sum.lines = wrapping_add_usize(sum.lines, tally.lines);
     if tally.differs > 0 {
         sum.differs = wrapping_add_usize(sum.differs, 1);
@@ -193,7 +181,6 @@ fn added(total: Tally, tally: Tally) -> Tally {
 fn replay_files(names: &[u8]) -> Tally {
     let mut total = Tally {
         equal: 0,
-        later: 0,
         lines: 0,
         differs: 0,
     };
