@@ -94,5 +94,13 @@ pub record SecondOf (text archive : List ℕ) (file : ℕ) (struck contents bodi
 
 abbrev pub asked : List ℕ → List ℕ → ℕ → List ℕ → List ℕ → List ℕ → List ℕ → List ℕ → List ℕ → Case
 asked text archive file name class contents bodies contents′ bodies′ = record {
-  text = text; archive = archive; file = file; name = name; class = class; contents = contents; bodies = bodies; contents′ = contents′; bodies′ = bodies′
+  text = text;
+  archive = archive;
+  file = file;
+  name = name;
+  class = class;
+  contents = contents;
+  bodies = bodies;
+  contents′ = contents′;
+  bodies′ = bodies′;
 }

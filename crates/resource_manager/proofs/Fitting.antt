@@ -28,8 +28,7 @@ module _ (contents bodies name class : List ℕ) where
 -- both lookups of a comparing call
 pub both-small : (c : Case) (struck : List ℕ) (a b : Lookup) → both (replied a) (replied b) ≡ comparing c struck .answer → Small a × Small b
 both-small c struck a b e =
-    let l = both-lookups c struck (replied a) (replied b) (sym e) in
-    (
+    let l = both-lookups c struck (replied a) (replied b) (sym e) in (
       bytes-small (withFile c .contents) (withFile c .bodies) (c .name) (c .class) a (l .0),
       bytes-small (withoutFile c .contents) (withoutFile c .bodies) (c .name) (c .class) b (l .1),
     )

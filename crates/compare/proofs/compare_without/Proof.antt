@@ -93,8 +93,7 @@ read-without-requires c κs =
     let word-at-here = c .before .before .before .before in
     let a = start-here .args in
     let e = rw (enum-told-here .enum-told .given .1) at (read-here .read .ensures) in
-    let if4-here = c .before .before .before in
-    (
+    let if4-here = c .before .before .before in (
       read-laidOut (a .text .now) (a .archive .now) (a .contents .now) (a .bodies .now) _ _ _ _ e,
       omega (arith, if4-here .if4 .left, word-at-here .word-at .ensures .0, length-files (a .archive .now)),
       if1-here .if1 .left,
