@@ -6,6 +6,7 @@ pub mod crowded;
 pub mod damage;
 pub mod draw;
 pub mod limits;
+pub mod lookups;
 pub mod named;
 pub mod readings;
 pub mod realistic;

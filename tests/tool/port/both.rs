@@ -140,7 +140,33 @@ impl Both {
         self.models_bodies.copy_from_slice(&garbage[..MOST_BYTES]);
     }
 
-    fn same_buffers(&mut self) -> Result<(), String> {
+    /// Lends both an image that no reading made.
+    pub fn put_image(&mut self, contents: &[u16], bodies: &[u8], at_end: bool) {
+        self.turn += 1;
+        self.lent = Shape { words: contents.len(), bytes: bodies.len(), at_end };
+        self.fill();
+        let (words, bytes) = (self.lent.words(), self.lent.bytes());
+        for image in [self.contents.words(), &mut self.models_contents] {
+            image[words.clone()].copy_from_slice(contents);
+        }
+        for image in [self.bodies.bytes(), &mut self.models_bodies] {
+            image[bytes.clone()].copy_from_slice(bodies);
+        }
+    }
+
+    /// The port's buffers as they were lent last.
+    pub fn image(&mut self) -> (&[u16], &[u8]) {
+        let (words, bytes) = (self.lent.words(), self.lent.bytes());
+        (&self.contents.words()[words], &self.bodies.bytes()[bytes])
+    }
+
+    /// The model's buffers, lent likewise.
+    pub fn models_image(&self) -> (&[u16], &[u8]) {
+        (&self.models_contents[self.lent.words()], &self.models_bodies[self.lent.bytes()])
+    }
+
+    /// The port's buffers, and all around them, are as the model's.
+    pub fn same_buffers(&mut self) -> Result<(), String> {
         let (words, bytes) = (self.lent.words(), self.lent.bytes());
         let lent = self.lent;
         let differs = |what: &str, at: isize, port: u16, model: u16| {
@@ -162,8 +188,7 @@ impl Both {
     /// What the port left of the entries of an accepted reading: keys and values, by the words of the
     /// contents alone.
     pub fn entries(&mut self) -> Vec<(&[u8], &[u8])> {
-        let (words, bytes) = (self.lent.words(), self.lent.bytes());
-        let (contents, bodies) = (&self.contents.words()[words], &self.bodies.bytes()[bytes]);
+        let (contents, bodies) = self.image();
         let rows = contents[2..].chunks(3).take(contents[0].into());
         rows.map(|row| {
             let [start, key, value] = [row[0], row[1], row[2]].map(usize::from);

@@ -193,7 +193,7 @@ pub fn whole_comparison(call: Call, room: &str) -> Result<(), String> {
 /// The same with no model.
 pub fn comparison_with_the_rust(call: Call, room: &str) -> Result<(), String> {
     let mut run = Run::new(call, room);
-    family("limits")(Extent { seed: 1, times: 1 }, &mut |source| run.see_by_the_rust(source))
+    family("limits")(Extent { seed: 1, times: 1 }, &mut |source| run.see_by_the_rust(source).map(drop))
 }
 
 fn family(name: &str) -> Family {
