@@ -10,5 +10,6 @@ pub mod lookups;
 pub mod named;
 pub mod readings;
 pub mod realistic;
+pub mod struck;
 pub mod texts;
 pub mod words;

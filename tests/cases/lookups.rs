@@ -151,7 +151,7 @@ fn and_others(draw: &mut Draw, query: Query) -> Vec<Query> {
 }
 
 fn random(extent: Extent, ask: Ask) -> Seen {
-    extent.draw("lookups", 100_000, |draw| {
+    extent.draw("lookups", 60_000, |draw| {
         let query = texts::query(draw);
         let source = Source::plain(&texts::text(draw, 8, &query));
         ask(&source, &and_others(draw, query))
@@ -160,7 +160,7 @@ fn random(extent: Extent, ask: Ask) -> Seen {
 
 /// Queries of up to 33 parts, and keys that align with them by skipping much.
 fn wide(extent: Extent, ask: Ask) -> Seen {
-    extent.draw("wide lookups", 6_000, |draw| {
+    extent.draw("wide lookups", 2_000, |draw| {
         let parts = draw.between(6, 33);
         let letters: &[u8] = if draw.one_in(4) { b"ab" } else { b"abcdefghijklmnopqrstuvwxyz" };
         let text = |draw: &mut Draw| (0..parts).map(|_| vec![draw.pick_byte(letters)]).collect::<Vec<_>>().join(&b'.');
@@ -173,7 +173,7 @@ fn wide(extent: Extent, ask: Ask) -> Seen {
 }
 
 fn random_archives(extent: Extent, ask: Ask) -> Seen {
-    extent.draw("lookups with archives", 12_000, |draw| {
+    extent.draw("lookups with archives", 8_000, |draw| {
         let (source, query) = archives::source(draw);
         ask(&source, &and_others(draw, query))
     })
@@ -181,7 +181,7 @@ fn random_archives(extent: Extent, ask: Ask) -> Seen {
 
 /// Archives with each of their files struck off.
 fn struck_off(extent: Extent, ask: Ask) -> Seen {
-    extent.draw("lookups with a file struck off", 3_000, |draw| {
+    extent.draw("lookups with a file struck off", 2_000, |draw| {
         let (source, query) = archives::source(draw);
         let queries = and_others(draw, query);
         (0..judge(&source.archive).expect("a good archive").files.len()).try_for_each(|which| {
@@ -192,7 +192,7 @@ fn struck_off(extent: Extent, ask: Ask) -> Seen {
 }
 
 fn like_real_files(extent: Extent, ask: Ask) -> Seen {
-    extent.draw("realistic lookups", 4_000, |draw| {
+    extent.draw("realistic lookups", 2_000, |draw| {
         let source = realistic::source(draw, 60);
         let queries: Vec<Query> = (0..8).map(|_| realistic::query(draw)).collect();
         ask(&source, &queries)
@@ -201,7 +201,7 @@ fn like_real_files(extent: Extent, ask: Ask) -> Seen {
 
 /// Good sources with a few bytes of the main text, of a file or of a query damaged.
 fn damaged_copies(extent: Extent, ask: Ask) -> Seen {
-    extent.draw("damaged lookups", 30_000, |draw| {
+    extent.draw("damaged lookups", 16_000, |draw| {
         let (mut source, mut query) = match draw.below(4) {
             0 => archives::source(draw),
             1 => (realistic::source(draw, 8), realistic::query(draw)),

@@ -38,10 +38,10 @@ impl Counts {
         }
     }
 
-    /// What was compared; an error if nothing was, or if no lookup found a value.
+    /// What was compared; an error if nothing was.
     pub fn report(&self) -> Result<String, String> {
-        if self.found == 0 {
-            return Err(format!("{} lookups, of which none found a value", self.lookups));
+        if self.lookups == 0 {
+            return Err("nothing was compared".to_string());
         }
         let refused: String = self.refused.iter().map(|(number, count)| format!(", {count} refused by {number}")).collect();
         let reasons: Vec<String> = self.left_out.iter().map(|(why, count)| format!("{count} {why}")).collect();
@@ -51,6 +51,15 @@ impl Counts {
             "{lookups} lookups in {images} images ({found} found a value{refused}) beside the model, \
              {beside_the_rust} beside the Rust; left out there: {left_out}"
         ))
+    }
+
+    /// The same of a family, which must find some values.
+    pub fn report_family(&self) -> Result<String, String> {
+        let report = self.report()?;
+        if self.found == 0 {
+            return Err(format!("no value was found: {report}"));
+        }
+        Ok(report)
     }
 }
 

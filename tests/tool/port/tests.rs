@@ -1,10 +1,12 @@
 //! Tests of the port by name: document 01's cases, buffers and texts of every length, and faults that
 //! the comparison must see.
 
+use crate::asking;
 use crate::both::{shown, word_of, Both, Call, Shape, SHAPES};
 use crate::faults;
 use crate::fenced::zero_bytes;
 use crate::run::Run;
+use crate::{lookup_faults, lookup_tests};
 use cases::archives;
 use cases::draw::Draw;
 use cases::limits::Edge;
@@ -41,12 +43,19 @@ const NAMED: [&str; 13] = [
 ];
 
 pub fn names() -> Vec<&'static str> {
-    NAMED.into_iter().chain(TESTS.map(|(name, _)| name)).chain(["faults"]).collect()
+    let readings = NAMED.into_iter().chain(TESTS.map(|(name, _)| name)).chain(["faults"]);
+    readings.chain(lookup_tests::names()).chain(["faults of lookups"]).collect()
 }
 
 pub fn test(name: &str, room: &str) -> Result<String, String> {
     if name == "faults" {
         return faults::all_seen(room);
+    }
+    if name == "faults of lookups" {
+        return lookup_faults::all_seen(room);
+    }
+    if let Some(result) = lookup_tests::test(name, asking::PORTS, room) {
+        return result;
     }
     if let Some((_, test)) = TESTS.iter().find(|(of, _)| *of == name) {
         return test(port::read_word);
