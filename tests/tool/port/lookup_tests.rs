@@ -78,6 +78,14 @@ fn named() -> Vec<(&'static str, Vec<Asked>)> {
                 asked(b"*a: 1", &dotted(33), b".a", Ok(NOTHING)),
             ],
         ),
+        (
+            "16 loose parts and 32 query parts",
+            vec![
+                asked(b"*?*?*?*?*?*?*?*?*?*?*?*?*?*?*?*a: 1", &dotted(32), b"", one()),
+                asked(b"*?*?*?*?*?*?*?*?*?*?*?*?*?*?*?*b: 1", &dotted(32), b"", Ok(NOTHING)),
+                asked(b"*a*a*a*a*a*a*a*a*a*a*a*a*a*a*a*b: 1", &dotted(32), &dotted(32), Ok(NOTHING)),
+            ],
+        ),
         ("boolean +5", value(b"a:+5", Some(true), Is(5))),
         ("boolean -0", value(b"a:-0", Some(false), Is(0))),
         ("boolean -", value(b"a:-", None, NotANumber)),
