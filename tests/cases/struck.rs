@@ -28,7 +28,7 @@ fn and_another(draw: &mut Draw, query: Query) -> [Query; 3] {
 }
 
 fn random(extent: Extent, strike: Strike) -> Seen {
-    extent.draw("third term", 6_000, |draw| {
+    extent.draw("third term", 4_000, |draw| {
         let (source, query) = archives::source(draw);
         each_file(&source, &and_another(draw, query), strike)
     })
@@ -36,7 +36,7 @@ fn random(extent: Extent, strike: Strike) -> Seen {
 
 /// Entries that often carry the same bytes.
 fn few_values(extent: Extent, strike: Strike) -> Seen {
-    extent.draw("third term with few values", 6_000, |draw| {
+    extent.draw("third term with few values", 4_000, |draw| {
         let (source, query) = archives::source_of_few_values(draw);
         each_file(&source, &and_another(draw, query), strike)
     })
