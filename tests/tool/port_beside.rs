@@ -20,12 +20,16 @@ mod both;
 mod faults;
 #[path = "port/fenced.rs"]
 mod fenced;
+#[path = "port/image_tests.rs"]
+mod image_tests;
 #[path = "port/inquiry.rs"]
 mod inquiry;
 #[path = "port/lookup_faults.rs"]
 mod lookup_faults;
 #[path = "port/lookup_tests.rs"]
 mod lookup_tests;
+#[path = "port/query_tests.rs"]
+mod query_tests;
 #[path = "port/run.rs"]
 mod run;
 #[cfg(feature = "rust")]
