@@ -3,6 +3,7 @@
 use crate::asking::{said, Lookups, Said};
 use crate::inquiry::Inquiry;
 use crate::query_tests::dotted;
+use crate::run::describe;
 use crate::{image_tests, query_tests};
 use cases::lookups::FAMILIES;
 use cases::readings::Extent;
@@ -15,20 +16,23 @@ fn tests() -> impl Iterator<Item = (&'static str, Test)> {
     query_tests::TESTS.into_iter().chain(image_tests::TESTS)
 }
 
-/// A query in a text's image, and what the lookups must say, or the refusal's number.
+/// What the lookups say of a query that is not refused, or the refusal's number.
+type Answer = Result<Said<'static>, u8>;
+
+/// A query in a source's image, and the answer that it must get.
 struct Asked {
-    text: &'static [u8],
+    source: Source,
     query: Query,
-    expected: Result<Said<'static>, u8>,
+    expected: Answer,
 }
 
-fn asked(text: &'static [u8], name: &[u8], class: &[u8], expected: Result<Said<'static>, u8>) -> Asked {
-    Asked { text, query: Query::new(name, class), expected }
+fn asked(text: &[u8], name: &[u8], class: &[u8], expected: Answer) -> Asked {
+    Asked { source: Source::plain(text), query: Query::new(name, class), expected }
 }
 
 const NOTHING: Said = Said { bytes: None, string: None, boolean: None, number: Number::None };
 
-fn saying(value: &'static [u8], boolean: Option<bool>, number: Number) -> Result<Said<'static>, u8> {
+fn saying(value: &'static [u8], boolean: Option<bool>, number: Number) -> Answer {
     Ok(Said { bytes: Some(value), string: Some(value), boolean, number })
 }
 
@@ -37,12 +41,20 @@ fn value(text: &'static [u8], boolean: Option<bool>, number: Number) -> Vec<Aske
     vec![asked(text, b"a", b"", saying(&text[2..], boolean, number))]
 }
 
+/// A value of one digit.
+fn digit(value: &'static [u8]) -> Answer {
+    saying(value, Some(true), Number::Is((value[0] - b'0').into()))
+}
+
+type Named = (&'static str, Vec<Asked>);
+
 /// Document 01's cases, each a test.
-fn named() -> Vec<(&'static str, Vec<Asked>)> {
-    use Number::{Is, NotANumber};
-    let one = || saying(b"1", Some(true), Is(1));
-    let two = || saying(b"2", Some(true), Is(2));
-    let three = || saying(b"3", Some(true), Is(3));
+fn named() -> Vec<Named> {
+    wide_queries().into_iter().chain(values()).chain(rankings()).collect()
+}
+
+fn wide_queries() -> Vec<Named> {
+    let one = || digit(b"1");
     vec![
         (
             "32 query parts",
@@ -69,6 +81,12 @@ fn named() -> Vec<(&'static str, Vec<Asked>)> {
                 asked(b"*a*a*a*a*a*a*a*a*a*a*a*a*a*a*a*b: 1", &dotted(32), &dotted(32), Ok(NOTHING)),
             ],
         ),
+    ]
+}
+
+fn values() -> Vec<Named> {
+    use Number::{Is, NotANumber};
+    vec![
         ("boolean +5", value(b"a:+5", Some(true), Is(5))),
         ("boolean -0", value(b"a:-0", Some(false), Is(0))),
         ("boolean -", value(b"a:-", None, NotANumber)),
@@ -80,14 +98,14 @@ fn named() -> Vec<(&'static str, Vec<Asked>)> {
             vec![asked(b"a:", b"a", b"", saying(b"", None, NotANumber)), asked(b"a:", b"b", b"", Ok(NOTHING))],
         ),
         ("a value that is no string", vec![asked(b"a:\xff", b"a", b"", Ok(Said { bytes: Some(b"\xff"), ..NOTHING }))]),
-        (
-            "an instance before a class",
-            vec![asked(b"a:1\nA:2", b"a", b"A", one()), asked(b"b.A:2\nB.a:1", b"b.a", b"B.A", two())],
-        ),
-        ("rankings from the left", vec![asked(b"a*d:1\n?.?.?.d:2", b"a.b.c.d", b"", one())]),
-        ("an alignment by the second a", vec![asked(b"*a.b:1", b"a.a.b", b"", one())]),
-        ("the last of equals", vec![asked(b"*a:1\n*a:2\n*a:3", b"a", b"", three())]),
-        ("a skipped line and its continuation", vec![asked(b"a\\\nb:1", b"b", b"", one())]),
+    ]
+}
+
+/// Proved examples, and the rankings that mislead.
+fn rankings() -> Vec<Named> {
+    let (one, two) = (|| digit(b"1"), || digit(b"2"));
+    let included = Source::with(b"#include \"p\"\na:1", &[(b"p", b"a:2")]);
+    vec![
         (
             "proved examples of queries",
             vec![
@@ -98,6 +116,15 @@ fn named() -> Vec<(&'static str, Vec<Asked>)> {
                 asked(b"a*b: 1\na*b: 2", b"a.b", b"", two()),
             ],
         ),
+        (
+            "an instance before a class",
+            vec![asked(b"a:1\nA:2", b"a", b"A", one()), asked(b"b.A:2\nB.a:1", b"b.a", b"B.A", two())],
+        ),
+        ("rankings from the left", vec![asked(b"a*d:1\n?.?.?.d:2", b"a.b.c.d", b"", one())]),
+        ("an alignment by the second a", vec![asked(b"*a.b:1", b"a.a.b", b"", one())]),
+        ("the last of equals", vec![asked(b"*a:3\n*a:1\n*a:2", b"a", b"", two())]),
+        ("an entry after an include", vec![Asked { source: included, query: Query::new(b"a", b""), expected: one() }]),
+        ("a skipped line and its continuation", vec![asked(b"a\\\nb:1", b"b", b"", one())]),
     ]
 }
 
@@ -118,20 +145,20 @@ pub fn test(name: &str, lookups: Lookups, room: &str) -> Option<Result<String, S
 fn as_expected(all: &[Asked], lookups: Lookups, room: &str) -> Result<String, String> {
     let mut inquiry = Inquiry::new(port::read_word, lookups, room);
     let mut answers = Vec::new();
-    for Asked { text, query, expected } in all {
-        inquiry.ask(&Source::plain(text), std::slice::from_ref(query))?;
+    for Asked { source, query, expected } in all {
+        inquiry.ask(source, std::slice::from_ref(query))?;
         let words = inquiry.asking.call(&mut inquiry.run.both, query)?;
         let got = match words.refused() {
             Some(number) => Err(number),
             None => Ok(said(words, inquiry.run.both.image().1)?),
         };
         if got != *expected {
-            return Err(format!("\"{}\": {got:?}, and not {expected:?}", text.escape_ascii()));
+            return Err(format!("{}: {got:?}, and not {expected:?}", describe(source)));
         }
         answers.push(described(got));
     }
-    let beside = if inquiry.counts.beside_the_rust > 0 { "the model and the Rust" } else { "the model" };
-    Ok(format!("{}, beside {beside}", answers.join("; ")))
+    let (rusts, all) = (inquiry.counts.beside_the_rust, answers.len());
+    Ok(format!("{}, beside the model, {rusts} of {all} beside the Rust", answers.join("; ")))
 }
 
 fn described(answer: Result<Said, u8>) -> String {
@@ -164,8 +191,8 @@ pub fn whole_comparison(lookups: Lookups, room: &str) -> Result<(), String> {
 pub fn comparison_with_the_rust(lookups: Lookups, room: &str) -> Result<(), String> {
     let mut inquiry = Inquiry::new(port::read_word, lookups, room);
     for (_, all) in named() {
-        for Asked { text, query, .. } in all {
-            inquiry.ask_by_the_rust(&Source::plain(text), &query)?;
+        for Asked { source, query, .. } in all {
+            inquiry.ask_by_the_rust(&source, &query)?;
         }
     }
     Ok(())
