@@ -42,11 +42,20 @@ fn few_values(extent: Extent, strike: Strike) -> Seen {
     })
 }
 
+/// What both the realistic lines and the files that they include may set.
+const CONTESTED: [(&[u8], &[u8]); 5] = [
+    (b"reader.dict.search.range", b"Reader.Dict.Search.Range"),
+    (b"reader.dict.range", b"Reader.Dict.Range"),
+    (b"xterm.vt100.background", b"XTerm.VT100.Background"),
+    (b"xterm.vt100.foreground", b"XTerm.VT100.Foreground"),
+    (b"xterm.cursorBlink", b"XTerm.CursorBlink"),
+];
+
 fn like_real_files(extent: Extent, strike: Strike) -> Seen {
     extent.draw("third term of real files", 6_000, |draw| {
         let source = realistic::source(draw, 12);
-        let queries: Vec<Query> = (0..4).map(|_| realistic::query(draw)).collect();
-        each_file(&source, &queries, strike)
+        let (name, class) = CONTESTED[draw.below(CONTESTED.len())];
+        each_file(&source, &[Query::new(name, class), realistic::query(draw)], strike)
     })
 }
 
