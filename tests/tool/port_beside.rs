@@ -5,6 +5,7 @@
 //!     port_beside ask FAMILY SEED TIMES ROOM        compares one family of lookups
 //!     port_beside inquiries                         lists the families of lookups
 //!     port_beside strike FAMILY SEED TIMES ROOM     tries the third term on one family of archives
+//!     port_beside compare-without FAMILY SEED TIMES ROOM   the same by the comparing call
 //!     port_beside strikes                           lists the families of archives
 //!     port_beside test NAME ROOM                    runs one test
 //!     port_beside tests                             lists the tests
@@ -16,6 +17,12 @@
 mod asking;
 #[path = "port/both.rs"]
 mod both;
+#[path = "port/comparing.rs"]
+mod comparing;
+#[path = "port/comparing_faults.rs"]
+mod comparing_faults;
+#[path = "port/comparing_tests.rs"]
+mod comparing_tests;
 #[path = "port/faults.rs"]
 mod faults;
 #[path = "port/fenced.rs"]
@@ -44,6 +51,7 @@ mod third;
 use cases::lookups;
 use cases::readings::{Extent, FAMILIES};
 use cases::struck;
+use comparing::Comparing;
 use inquiry::Inquiry;
 use run::Run;
 use std::process::ExitCode;
@@ -58,6 +66,7 @@ fn main() -> ExitCode {
         ["ask", family, seed, times, room] => ask(family, seed, times, room),
         ["inquiries"] => Ok(lookups::FAMILIES.map(|(name, _)| name).join("\n")),
         ["strike", family, seed, times, _] => strike(family, seed, times),
+        ["compare-without", family, seed, times, _] => compare_without(family, seed, times),
         ["strikes"] => Ok(struck::FAMILIES.map(|(name, _)| name).join("\n")),
         ["test", name, room] => tests::test(name, room),
         ["tests"] => Ok(tests::names().join("\n")),
@@ -107,4 +116,11 @@ fn strike(family: &str, seed: &str, times: &str) -> Result<String, String> {
     let mut third = Third::new(port::read_word, port::get_bytes_word, |answers| answers);
     family(extent(seed, times)?, &mut |source, which, queries| third.see(source, which, queries))?;
     third.counts.report()
+}
+
+fn compare_without(family: &str, seed: &str, times: &str) -> Result<String, String> {
+    let family = find(&struck::FAMILIES, family)?;
+    let mut comparing = Comparing::new(port::compare_without_word);
+    family(extent(seed, times)?, &mut |source, which, queries| comparing.see(source, which, queries))?;
+    comparing.counts.report()
 }

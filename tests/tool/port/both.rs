@@ -103,16 +103,30 @@ impl Both {
     /// Compares one reading with buffers lent like this.
     pub fn compare_in(&mut self, source: &Source, shape: Shape) -> Result<Answer, String> {
         let word = self.call(source, shape)?;
-        let (contents, bodies) = (&mut self.models_contents[shape.words()], &mut self.models_bodies[shape.bytes()]);
-        let answer = match image::read(contents, bodies, &source.text, &source.archive) {
-            Ok(accepted) => Ok((accepted.entries, accepted.opens)),
-            Err(refusal) => Err(refusal.number()),
-        };
+        let answer = self.models_read(source);
         if word != word_of(answer) {
             return Err(format!("the port answers {}, the model {}", shown(word), shown(word_of(answer))));
         }
         self.same_buffers()?;
         Ok(answer)
+    }
+
+    /// Has the model read into its buffers.
+    pub fn models_read(&mut self, source: &Source) -> Answer {
+        let (words, bytes) = (self.lent.words(), self.lent.bytes());
+        let (contents, bodies) = (&mut self.models_contents[words], &mut self.models_bodies[bytes]);
+        match image::read(contents, bodies, &source.text, &source.archive) {
+            Ok(accepted) => Ok((accepted.entries, accepted.opens)),
+            Err(refusal) => Err(refusal.number()),
+        }
+    }
+
+    /// Buffers for another call that reads, full of garbage.
+    pub fn lend(&mut self, shape: Shape) -> (&mut [u16], &mut [u8]) {
+        self.turn += 1;
+        self.lent = shape;
+        self.fill();
+        (&mut self.contents.words()[shape.words()], &mut self.bodies.bytes()[shape.bytes()])
     }
 
     /// Has the port read, and gives the word that it returns.

@@ -2,8 +2,8 @@
 //! faulty port is the port with something done to what it takes or to what it leaves.
 
 use crate::both::Call;
-use crate::lookup_faults;
 use crate::tests::{comparison_with_the_rust, whole_comparison};
+use crate::{comparing_faults, lookup_faults};
 use model::limits::{BODIES_BYTES, CONTENTS_WORDS, TEXT_BYTES};
 use std::os::unix::process::ExitStatusExt;
 use std::path::Path;
@@ -62,6 +62,9 @@ const SEEN_BY_THE_RUST: [&str; 7] = [
 /// Holds one fault to the comparison with both, or with the Rust alone.
 pub fn one(label: &str, with: &str, room: &str) -> Result<String, String> {
     if let Some(result) = lookup_faults::one(label, with, room) {
+        return result.map(|()| "not seen".to_string());
+    }
+    if let Some(result) = comparing_faults::one(label) {
         return result.map(|()| "not seen".to_string());
     }
     let call = FAULTS.iter().chain(&TRESPASSES).find(|(of, _)| *of == label).ok_or("no such fault")?.1;

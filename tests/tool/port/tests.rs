@@ -6,7 +6,7 @@ use crate::both::{shown, word_of, Both, Call, Shape, SHAPES};
 use crate::faults;
 use crate::fenced::zero_bytes;
 use crate::run::Run;
-use crate::{lookup_faults, lookup_tests};
+use crate::{comparing_faults, comparing_tests, lookup_faults, lookup_tests};
 use cases::archives;
 use cases::draw::Draw;
 use cases::limits::Edge;
@@ -44,7 +44,8 @@ const NAMED: [&str; 13] = [
 
 pub fn names() -> Vec<&'static str> {
     let readings = NAMED.into_iter().chain(TESTS.map(|(name, _)| name)).chain(["faults"]);
-    readings.chain(lookup_tests::names()).chain(["faults of lookups"]).collect()
+    let lookups = lookup_tests::names().into_iter().chain(["faults of lookups"]);
+    readings.chain(lookups).chain(comparing_tests::names()).chain(["faults of the comparing call"]).collect()
 }
 
 pub fn test(name: &str, room: &str) -> Result<String, String> {
@@ -54,8 +55,14 @@ pub fn test(name: &str, room: &str) -> Result<String, String> {
     if name == "faults of lookups" {
         return lookup_faults::all_seen(room);
     }
+    if name == "faults of the comparing call" {
+        return comparing_faults::all_seen(room);
+    }
     if let Some(result) = lookup_tests::test(name, asking::PORTS, room) {
         return result;
+    }
+    if let Some(test) = comparing_tests::find(name) {
+        return test(port::compare_without_word);
     }
     if let Some((_, test)) = TESTS.iter().find(|(of, _)| *of == name) {
         return test(port::read_word);

@@ -31,9 +31,12 @@ pub enum Case {
 impl Case {
     const ALL: [Self; 4] = [Self::NoneThroughTheFile, Self::SameBytes, Self::OtherBytes, Self::NothingLeft];
 
-    /// Whether the answers are equal.
-    fn is_equal(self) -> bool {
-        matches!(self, Self::NoneThroughTheFile | Self::SameBytes)
+    /// Holds two answers to the case: whether they are equal.
+    pub fn holds(self, (with_it, without): &Answers) -> Result<(), String> {
+        if (with_it == without) != matches!(self, Self::NoneThroughTheFile | Self::SameBytes) {
+            return Err(format!("{with_it:?} and {without:?}, where {}", self.described()));
+        }
+        Ok(())
     }
 
     fn described(self) -> &'static str {
@@ -48,9 +51,9 @@ impl Case {
 
 #[derive(Default)]
 pub struct Counts {
-    files: usize,
-    refused: usize,
-    met: BTreeMap<Case, usize>,
+    pub files: usize,
+    pub refused: usize,
+    pub met: BTreeMap<Case, usize>,
 }
 
 impl Counts {
@@ -110,11 +113,7 @@ impl Third {
     /// Looks a query up in what both readings left, and holds the answers to the case.
     fn judge(&mut self, case: Case, query: &Query) -> Result<(), String> {
         let answers = (look_up(self.get_bytes, &mut self.with_it, query)?, look_up(self.get_bytes, &mut self.without, query)?);
-        let (with_it, without) = (self.telling)(answers);
-        if (with_it == without) != case.is_equal() {
-            return Err(format!("{with_it:?} and {without:?}, where {}", case.described()));
-        }
-        Ok(())
+        case.holds(&(self.telling)(answers))
     }
 }
 
@@ -133,7 +132,7 @@ fn look_up(get_bytes: Lookup, both: &mut Both, query: &Query) -> Result<Option<V
 }
 
 /// The term's case, by the entries that the definition gives with the file and their chains of includes.
-fn case_of(entries: &[Entry], file: &[u8], query: &Query) -> Case {
+pub fn case_of(entries: &[Entry], file: &[u8], query: &Query) -> Case {
     let all: Vec<&Entry> = entries.iter().collect();
     let Some(first) = beating(&all, query).filter(|entry| entry.came_through(file)) else { return Case::NoneThroughTheFile };
     let left: Vec<&Entry> = all.into_iter().filter(|entry| !entry.came_through(file)).collect();
