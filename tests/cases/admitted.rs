@@ -1,9 +1,16 @@
-//! Which readings document 01 admits to the run beside the Rust.
+//! Which readings and lookups document 01 admits to the run beside the Rust, and which of them the Rust
+//! can hold.
 
 use model::archive::judge;
-use model::limits::{Refusal, TEXT_BYTES};
+use model::limits::{Refusal, QUERY_BYTES, QUERY_PARTS, TEXT_BYTES};
+use model::line::{Binding, Part};
+use model::matching::{mark, positions, Position};
+use model::query::split;
 use model::reading::{read, Reading};
-use records::Source;
+use records::{Query, Source};
+
+/// The Rust keeps every partial alignment of a key; past this many it is not asked.
+const MOST_ALIGNMENTS: u64 = 20_000;
 
 /// Why a case is left out of the run.
 pub type LeftOut = String;
@@ -23,4 +30,44 @@ pub fn admitted_reading(source: &Source) -> Result<Reading, LeftOut> {
         return Err("includes of names not built like an archive's".to_string());
     }
     Ok(reading)
+}
+
+/// Whether document 01 admits a query to the run, and the Rust can hold its alignments with the keys.
+pub fn admitted_query<'a>(query: &Query, mut keys: impl Iterator<Item = &'a [Part]>) -> Result<(), LeftOut> {
+    if [&query.name, &query.class].into_iter().any(|text| std::str::from_utf8(text).is_err()) {
+        return Err("queries not in UTF-8".to_string());
+    }
+    if query.name.len() > QUERY_BYTES || query.class.len() > QUERY_BYTES {
+        return Err("queries refused by 9".to_string());
+    }
+    let (Some(name), Some(class)) = (split(&query.name), split(&query.class)) else { return Ok(()) };
+    if name.len() > QUERY_PARTS || class.len() > QUERY_PARTS {
+        return Err("queries refused by 10".to_string());
+    }
+    let positions = positions(&name, &class);
+    if keys.any(|key| alignments(key, &positions) > MOST_ALIGNMENTS) {
+        return Err(format!("lookups with over {MOST_ALIGNMENTS} alignments, which the Rust holds side by side"));
+    }
+    Ok(())
+}
+
+/// The most partial alignments of a key that stand side by side at any position.
+fn alignments(key: &[Part], positions: &[Position]) -> u64 {
+    let mut at = vec![0u64; key.len() + 1];
+    at[0] = 1;
+    let mut most = 1;
+    for position in positions {
+        let mut next = vec![0u64; key.len() + 1];
+        for (k, part) in key.iter().enumerate() {
+            if part.binding == Binding::Loose {
+                next[k] = next[k].saturating_add(at[k]);
+            }
+            if mark(part, position).is_some() {
+                next[k + 1] = next[k + 1].saturating_add(at[k]);
+            }
+        }
+        at = next;
+        most = most.max(at.iter().fold(0, |sum: u64, n| sum.saturating_add(*n)));
+    }
+    most
 }

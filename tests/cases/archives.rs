@@ -10,16 +10,28 @@ const NAMES: [&[u8]; 16] = [
     b"p", b"q", b"d/p", b"d/q", b"d/e/p", b"e/p", b"d/d/p", b"r", b"..p", b"p.", b"-", b"a_b/c.d", b"...", b"d/e/e/q", b"P", b"d",
 ];
 
+/// Draws a text of at most so many lines for a query.
+type Write = fn(&mut Draw, usize, &Query) -> Vec<u8>;
+
 /// A main text with an archive, and a query with which many of their entries align.
 pub fn source(draw: &mut Draw) -> (Source, Query) {
+    source_of(draw, texts::text)
+}
+
+/// The same with few values, so that entries often carry the same bytes.
+pub fn source_of_few_values(draw: &mut Draw) -> (Source, Query) {
+    source_of(draw, texts::text_of_few_values)
+}
+
+fn source_of(draw: &mut Draw, write: Write) -> (Source, Query) {
     let query = texts::query(draw);
     let names = names(draw);
-    let mut text = texts::text(draw, 2, &query);
+    let mut text = write(draw, 2, &query);
     for _ in 0..draw.between(1, 3) {
         put_include(draw, &mut text, &names, b"");
-        text.extend(texts::text(draw, 2, &query));
+        text.extend(write(draw, 2, &query));
     }
-    let file = |name: &Vec<u8>| File { name: name.clone(), body: body(draw, &names, name, &query) };
+    let file = |name: &Vec<u8>| File { name: name.clone(), body: body(draw, &names, name, &query, write) };
     let files: Vec<File> = names.iter().map(file).collect();
     (Source { text, archive: lay_out(&files) }, query)
 }
@@ -46,14 +58,14 @@ fn long_name(draw: &mut Draw, length: usize) -> Vec<u8> {
     name
 }
 
-fn body(draw: &mut Draw, names: &[Vec<u8>], name: &[u8], query: &Query) -> Vec<u8> {
+fn body(draw: &mut Draw, names: &[Vec<u8>], name: &[u8], query: &Query, write: Write) -> Vec<u8> {
     // Mostly files after this one, so that not every archive goes round in circles.
     let later = names.iter().position(|of| of == name).map_or(0, |at| at + 1);
     let names = if draw.one_in(4) { names } else { &names[later..] };
-    let mut body = texts::text(draw, 2, query);
+    let mut body = write(draw, 2, query);
     for _ in 0..[0, 1, 1, 2][draw.below(4)] {
         put_include(draw, &mut body, names, folder(name));
-        body.extend(texts::text(draw, 1, query));
+        body.extend(write(draw, 1, query));
     }
     body
 }

@@ -19,14 +19,14 @@ pub struct Extent {
 
 impl Extent {
     /// Calls `draw_one` so many times, with a stream of numbers of its own.
-    fn draw(self, stream: &str, count: usize, mut draw_one: impl FnMut(&mut Draw) -> Seen) -> Seen {
+    pub(crate) fn draw(self, stream: &str, count: usize, mut draw_one: impl FnMut(&mut Draw) -> Seen) -> Seen {
         let mut draw = Draw::new(self.seed, stream);
         (0..count * self.times).try_for_each(|_| draw_one(&mut draw))
     }
 }
 
 /// An error ends a family.
-type Seen = Result<(), String>;
+pub(crate) type Seen = Result<(), String>;
 
 /// Called with each source of a family.
 pub type See<'a> = &'a mut dyn FnMut(&Source) -> Seen;
@@ -53,7 +53,7 @@ pub const FAMILIES: [(&str, Family); 16] = [
 ];
 
 /// Runs `see` on every word; the first error stands.
-fn on_each_word(alphabet: &[u8], longest: usize, see: &mut dyn FnMut(&[u8]) -> Seen) -> Seen {
+pub(crate) fn on_each_word(alphabet: &[u8], longest: usize, see: &mut dyn FnMut(&[u8]) -> Seen) -> Seen {
     let mut seen = Ok(());
     each_word(alphabet, longest, &mut |word| {
         if seen.is_ok() {

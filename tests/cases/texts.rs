@@ -24,6 +24,17 @@ pub fn text(draw: &mut Draw, most_lines: usize, query: &Query) -> Vec<u8> {
     text
 }
 
+/// Entries alone, made from alignments with the query, and only three values.
+pub fn text_of_few_values(draw: &mut Draw, most_lines: usize, query: &Query) -> Vec<u8> {
+    let mut text = Vec::new();
+    for _ in 0..draw.between(0, most_lines) {
+        let skips = draw.below(6);
+        text.extend(aligned_key(draw, query, skips));
+        text.extend(draw.pick(&[b":\n".as_slice(), b":1\n", b":2\n"]));
+    }
+    text
+}
+
 fn line_end(draw: &mut Draw) -> &'static [u8] {
     if draw.one_in(30) {
         b"\r\n"

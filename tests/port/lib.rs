@@ -1,7 +1,7 @@
 //! The calls of the static library `libresource_manager.a`, for Rust.
 
+// A slice passes as a pointer and a count of elements.
 extern "C" {
-    /// A slice passes as a pointer and a count of elements.
     fn resource_manager_read(
         text: *const u8,
         text_length: usize,
@@ -11,6 +11,75 @@ extern "C" {
         contents_length: usize,
         bodies: *mut u8,
         bodies_length: usize,
+    ) -> u64;
+
+    fn resource_manager_get_bytes(
+        contents: *const u16,
+        contents_length: usize,
+        bodies: *const u8,
+        bodies_length: usize,
+        name: *const u8,
+        name_length: usize,
+        class: *const u8,
+        class_length: usize,
+    ) -> u64;
+
+    fn resource_manager_get_string(
+        contents: *const u16,
+        contents_length: usize,
+        bodies: *const u8,
+        bodies_length: usize,
+        name: *const u8,
+        name_length: usize,
+        class: *const u8,
+        class_length: usize,
+    ) -> u64;
+
+    fn resource_manager_get_bool(
+        contents: *const u16,
+        contents_length: usize,
+        bodies: *const u8,
+        bodies_length: usize,
+        name: *const u8,
+        name_length: usize,
+        class: *const u8,
+        class_length: usize,
+    ) -> u64;
+
+    fn resource_manager_get_value(
+        contents: *const u16,
+        contents_length: usize,
+        bodies: *const u8,
+        bodies_length: usize,
+        name: *const u8,
+        name_length: usize,
+        class: *const u8,
+        class_length: usize,
+        out: *mut i64,
+    ) -> u64;
+
+    fn resource_manager_compare_without(
+        text: *const u8,
+        text_length: usize,
+        shelf: *const u8,
+        shelf_length: usize,
+        file: usize,
+        name: *const u8,
+        name_length: usize,
+        class: *const u8,
+        class_length: usize,
+        struck: *mut u8,
+        struck_length: usize,
+        contents: *mut u16,
+        contents_length: usize,
+        bodies: *mut u8,
+        bodies_length: usize,
+        contents_without: *mut u16,
+        contents_without_length: usize,
+        bodies_without: *mut u8,
+        bodies_without_length: usize,
+        with_it: *mut u64,
+        without: *mut u64,
     ) -> u64;
 }
 
@@ -40,6 +109,108 @@ pub fn read_word(text: &[u8], shelf: &[u8], contents: &mut [u16], bodies: &mut [
             contents.len(),
             bodies.as_mut_ptr(),
             bodies.len(),
+        )
+    }
+}
+
+/// Declares a lookup that takes four slices for reading, with the word that the call returns.
+macro_rules! lookup {
+    ($(#[$said:meta])* $name:ident, $call:ident) => {
+        $(#[$said])*
+        pub fn $name(contents: &[u16], bodies: &[u8], name: &[u8], class: &[u8]) -> u64 {
+            // SAFETY: each pointer and count are those of a slice that is borrowed for the call. The
+            // call is proved to stay within them, to write nothing and to keep nothing.
+            unsafe {
+                $call(
+                    contents.as_ptr(),
+                    contents.len(),
+                    bodies.as_ptr(),
+                    bodies.len(),
+                    name.as_ptr(),
+                    name.len(),
+                    class.as_ptr(),
+                    class.len(),
+                )
+            }
+        }
+    };
+}
+
+lookup! {
+    /// The value of a query: its place in bits 16 to 31 and its length from bit 32 on; 65535 for none,
+    /// or the refusal's number.
+    get_bytes_word, resource_manager_get_bytes
+}
+
+lookup! {
+    /// The same for a value that is well-formed UTF-8; else 65535.
+    get_string_word, resource_manager_get_string
+}
+
+lookup! {
+    /// 65536 for true, 0 for false, 65535 for none, or the refusal's number.
+    get_bool_word, resource_manager_get_bool
+}
+
+/// 0 with the number in `out`; or, with `out` as it was, 65534 if the value is not a number, 65535 for
+/// none, or the refusal's number.
+pub fn get_value_word(contents: &[u16], bodies: &[u8], name: &[u8], class: &[u8], out: &mut i64) -> u64 {
+    // SAFETY: as for the other lookups; `out` is borrowed for writing.
+    unsafe {
+        resource_manager_get_value(
+            contents.as_ptr(),
+            contents.len(),
+            bodies.as_ptr(),
+            bodies.len(),
+            name.as_ptr(),
+            name.len(),
+            class.as_ptr(),
+            class.len(),
+            out,
+        )
+    }
+}
+
+/// What `compare_without_word` writes: the shelf with the file struck off, an image with the file and
+/// one without it, and the words of both lookups.
+pub struct Lent<'a> {
+    pub struck: &'a mut [u8],
+    pub contents: &'a mut [u16],
+    pub bodies: &'a mut [u8],
+    pub contents_without: &'a mut [u16],
+    pub bodies_without: &'a mut [u8],
+    pub with_it: &'a mut u64,
+    pub without: &'a mut u64,
+}
+
+/// Reads a main text with a shelf and again with one of its files struck off, and looks a query up in
+/// both images: 0 with the words of both lookups; or, with these as they were, 65535 if the shelf has no
+/// such file, or the refusal's number.
+pub fn compare_without_word(text: &[u8], shelf: &[u8], file: usize, name: &[u8], class: &[u8], lent: Lent) -> u64 {
+    // SAFETY: as for the other calls; all that `lent` has is borrowed for writing.
+    unsafe {
+        resource_manager_compare_without(
+            text.as_ptr(),
+            text.len(),
+            shelf.as_ptr(),
+            shelf.len(),
+            file,
+            name.as_ptr(),
+            name.len(),
+            class.as_ptr(),
+            class.len(),
+            lent.struck.as_mut_ptr(),
+            lent.struck.len(),
+            lent.contents.as_mut_ptr(),
+            lent.contents.len(),
+            lent.bodies.as_mut_ptr(),
+            lent.bodies.len(),
+            lent.contents_without.as_mut_ptr(),
+            lent.contents_without.len(),
+            lent.bodies_without.as_mut_ptr(),
+            lent.bodies_without.len(),
+            lent.with_it,
+            lent.without,
         )
     }
 }

@@ -103,16 +103,30 @@ impl Both {
     /// Compares one reading with buffers lent like this.
     pub fn compare_in(&mut self, source: &Source, shape: Shape) -> Result<Answer, String> {
         let word = self.call(source, shape)?;
-        let (contents, bodies) = (&mut self.models_contents[shape.words()], &mut self.models_bodies[shape.bytes()]);
-        let answer = match image::read(contents, bodies, &source.text, &source.archive) {
-            Ok(accepted) => Ok((accepted.entries, accepted.opens)),
-            Err(refusal) => Err(refusal.number()),
-        };
+        let answer = self.models_read(source);
         if word != word_of(answer) {
             return Err(format!("the port answers {}, the model {}", shown(word), shown(word_of(answer))));
         }
         self.same_buffers()?;
         Ok(answer)
+    }
+
+    /// Has the model read into its buffers.
+    pub fn models_read(&mut self, source: &Source) -> Answer {
+        let (words, bytes) = (self.lent.words(), self.lent.bytes());
+        let (contents, bodies) = (&mut self.models_contents[words], &mut self.models_bodies[bytes]);
+        match image::read(contents, bodies, &source.text, &source.archive) {
+            Ok(accepted) => Ok((accepted.entries, accepted.opens)),
+            Err(refusal) => Err(refusal.number()),
+        }
+    }
+
+    /// Buffers for another call that reads, full of garbage.
+    pub fn lend(&mut self, shape: Shape) -> (&mut [u16], &mut [u8]) {
+        self.turn += 1;
+        self.lent = shape;
+        self.fill();
+        (&mut self.contents.words()[shape.words()], &mut self.bodies.bytes()[shape.bytes()])
     }
 
     /// Has the port read, and gives the word that it returns.
@@ -140,7 +154,33 @@ impl Both {
         self.models_bodies.copy_from_slice(&garbage[..MOST_BYTES]);
     }
 
-    fn same_buffers(&mut self) -> Result<(), String> {
+    /// Lends both an image that no reading made.
+    pub fn put_image(&mut self, contents: &[u16], bodies: &[u8], at_end: bool) {
+        self.turn += 1;
+        self.lent = Shape { words: contents.len(), bytes: bodies.len(), at_end };
+        self.fill();
+        let (words, bytes) = (self.lent.words(), self.lent.bytes());
+        for image in [self.contents.words(), &mut self.models_contents] {
+            image[words.clone()].copy_from_slice(contents);
+        }
+        for image in [self.bodies.bytes(), &mut self.models_bodies] {
+            image[bytes.clone()].copy_from_slice(bodies);
+        }
+    }
+
+    /// The port's buffers as they were lent last.
+    pub fn image(&mut self) -> (&[u16], &[u8]) {
+        let (words, bytes) = (self.lent.words(), self.lent.bytes());
+        (&self.contents.words()[words], &self.bodies.bytes()[bytes])
+    }
+
+    /// The model's buffers, lent likewise.
+    pub fn models_image(&self) -> (&[u16], &[u8]) {
+        (&self.models_contents[self.lent.words()], &self.models_bodies[self.lent.bytes()])
+    }
+
+    /// The port's buffers, and all around them, are as the model's.
+    pub fn same_buffers(&mut self) -> Result<(), String> {
         let (words, bytes) = (self.lent.words(), self.lent.bytes());
         let lent = self.lent;
         let differs = |what: &str, at: isize, port: u16, model: u16| {
@@ -162,8 +202,7 @@ impl Both {
     /// What the port left of the entries of an accepted reading: keys and values, by the words of the
     /// contents alone.
     pub fn entries(&mut self) -> Vec<(&[u8], &[u8])> {
-        let (words, bytes) = (self.lent.words(), self.lent.bytes());
-        let (contents, bodies) = (&self.contents.words()[words], &self.bodies.bytes()[bytes]);
+        let (contents, bodies) = self.image();
         let rows = contents[2..].chunks(3).take(contents[0].into());
         rows.map(|row| {
             let [start, key, value] = [row[0], row[1], row[2]].map(usize::from);

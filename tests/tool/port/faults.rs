@@ -3,9 +3,11 @@
 
 use crate::both::Call;
 use crate::tests::{comparison_with_the_rust, whole_comparison};
+use crate::{comparing_faults, lookup_faults};
 use model::limits::{BODIES_BYTES, CONTENTS_WORDS, TEXT_BYTES};
 use std::os::unix::process::ExitStatusExt;
-use std::process::Command;
+use std::path::Path;
+use std::process::{Command, ExitStatus};
 
 const FAULTS: [(&str, Call); 22] = [
     ("the last byte of the store is another", last_byte),
@@ -59,36 +61,54 @@ const SEEN_BY_THE_RUST: [&str; 7] = [
 
 /// Holds one fault to the comparison with both, or with the Rust alone.
 pub fn one(label: &str, with: &str, room: &str) -> Result<String, String> {
+    if let Some(result) = lookup_faults::one(label, with, room) {
+        return result.map(|()| "not seen".to_string());
+    }
+    if let Some(result) = comparing_faults::one(label) {
+        return result.map(|()| "not seen".to_string());
+    }
     let call = FAULTS.iter().chain(&TRESPASSES).find(|(of, _)| *of == label).ok_or("no such fault")?.1;
     let compare = if with == "both" { whole_comparison } else { comparison_with_the_rust };
     compare(call, room).map(|()| "not seen".to_string())
 }
 
-/// Each fault in a process of its own, which must fail, or be stopped by the machine.
-pub fn all_seen(room: &str) -> Result<String, String> {
-    let this = std::env::current_exe().map_err(|error| error.to_string())?;
-    let status = |label: &str, with: &str| {
-        let output = Command::new(&this).args(["fault", label, with, room]).output();
-        output.map(|output| output.status).map_err(|error| error.to_string())
+/// How a process ends that holds one fault to the comparison. It has a directory of its own, as it may
+/// be stopped before it has cleared it.
+pub fn status(label: &str, with: &str, room: &str) -> Result<ExitStatus, String> {
+    let own = Path::new(room).join(format!("{label} {with}"));
+    let run = || {
+        std::fs::create_dir(&own)?;
+        Command::new(std::env::current_exe()?).args(["fault", label, with]).arg(&own).output()
     };
-    for (label, _) in FAULTS {
-        if status(label, "both")?.code() != Some(1) {
+    run().map(|output| output.status).map_err(|error| format!("{label}: {error}"))
+}
+
+/// Each of the faults must fail, each trespass be stopped by the machine, and some faults be seen by the
+/// Rust alone too.
+pub fn each_seen(faults: &[&str], trespasses: &[&str], by_the_rust: &[&str], room: &str) -> Result<String, String> {
+    for label in faults {
+        if status(label, "both", room)?.code() != Some(1) {
             return Err(format!("not seen: {label}"));
         }
     }
-    for (label, _) in TRESPASSES {
-        if !matches!(status(label, "both")?.signal(), Some(7 | 11)) {
+    for label in trespasses {
+        if !matches!(status(label, "both", room)?.signal(), Some(7 | 11)) {
             return Err(format!("not stopped: {label}"));
         }
     }
-    let by_the_rust = if cfg!(feature = "rust") { &SEEN_BY_THE_RUST[..] } else { &[] };
+    let by_the_rust = if cfg!(feature = "rust") { by_the_rust } else { &[] };
     for label in by_the_rust {
-        if status(label, "rust")?.code() != Some(1) {
+        if status(label, "rust", room)?.code() != Some(1) {
             return Err(format!("not seen by the Rust alone: {label}"));
         }
     }
-    let (seen, stopped, alone) = (FAULTS.len(), TRESPASSES.len(), by_the_rust.len());
+    let (seen, stopped, alone) = (faults.len(), trespasses.len(), by_the_rust.len());
     Ok(format!("{seen} faults seen, {alone} of them by the Rust alone too; {stopped} trespasses stopped"))
+}
+
+/// Each fault in a process of its own.
+pub fn all_seen(room: &str) -> Result<String, String> {
+    each_seen(&FAULTS.map(|(label, _)| label), &TRESPASSES.map(|(label, _)| label), &SEEN_BY_THE_RUST, room)
 }
 
 /// The port, and then something done to the buffers if it has an entry.
@@ -190,12 +210,12 @@ fn last_text_byte(t: &[u8], a: &[u8], c: &mut [u16], b: &mut [u8]) -> u64 {
     port::read_word(if t.len() == TEXT_BYTES { &t[..TEXT_BYTES - 1] } else { t }, a, c, b)
 }
 
-fn peek(at: *const u8, call: impl FnOnce() -> u64) -> u64 {
+pub fn peek(at: *const u8, call: impl FnOnce() -> u64) -> u64 {
     // Trespasses on purpose, onto a page that stops whoever does.
     std::hint::black_box(unsafe { at.read_volatile() });
     call()
 }
 
-fn poke(at: *mut u8) {
+pub fn poke(at: *mut u8) {
     unsafe { at.write_volatile(at.read_volatile()) }
 }

@@ -13,6 +13,21 @@ use crate::both::shown as shown_word;
 use crate::rust::{listed, Room};
 #[cfg(feature = "rust")]
 use cases::admitted::admitted_reading;
+#[cfg(feature = "rust")]
+use model::reading::Reading;
+#[cfg(feature = "rust")]
+use oracle::resource_manager::Database;
+
+/// What the Rust and the definition read of a source that is admitted to the run.
+#[cfg(feature = "rust")]
+pub struct Rusts {
+    pub database: Database,
+    pub reading: Reading,
+}
+
+/// There is none if the Rust is not at hand.
+#[cfg(not(feature = "rust"))]
+pub enum Rusts {}
 
 #[derive(Default)]
 pub struct Counts {
@@ -59,37 +74,40 @@ impl Run {
 
     /// Compares one reading. A difference is told with the smallest source that was found to show one.
     pub fn see(&mut self, source: &Source) -> Result<Answer, String> {
-        self.compare(source).map_err(|why| {
-            let (small, why) = self.smaller(source.clone(), why);
+        self.compare(source).map(|(answer, _)| answer).map_err(|why| {
+            let (small, why) = smaller(source.clone(), why, |less| self.compare(less).err());
             format!("{}\nthey differ: {why}", describe(&small))
         })
     }
 
-    fn compare(&mut self, source: &Source) -> Result<Answer, String> {
+    /// Compares one reading, and gives what the Rust read, or why it was not asked.
+    pub fn compare(&mut self, source: &Source) -> Result<(Answer, Result<Rusts, LeftOut>), String> {
         let answer = self.both.compare(source)?;
         self.counts.readings += 1;
         if let Err(number) = answer {
             *self.counts.refused.entry(number).or_default() += 1;
         }
-        match self.compare_with_the_rust(source, word_of(answer))? {
-            Some(why) => *self.counts.left_out.entry(why).or_default() += 1,
-            None => self.counts.beside_the_rust += 1,
+        let rusts = self.compare_with_the_rust(source, word_of(answer))?;
+        match &rusts {
+            Err(why) => *self.counts.left_out.entry(why.clone()).or_default() += 1,
+            Ok(_) => self.counts.beside_the_rust += 1,
         }
-        Ok(answer)
+        Ok((answer, rusts))
     }
 
     /// Has the port read, and compares it with the Rust alone.
-    pub fn see_by_the_rust(&mut self, source: &Source) -> Result<(), String> {
+    pub fn see_by_the_rust(&mut self, source: &Source) -> Result<Result<Rusts, LeftOut>, String> {
         let word = self.both.call(source, SHAPES[0])?;
-        self.compare_with_the_rust(source, word).map(drop)
+        self.compare_with_the_rust(source, word)
     }
 
-    /// Compares what the port returned and left. Gives why the case was left out, or none.
+    /// Compares what the port returned and left.
     #[cfg(feature = "rust")]
-    fn compare_with_the_rust(&mut self, source: &Source, word: u64) -> Result<Option<LeftOut>, String> {
-        if let Err(why) = admitted_reading(source) {
-            return Ok(Some(why));
-        }
+    fn compare_with_the_rust(&mut self, source: &Source, word: u64) -> Result<Result<Rusts, LeftOut>, String> {
+        let reading = match admitted_reading(source) {
+            Ok(reading) => reading,
+            Err(why) => return Ok(Err(why)),
+        };
         let (database, opens) = self.room.read(source);
         let rusts = listed(&database);
         let rusts_word = word_of(Ok((rusts.len(), opens)));
@@ -110,26 +128,26 @@ impl Run {
                 ));
             }
         }
-        Ok(None)
+        Ok(Ok(Rusts { database, reading }))
     }
 
     #[cfg(not(feature = "rust"))]
-    fn compare_with_the_rust(&mut self, _: &Source, _: u64) -> Result<Option<LeftOut>, String> {
-        Ok(Some("readings, as the Rust is not at hand".to_string()))
+    fn compare_with_the_rust(&mut self, _: &Source, _: u64) -> Result<Result<Rusts, LeftOut>, String> {
+        Ok(Err("readings, as the Rust is not at hand".to_string()))
     }
+}
 
-    /// Leaves out of a source what can be left out while a difference shows, within some patience.
-    fn smaller(&mut self, mut source: Source, mut why: String) -> (Source, String) {
-        let mut patience = 20_000;
-        loop {
-            let less = shorter(&source).take(patience).find_map(|less| {
-                patience -= 1;
-                self.compare(&less).err().map(|why| (less, why))
-            });
-            match less {
-                Some(less) => (source, why) = less,
-                None => return (source, why),
-            }
+/// Leaves out of a source what can be left out while a difference shows, within some patience.
+pub fn smaller(mut source: Source, mut why: String, mut differ: impl FnMut(&Source) -> Option<String>) -> (Source, String) {
+    let mut patience = 20_000;
+    loop {
+        let less = shorter(&source).take(patience).find_map(|less| {
+            patience -= 1;
+            differ(&less).map(|why| (less, why))
+        });
+        match less {
+            Some(less) => (source, why) = less,
+            None => return (source, why),
         }
     }
 }
@@ -165,7 +183,7 @@ fn without_a_piece(bytes: &[u8]) -> impl Iterator<Item = Vec<u8>> + '_ {
     })
 }
 
-fn shown(bytes: &[u8]) -> String {
+pub fn shown(bytes: &[u8]) -> String {
     let most = 300;
     let more = if bytes.len() > most { format!(".. {} bytes", bytes.len()) } else { String::new() };
     format!("\"{}\"{more}", bytes[..bytes.len().min(most)].escape_ascii())

@@ -1,10 +1,12 @@
 //! Tests of the port by name: document 01's cases, buffers and texts of every length, and faults that
 //! the comparison must see.
 
+use crate::asking;
 use crate::both::{shown, word_of, Both, Call, Shape, SHAPES};
 use crate::faults;
 use crate::fenced::zero_bytes;
 use crate::run::Run;
+use crate::{comparing_faults, comparing_tests, lookup_faults, lookup_tests};
 use cases::archives;
 use cases::draw::Draw;
 use cases::limits::Edge;
@@ -41,12 +43,26 @@ const NAMED: [&str; 13] = [
 ];
 
 pub fn names() -> Vec<&'static str> {
-    NAMED.into_iter().chain(TESTS.map(|(name, _)| name)).chain(["faults"]).collect()
+    let readings = NAMED.into_iter().chain(TESTS.map(|(name, _)| name)).chain(["faults"]);
+    let lookups = lookup_tests::names().into_iter().chain(["faults of lookups"]);
+    readings.chain(lookups).chain(comparing_tests::names()).chain(["faults of the comparing call"]).collect()
 }
 
 pub fn test(name: &str, room: &str) -> Result<String, String> {
     if name == "faults" {
         return faults::all_seen(room);
+    }
+    if name == "faults of lookups" {
+        return lookup_faults::all_seen(room);
+    }
+    if name == "faults of the comparing call" {
+        return comparing_faults::all_seen(room);
+    }
+    if let Some(result) = lookup_tests::test(name, asking::PORTS, room) {
+        return result;
+    }
+    if let Some(test) = comparing_tests::find(name) {
+        return test(port::compare_without_word);
     }
     if let Some((_, test)) = TESTS.iter().find(|(of, _)| *of == name) {
         return test(port::read_word);
@@ -193,7 +209,7 @@ pub fn whole_comparison(call: Call, room: &str) -> Result<(), String> {
 /// The same with no model.
 pub fn comparison_with_the_rust(call: Call, room: &str) -> Result<(), String> {
     let mut run = Run::new(call, room);
-    family("limits")(Extent { seed: 1, times: 1 }, &mut |source| run.see_by_the_rust(source))
+    family("limits")(Extent { seed: 1, times: 1 }, &mut |source| run.see_by_the_rust(source).map(drop))
 }
 
 fn family(name: &str) -> Family {

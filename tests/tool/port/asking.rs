@@ -1,0 +1,193 @@
+//! The four lookups of the port and of the model in one image: the words that the calls return, the
+//! number that one of them writes, and that every lent byte stays as it was.
+
+use crate::both::Both;
+use crate::fenced::Fenced;
+use model::image::Place;
+use model::limits::Refusal;
+use model::lookup::{self, Number};
+use records::Query;
+
+pub type Lookup = fn(&[u16], &[u8], &[u8], &[u8]) -> u64;
+pub type ValueLookup = fn(&[u16], &[u8], &[u8], &[u8], &mut i64) -> u64;
+
+/// The lookups of the port, or faulty ones in their place.
+#[derive(Clone, Copy)]
+pub struct Lookups {
+    pub get_bytes: Lookup,
+    pub get_string: Lookup,
+    pub get_bool: Lookup,
+    pub get_value: ValueLookup,
+}
+
+pub const PORTS: Lookups = Lookups {
+    get_bytes: port::get_bytes_word,
+    get_string: port::get_string_word,
+    get_bool: port::get_bool_word,
+    get_value: port::get_value_word,
+};
+
+const NONE: u64 = 65_535;
+const NOT_A_NUMBER: u64 = 65_534;
+const TRUE: u64 = 65_536;
+const FALSE: u64 = 0;
+
+const QUERY_PAGES: usize = 1;
+
+/// What the four calls return for one query, and the lent number afterwards.
+#[derive(Clone, Copy, Debug, PartialEq, Eq)]
+pub struct Words {
+    pub bytes: u64,
+    pub string: u64,
+    pub boolean: u64,
+    pub value: u64,
+    pub out: i64,
+}
+
+impl Words {
+    /// The number of the refusal.
+    pub fn refused(&self) -> Option<u8> {
+        (1..=10).contains(&self.bytes).then_some(self.bytes as u8)
+    }
+
+    pub fn found(&self) -> bool {
+        self.bytes & 0xFFFF == 0
+    }
+}
+
+/// What the words say of a lookup that is not refused.
+#[derive(Clone, Copy, Debug, PartialEq, Eq)]
+pub struct Said<'a> {
+    pub bytes: Option<&'a [u8]>,
+    pub string: Option<&'a [u8]>,
+    pub boolean: Option<bool>,
+    pub number: Number,
+}
+
+pub struct Asking {
+    pub lookups: Lookups,
+    name: Fenced,
+    class: Fenced,
+    turn: usize,
+}
+
+impl Asking {
+    pub fn new(lookups: Lookups) -> Self {
+        Self { lookups, name: Fenced::new(QUERY_PAGES), class: Fenced::new(QUERY_PAGES), turn: 0 }
+    }
+
+    /// Compares the four lookups in the image that both hold.
+    pub fn compare(&mut self, both: &mut Both, query: &Query) -> Result<Words, String> {
+        let lent = self.lent_number();
+        let words = self.call(both, query)?;
+        both.same_buffers()?;
+        let (contents, bodies) = both.models_image();
+        let models = models_words(contents, bodies, query, lent);
+        if words != models {
+            return Err(format!("the port answers {}, the model {}", shown(words), shown(models)));
+        }
+        Ok(words)
+    }
+
+    /// Asks the port alone.
+    pub fn call(&mut self, both: &mut Both, query: &Query) -> Result<Words, String> {
+        let mut out = self.lent_number();
+        self.turn += 1;
+        let at_end = self.turn % 2 == 0;
+        // A query that is too long for the fenced memory is lent where it is.
+        let name = self.name.copy(&query.name, at_end).unwrap_or(&query.name);
+        let class = self.class.copy(&query.class, at_end).unwrap_or(&query.class);
+        let (contents, bodies) = both.image();
+        let words = Words {
+            bytes: (self.lookups.get_bytes)(contents, bodies, name, class),
+            string: (self.lookups.get_string)(contents, bodies, name, class),
+            boolean: (self.lookups.get_bool)(contents, bodies, name, class),
+            value: (self.lookups.get_value)(contents, bodies, name, class, &mut out),
+            out,
+        };
+        if name != &query.name[..] || class != &query.class[..] {
+            return Err("the port changed the query".to_string());
+        }
+        Ok(words)
+    }
+
+    /// What the lent number is before the next call: another each time.
+    fn lent_number(&self) -> i64 {
+        (self.turn as i64).wrapping_mul(0x5851_F42D_4C95_7F2D)
+    }
+}
+
+/// The words that the model's answers make.
+fn models_words(contents: &[u16], bodies: &[u8], query: &Query, lent: i64) -> Words {
+    let (name, class) = (&query.name[..], &query.class[..]);
+    let value = lookup::get_value(contents, bodies, name, class);
+    Words {
+        bytes: place_word(lookup::get_bytes(contents, bodies, name, class)),
+        string: place_word(lookup::get_string(contents, bodies, name, class)),
+        boolean: coded(lookup::get_bool(contents, bodies, name, class), |is| if is { TRUE } else { FALSE }),
+        value: match value {
+            Ok(Number::Is(_)) => 0,
+            Ok(Number::NotANumber) => NOT_A_NUMBER,
+            Ok(Number::None) => NONE,
+            Err(refusal) => refusal.number().into(),
+        },
+        out: if let Ok(Number::Is(number)) = value { number } else { lent },
+    }
+}
+
+fn coded<T>(answer: Result<Option<T>, Refusal>, code: impl Fn(T) -> u64) -> u64 {
+    match answer {
+        Ok(Some(given)) => code(given),
+        Ok(None) => NONE,
+        Err(refusal) => refusal.number().into(),
+    }
+}
+
+pub fn place_word(answer: Result<Option<Place>, Refusal>) -> u64 {
+    coded(answer, |place| (place.start as u64) << 16 | (place.length as u64) << 32)
+}
+
+/// What the port's words say, with its bodies; an error if a word is no answer, or its place is not in
+/// the bodies.
+pub fn said(words: Words, bodies: &[u8]) -> Result<Said<'_>, String> {
+    let odd = |what: &str, word: u64| Err(format!("{what} gives the word {word:#x}"));
+    Ok(Said {
+        bytes: bytes_at(words.bytes, bodies)?,
+        string: bytes_at(words.string, bodies)?,
+        boolean: match words.boolean {
+            TRUE => Some(true),
+            FALSE => Some(false),
+            NONE => None,
+            word => return odd("get_bool", word),
+        },
+        number: match words.value {
+            0 => Number::Is(words.out),
+            NOT_A_NUMBER => Number::NotANumber,
+            NONE => Number::None,
+            word => return odd("get_value", word),
+        },
+    })
+}
+
+/// The bytes whose place a word tells, or none.
+pub fn bytes_at(word: u64, bodies: &[u8]) -> Result<Option<&[u8]>, String> {
+    if word == NONE {
+        return Ok(None);
+    }
+    let (start, length) = ((word >> 16 & 0xFFFF) as usize, (word >> 32) as usize);
+    match bodies.get(start..start + length) {
+        Some(bytes) if word & 0xFFFF == 0 => Ok(Some(bytes)),
+        _ => Err(format!("the word {word:#x} tells no place in the bodies")),
+    }
+}
+
+pub fn shown(words: Words) -> String {
+    let place = |word: u64| match word {
+        NONE => "none".to_string(),
+        1..=10 => format!("refused {word}"),
+        _ if word & 0xFFFF == 0 => format!("{} bytes at {}", word >> 32, word >> 16 & 0xFFFF),
+        _ => format!("the word {word:#x}"),
+    };
+    let Words { bytes, string, boolean, value, out } = words;
+    format!("{}, as a string {}, as a boolean {boolean}, as a value {value} with {out}", place(bytes), place(string))
+}
