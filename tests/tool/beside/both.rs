@@ -1,21 +1,17 @@
 //! The model and the Rust on one case: what document 01 admits, what must be equal, what is counted.
 
 use crate::rust::{listed, number, texts, Room};
-use cases::admitted::{admitted_reading, LeftOut};
+use cases::admitted::{admitted_query, admitted_reading, LeftOut};
 use model::archive::{judge, strike};
 use model::image;
-use model::limits::{QUERY_BYTES, QUERY_PARTS};
-use model::line::{write_key, Binding, Part};
+use model::line::write_key;
 use model::lookup::{get_bool, get_bytes, get_string, get_value};
-use model::matching::{mark, positions, winner, Position};
+use model::matching::{positions, winner};
 use model::query::split;
 use model::reading::{Entry, Reading};
 use oracle::resource_manager::Database;
 use records::{Case, Kind, Query, Source};
 use std::collections::BTreeMap;
-
-/// The Rust keeps every partial alignment of a key; past this many it is not asked.
-const MOST_ALIGNMENTS: u64 = 20_000;
 
 #[derive(Default)]
 pub struct Counts {
@@ -197,50 +193,10 @@ fn entries(entries: &[Entry]) -> Vec<(Vec<u8>, Vec<u8>)> {
     entries.iter().map(|entry| (write_key(&entry.key), entry.value.clone())).collect()
 }
 
-/// Whether document 01 admits a query to the run, and the Rust can hold its alignments with the keys.
-fn admitted_query<'a>(query: &Query, mut keys: impl Iterator<Item = &'a [Part]>) -> Result<(), LeftOut> {
-    if texts(query).is_none() {
-        return Err("queries not in UTF-8".to_string());
-    }
-    if query.name.len() > QUERY_BYTES || query.class.len() > QUERY_BYTES {
-        return Err("queries refused by 9".to_string());
-    }
-    let (Some(name), Some(class)) = (split(&query.name), split(&query.class)) else { return Ok(()) };
-    if name.len() > QUERY_PARTS || class.len() > QUERY_PARTS {
-        return Err("queries refused by 10".to_string());
-    }
-    let positions = positions(&name, &class);
-    if keys.any(|key| alignments(key, &positions) > MOST_ALIGNMENTS) {
-        return Err(format!("lookups with over {MOST_ALIGNMENTS} alignments, which the Rust holds side by side"));
-    }
-    Ok(())
-}
-
 /// Whether a case is admitted to the run, and the Rust can hold it.
 pub fn is_admitted(case: &Case) -> bool {
     let Ok(reading) = admitted_reading(&case.source) else { return false };
     admitted_query(&case.query, reading.entries.iter().map(|entry| &entry.key[..])).is_ok()
-}
-
-/// The most partial alignments of a key that stand side by side at any position.
-fn alignments(key: &[Part], positions: &[Position]) -> u64 {
-    let mut at = vec![0u64; key.len() + 1];
-    at[0] = 1;
-    let mut most = 1;
-    for position in positions {
-        let mut next = vec![0u64; key.len() + 1];
-        for (k, part) in key.iter().enumerate() {
-            if part.binding == Binding::Loose {
-                next[k] = next[k].saturating_add(at[k]);
-            }
-            if mark(part, position).is_some() {
-                next[k + 1] = next[k + 1].saturating_add(at[k]);
-            }
-        }
-        at = next;
-        most = most.max(at.iter().fold(0, |sum: u64, n| sum.saturating_add(*n)));
-    }
-    most
 }
 
 /// The third term's condition: no entry that came through the file beats the rest; or one does,
