@@ -1,13 +1,17 @@
 //! The port and the Rust side by side, on the same inputs, in one run.
 //!
-//!     bench time ROOM                times, as a table
-//!     bench cases                    lists what can be counted, as CASE/SIDE
-//!     bench count CASE/SIDE ROOM     one call in `measured`, for an instruction counter
+//!     bench time ROOM                times, as tables of readings and of lookups
+//!     bench cases                    lists what can be counted, as CASE/SIDE, and how many calls that is
+//!     bench count CASE/SIDE ROOM     those calls in `measured`, for an instruction counter
 //!
 //! ROOM is a directory for the files that the Rust reads.
 
 #[path = "bench/inputs.rs"]
 mod inputs;
+#[path = "bench/lookup_inputs.rs"]
+mod lookup_inputs;
+#[path = "bench/lookups.rs"]
+mod lookups;
 
 use inputs::{cases, Input};
 use model::limits::{BODIES_BYTES, CONTENTS_WORDS};
@@ -25,15 +29,16 @@ fn main() -> ExitCode {
     let words: Vec<String> = std::env::args().skip(1).collect();
     let words: Vec<&str> = words.iter().map(String::as_str).collect();
     match words[..] {
-        ["time", room] => time_all(room),
-        ["cases"] => cases().iter().for_each(|case| case.sides().for_each(|side| println!("{}/{}", case.name, side.name()))),
+        ["time", room] => {
+            time_all(room);
+            println!();
+            lookups::time_all();
+        }
+        ["cases"] => list_cases(),
         ["count", what, room] => {
             let (name, side) = what.split_once('/').expect("a case and a side");
-            let case = cases().into_iter().find(|case| case.name == name).expect("a case");
             let side = Side::ALL.into_iter().find(|of| of.name() == side).expect("a side");
-            let mut ready = Ready::new(&case, room);
-            ready.call(side);
-            measured(&mut ready, side);
+            count(name, side, room);
         }
         _ => {
             eprintln!("usage: bench time ROOM | bench cases | bench count CASE/SIDE ROOM");
@@ -43,7 +48,26 @@ fn main() -> ExitCode {
     ExitCode::SUCCESS
 }
 
-/// Who reads.
+fn list_cases() {
+    for case in cases() {
+        case.sides().for_each(|side| println!("{}/{} 1", case.name, side.name()));
+    }
+    for asking in lookups::all() {
+        asking.sides().iter().for_each(|side| println!("{}/{} {}", asking.name(), side.name(), asking.counted()));
+    }
+}
+
+fn count(name: &str, side: Side, room: &str) {
+    if let Some(asking) = lookups::find(name) {
+        return measured(&mut || asking.count(side));
+    }
+    let case = cases().into_iter().find(|case| case.name == name).expect("a case");
+    let mut ready = Ready::new(&case, room);
+    ready.call(side);
+    measured(&mut || ready.call(side));
+}
+
+/// Who reads, or looks up.
 #[derive(Clone, Copy, PartialEq)]
 enum Side {
     Port,
@@ -170,8 +194,8 @@ fn timed<T>(work: impl FnOnce() -> T) -> (T, Duration) {
 /// What an instruction counter counts.
 #[no_mangle]
 #[inline(never)]
-fn measured(ready: &mut Ready, side: Side) {
-    ready.call(side);
+fn measured(work: &mut dyn FnMut()) {
+    work();
 }
 
 /// The best time of one call in nanoseconds, of several rounds: alone, and with the freeing.
