@@ -1,0 +1,2 @@
+-- What the contracts of getres cite beside the definition.
+pub mod Adding

@@ -1,0 +1,3 @@
+mod files;
+
+fn main() {}
