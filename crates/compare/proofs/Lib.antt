@@ -1,1 +1,2 @@
 -- Laws of the comparing call.
+pub mod Comparing

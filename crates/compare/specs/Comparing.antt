@@ -10,7 +10,7 @@ use Rattle.definition.specs.Archive.{filesOf, struckOff}
 use Rattle.definition.specs.Image.{tooShort}
 use Rattle.definition.specs.Reading.{Answer, accepted, refused, Outcome, reading}
 use Rattle.definition.specs.Lookup.{Reply, given, noValue, refused as refusedLookup, Place}
-use Rattle.definition.specs.ThirdTerm.{Case, withFile, withoutFile, lookup, ThirdTerm}
+use Rattle.definition.specs.ThirdTerm.{Case, withFile, withoutFile, lookup, Given, ThirdTerm}
 use Rattle.lookup.specs.Replies.{replied}
 use Rattle.compare.specs.declared.Compared.{Compared}
 use Rattle.compare.specs.declared.Compared.the-variants.{Both, NoFile, Refused}
@@ -71,6 +71,12 @@ module _ (c : Case) (struck : List ℕ) where
     pub made : after ≡ bothRead
     pub answers : after .answer ≡ both (lookup c (withFile c)) (lookup c (withoutFile c))
     pub term : ThirdTerm c
+
+  -- what the call promises: its answer and every buffer, of any arguments, refusals included; and the term, with nothing given
+  -- beyond the term's own words and room for the archive
+  pub record Promise (after : Left) : Type 0 where
+    pub equals : after ≡ comparing
+    pub third-term : Given c → length (c .archive) ≤ length struck → Term after
 
 abbrev pub compared : Compared → Comparison
 compared (Both a b) = both (replied a) (replied b)

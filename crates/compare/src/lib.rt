@@ -4,8 +4,7 @@ ghost use mathlib.Core.Bool.{true};
 ghost use Prim.Native.Nat.{_≤_, _<_};
 ghost use lib.ListN.{length};
 ghost use Rattle.definition.specs.Archive.{laidOut, filesOf};
-ghost use Rattle.definition.specs.ThirdTerm.{Given, ThirdTerm};
-ghost use Rattle.compare.specs.Comparing.{asked, leaving, comparing, SecondOf, compared, answering};
+ghost use Rattle.compare.specs.Comparing.{asked, leaving, Promise, SecondOf, compared, answering};
 ghost use Rattle.lookup.specs.Replies.{replied};
 use archive::word_at;
 use archive_find::strike_off;
@@ -63,8 +62,7 @@ pub fn compare_without(
     words: &mut [u16],
     store: &mut [u8],
 ) -> Compared
-    ensures { λ r. ⌜ leaving r (now (struck .exit)) (now (contents .exit)) (now (bodies .exit)) (now (words .exit)) (now (store .exit))
-        ≡ comparing (asked (now (text .entry)) (now (archive .entry)) file (now (name .entry)) (now (class .entry)) (now (contents .entry)) (now (bodies .entry)) (now (words .entry)) (now (store .entry))) (now (struck .entry)) ⌝ }
+    ensures { λ r. ⌜ Promise (asked (now (text .entry)) (now (archive .entry)) file (now (name .entry)) (now (class .entry)) (now (contents .entry)) (now (bodies .entry)) (now (words .entry)) (now (store .entry))) (now (struck .entry)) (leaving r (now (struck .exit)) (now (contents .exit)) (now (bodies .exit)) (now (words .exit)) (now (store .exit))) ⌝ }
 {
     if struck.len() < archive.len() {
         return Compared::Refused(1);
