@@ -79,9 +79,9 @@ add-if4 c = search needs
 -- src/files.rt:112:36
 add-if4-2 : tie.Need-add-if4-2
 add-if4-2 c =
-    let start-here = c in
-    let is-file-name-here = c in
-    let if1-here = c in
+    let start-here = c .before .before .before .before .before .before .before .before .before .before in
+    let is-file-name-here = c .before .before .before .before .before in
+    let if1-here = c .before .before .before .before in
     let s = start-here .args .archive .now in
     let f = fileOf (start-here .args .name .now) (start-here .args .body .now) in
     omega (arith, start-here .good .1 .1 .0 .1, name-short s (start-here .pre .0) f (sym (is-file-name-here .is-file-name .ensures) ∙ not-false _ (if1-here .if1 .left)))
