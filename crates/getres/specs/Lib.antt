@@ -1,4 +1,5 @@
 -- What the contracts of getres cite beside the definition.
 pub mod Adding
-pub mod Answers
+pub mod Showing
 pub mod Refusals
+pub mod Loading

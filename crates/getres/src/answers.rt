@@ -3,7 +3,7 @@ ghost use mathlib.Core.Path.{_≡_};
 ghost use mathlib.Core.List.{_++_};
 ghost use Prim.Native.Nat.{_+_, _≤_};
 ghost use lib.ListN.{length, take};
-ghost use Rattle.getres.specs.Answers.{shown, Inside, Answers, wordsOf, lineOf, sameShown};
+ghost use Rattle.getres.specs.Showing.{shown, Inside, Answers, wordsOf, lineOf, sameShown};
 ghost use Rattle.getres.specs.Refusals.{refusalOf};
 use crate::files::put;
 use lookup::Lookup;
@@ -64,16 +64,15 @@ fn put_words(found: Lookup, bodies: &[u8], out: &mut [u8], at: usize) -> usize
     }
 }
 
-// Puts the line of an answer at the start of `out`.
+// Puts the line of an answer at the start of `out`, with no newline.
 pub fn put_line(label: &[u8], file: &[u8], found: Lookup, bodies: &[u8], out: &mut [u8]) -> usize
-    requires { ⌜ Inside (now bodies) found × (length (now label) + length (now file) + length (now bodies) + 10 ≤ length (now out)) ⌝ }
+    requires { ⌜ Inside (now bodies) found × (length (now label) + length (now file) + length (now bodies) + 9 ≤ length (now out)) ⌝ }
     ensures { λ r. ⌜ (r ≤ length (now (out .exit))) × (take r (now (out .exit)) ≡ lineOf (now (label .entry)) (now (file .entry)) (shown (now (bodies .entry)) found)) ⌝ }
 {
     let mut end = put(label, out, 0);
     end = put(file, out, end);
     end = put(b": ", out, end);
-    end = put_words(found, bodies, out, end);
-    put(b"\n", out, end)
+    put_words(found, bodies, out, end)
 }
 
 // Puts the words of a refusal at the start of `out`. Only 2 to 10 but 8 come up here: the buffers are long enough and hold what

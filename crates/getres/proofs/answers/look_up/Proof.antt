@@ -1,3 +1,5 @@
+-- `getres::answers::look_up` meets its contract. Assumes nothing.
+use Rattle.getres.proofs.Showing.{refused-answers, accepted-answers}
 use borrow.Author.Needs.{needs}
 use Rattle.getres.proofs.answers.look_up.Statement.{statement}
 use Rattle.getres.proofs.answers.look_up.Tie as tie
@@ -32,7 +34,11 @@ same-length-2 c = search needs
 
 -- src/answers.rt:15:1
 returns : tie.Need-returns
-returns c = ?
+returns c =
+    let start-here = c .before .before .before .before .before .before .before .before .before .before .before .before .before .before .before .before in
+    let read-here = c .before .before .before .before .before .before .before in
+    let answer-here = c .before in
+    refused-answers (start-here .args .text .now) (start-here .args .archive .now) (start-here .args .name .now) (start-here .args .class .now) (start-here .args .contents .now) (start-here .args .bodies .now) _ _ _ (rw (answer-here .answer .given .1) at (read-here .read .ensures))
 
 -- src/answers.rt:15:1
 same-length-3 : tie.Need-same-length-3
@@ -44,7 +50,12 @@ same-length-4 c = search needs
 
 -- src/answers.rt:15:1
 returns-2 : tie.Need-returns-2
-returns-2 c = ?
+returns-2 c =
+    let start-here = c .before .before .before .before .before .before .before .before .before .before .before .before .before .before .before .before .before .before in
+    let read-here = c .before .before .before .before .before .before .before .before .before in
+    let enum-told-here = c .before .before .before in
+    let get-bytes-here = c in
+    accepted-answers (start-here .args .text .now) (start-here .args .archive .now) (start-here .args .name .now) (start-here .args .class .now) (start-here .args .contents .now) (start-here .args .bodies .now) _ _ _ _ (rw (enum-told-here .enum-told .given .1) at (read-here .read .ensures)) _ (get-bytes-here .get-bytes .ensures)
 
 pub look-up-spec : {M : Type 1} → statement M
 look-up-spec =

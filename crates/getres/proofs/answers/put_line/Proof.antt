@@ -26,14 +26,6 @@ put-requires-3 c κs = search needs
 put-words-requires : tie.Need-put-words-requires
 put-words-requires c κs = search needs
 
--- src/answers.rt:76:9
-slice-aggregate-put-2 : tie.Need-slice-aggregate-put-2
-slice-aggregate-put-2 c = search needs
-
--- src/answers.rt:76:5
-put-requires-4 : tie.Need-put-requires-4
-put-requires-4 c κs = search needs
-
 -- src/answers.rt:68:1
 same-length : tie.Need-same-length
 same-length c = search needs
@@ -51,7 +43,5 @@ put-line-spec =
     slice-aggregate-put
     put-requires-3
     put-words-requires
-    slice-aggregate-put-2
-    put-requires-4
     same-length
     returns)

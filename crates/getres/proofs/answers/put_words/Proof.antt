@@ -1,3 +1,10 @@
+-- `getres::answers::put_words` meets its contract. Assumes nothing.
+use mathlib.Core.Path.{refl, _∙_}
+use Prim.Native.Nat.{_+_}
+use native.Mathlib.Omega.{arith}
+use Rattle.archive_find.proofs.Striking.{part-size}
+use Rattle.getres.specs.Showing.{wordsOf}
+use Rattle.getres.proofs.Showing.{words-found}
 use borrow.Author.Needs.{needs}
 use Rattle.getres.proofs.answers.put_words.Statement.{statement}
 use Rattle.getres.proofs.answers.put_words.Tie as tie
@@ -19,7 +26,10 @@ put-requires c κs = search needs
 
 -- src/answers.rt:60:32
 add-put : tie.Need-add-put
-add-put c = ?
+add-put c =
+    let start-here = c .before .before .before .before .before .before .before .before .before .before in
+    let found-here = c .before .before .before .before .before .before in
+    omega (arith, start-here .good, (rw (found-here .found .given .1) at (start-here .pre .0)))
 
 -- src/answers.rt:60:17
 sub-put : tie.Need-sub-put
@@ -31,11 +41,22 @@ part-put-start c = search needs
 
 -- src/answers.rt:60:17
 part-put-end : tie.Need-part-put-end
-part-put-end c = ?
+part-put-end c =
+    let start-here = c .before .before .before .before .before .before .before .before .before .before in
+    let found-here = c .before .before .before .before .before .before in
+    omega (arith, (rw (found-here .found .given .1) at (start-here .pre .0)))
 
 -- src/answers.rt:60:13
 put-requires-2 : tie.Need-put-requires-2
-put-requires-2 c κs = ?
+put-requires-2 c κs =
+    let start-here = c .before .before .before .before .before .before .before .before .before .before .before .before in
+    let found-here = c .before .before .before .before .before .before .before .before in
+    let put-here = c .before .before .before .before in
+    let b = start-here .args .bodies .now in
+    let at = found-here .found .given .0 .0 in
+    let size = found-here .found .given .0 .1 .0 in
+    let inside = (rw (found-here .found .given .1) at (start-here .pre .0)) in
+    omega (arith, start-here .pre .1, put-here .put .ensures .0, put-here .put .kept .1 .0, part-size b at (at + size) inside)
 
 -- src/answers.rt:62:32
 enum-told : tie.Need-enum-told
@@ -67,7 +88,18 @@ same-length c = search needs
 
 -- src/answers.rt:53:1
 returns : tie.Need-returns
-returns c = ?
+returns c =
+    let start-here = c .before .before .before .before .before .before .before .before .before .before .before .before .before .before .before in
+    let found-here = c .before .before .before .before .before .before .before .before .before .before .before in
+    let put-here = c .before .before .before .before .before .before .before in
+    let put2-here = c .before .before in
+    let b = start-here .args .bodies .now in
+    let at = found-here .found .given .0 .0 in
+    let size = found-here .found .given .0 .1 .0 in
+    let inside = (rw (found-here .found .given .1) at (start-here .pre .0)) in (
+      omega (arith, put-here .put .ensures .0, put2-here .put2 .ensures .0, part-size b at (at + size) inside),
+      words-found b _ _ (start-here .args .found) (found-here .found .given .1) _ _ _ (put-here .put .ensures .1) (put2-here .put2 .ensures .1),
+    )
 
 -- src/answers.rt:53:1
 same-length-2 : tie.Need-same-length-2
@@ -75,7 +107,12 @@ same-length-2 c = search needs
 
 -- src/answers.rt:53:1
 returns-2 : tie.Need-returns-2
-returns-2 c = ?
+unfolding wordsOf
+returns-2 c =
+    let start-here = c .before .before .before .before .before .before .before .before .before in
+    let enum-told-here = c .before .before .before .before .before in
+    let put3-here = c .before .before in
+    (omega (arith, put3-here .put3 .ensures .0), put3-here .put3 .ensures .1 ∙ rw (enum-told-here .enum-told .given .1) refl)
 
 -- src/answers.rt:53:1
 same-length-3 : tie.Need-same-length-3
@@ -83,7 +120,12 @@ same-length-3 c = search needs
 
 -- src/answers.rt:53:1
 returns-3 : tie.Need-returns-3
-returns-3 c = ?
+unfolding wordsOf
+returns-3 c =
+    let start-here = c .before .before .before .before .before .before .before .before .before in
+    let enum-told2-here = c .before .before .before .before .before in
+    let put4-here = c .before .before in
+    (omega (arith, put4-here .put4 .ensures .0), put4-here .put4 .ensures .1 ∙ rw (enum-told2-here .enum-told2 .given .1) refl)
 
 pub put-words-spec : {M : Type 1} → statement M
 put-words-spec =

@@ -1,3 +1,8 @@
+-- `getres::answers::same_answer` meets its contract. Assumes nothing.
+use mathlib.Core.Path.{refl}
+use native.Mathlib.Omega.{arith}
+use Rattle.getres.specs.Showing.{sameShown}
+use Rattle.getres.proofs.Showing.{same-found}
 use borrow.Author.Needs.{needs}
 use Rattle.getres.proofs.answers.same_answer.Statement.{statement}
 use Rattle.getres.proofs.answers.same_answer.Tie as tie
@@ -15,7 +20,10 @@ enum-known-b c = search needs
 
 -- src/answers.rt:39:59
 add-same : tie.Need-add-same
-add-same c = ?
+add-same c =
+    let start-here = c .before .before .before .before .before .before .before .before in
+    let a-here = c .before .before .before .before in
+    omega (arith, start-here .good .1 .0 .0, (rw (a-here .a .given .1) at (start-here .pre .0)))
 
 -- src/answers.rt:39:48
 sub-same : tie.Need-sub-same
@@ -27,11 +35,17 @@ part-same-start c = search needs
 
 -- src/answers.rt:39:48
 part-same-end : tie.Need-part-same-end
-part-same-end c = ?
+part-same-end c =
+    let start-here = c .before .before .before .before .before .before .before .before in
+    let a-here = c .before .before .before .before in
+    omega (arith, start-here .good .1 .0 .0, (rw (a-here .a .given .1) at (start-here .pre .0)))
 
 -- src/answers.rt:39:77
 add-same-2 : tie.Need-add-same-2
-add-same-2 c = ?
+add-same-2 c =
+    let start-here = c .before .before .before .before .before .before .before .before .before in
+    let b-here = c .before .before in
+    omega (arith, start-here .good .1 .1 .1 .0, (rw (b-here .b .given .1) at (start-here .pre .1)))
 
 -- src/answers.rt:39:67
 sub-same-2 : tie.Need-sub-same-2
@@ -43,7 +57,10 @@ part-same-start-2 c = search needs
 
 -- src/answers.rt:39:67
 part-same-end-2 : tie.Need-part-same-end-2
-part-same-end-2 c = ?
+part-same-end-2 c =
+    let start-here = c .before .before .before .before .before .before .before .before .before in
+    let b-here = c .before .before in
+    omega (arith, start-here .good .1 .1 .1 .0, (rw (b-here .b .given .1) at (start-here .pre .1)))
 
 -- src/answers.rt:39:36
 same-requires : tie.Need-same-requires
@@ -79,31 +96,59 @@ enum-told-7 c = search needs
 
 -- src/answers.rt:33:1
 returns : tie.Need-returns
-returns c = ?
+returns c =
+    let start-here = c .before .before .before .before .before .before .before .before .before .before .before in
+    let a-here = c .before .before .before .before .before .before .before in
+    let b-here = c .before .before .before .before in
+    let same-here = c in
+    same-found (start-here .args .bodies .now) (start-here .args .store .now) (start-here .args .a) (start-here .args .b) _ _ _ _ (a-here .a .given .1) (b-here .b .given .1) _ (same-here .same .ensures)
 
 -- src/answers.rt:33:1
 returns-2 : tie.Need-returns-2
-returns-2 c = ?
+unfolding sameShown
+returns-2 c =
+    let a-here = c .before .before .before in
+    let enum-told-here = c in
+    rw (a-here .a .given .1, enum-told-here .enum-told .given .1) refl
 
 -- src/answers.rt:33:1
 returns-3 : tie.Need-returns-3
-returns-3 c = ?
+unfolding sameShown
+returns-3 c =
+    let a-here = c .before .before .before in
+    let enum-told2-here = c in
+    rw (a-here .a .given .1, enum-told2-here .enum-told2 .given .1) refl
 
 -- src/answers.rt:33:1
 returns-4 : tie.Need-returns-4
-returns-4 c = ?
+unfolding sameShown
+returns-4 c =
+    let enum-told3-here = c .before .before in
+    let enum-told4-here = c in
+    rw (enum-told3-here .enum-told3 .given .1, enum-told4-here .enum-told4 .given .1) refl
 
 -- src/answers.rt:33:1
 returns-5 : tie.Need-returns-5
-returns-5 c = ?
+unfolding sameShown
+returns-5 c =
+    let enum-told3-here = c .before .before in
+    let enum-told5-here = c in
+    rw (enum-told3-here .enum-told3 .given .1, enum-told5-here .enum-told5 .given .1) refl
 
 -- src/answers.rt:33:1
 returns-6 : tie.Need-returns-6
-returns-6 c = ?
+unfolding sameShown
+returns-6 c =
+    let enum-told3-here = c .before .before in
+    let enum-told6-here = c in
+    rw (enum-told3-here .enum-told3 .given .1, enum-told6-here .enum-told6 .given .1) refl
 
 -- src/answers.rt:33:1
 returns-7 : tie.Need-returns-7
-returns-7 c = ?
+unfolding sameShown
+returns-7 c =
+    let enum-told7-here = c in
+    rw (enum-told7-here .enum-told7 .given .1) refl
 
 pub same-answer-spec : {M : Type 1} → statement M
 same-answer-spec =

@@ -1,14 +1,12 @@
 -- What getres shows for a query.
 use mathlib.Core.Bool.{Bool, true, false}
-use mathlib.Core.List.{List, _∷_, []}
-use mathlib.Core.List.{_++_}
+use mathlib.Core.List.{List, _++_}
 use mathlib.Core.Option.{Option, some, none}
 use mathlib.Core.Path.{_≡_}
 use Prim.Native.Nat.{ℕ, _+_, _≤_}
 use lib.ListN.{length}
 use lib.Seq.{slice}
 use Rattle.definition.specs.Lists.{ascii, same}
-use Rattle.definition.specs.Bytes.{newline}
 use Rattle.definition.specs.Text.{Entry}
 use Rattle.definition.specs.Query.{Query, positions, malformed, pastLimit, queryOf}
 use Rattle.definition.specs.Reading.{Answer, accepted, refused, reading, plain, readEntries}
@@ -68,7 +66,7 @@ wordsOf (refusedBy k) = ascii "refused"
 
 -- `with FILE: ..`
 unfoldable pub lineOf : List ℕ → List ℕ → Shown → List ℕ
-lineOf label file shows = label ++ file ++ ascii ": " ++ wordsOf shows ++ newline ∷ []
+lineOf label file shows = label ++ file ++ ascii ": " ++ wordsOf shows
 
 -- are two answers the same: both none, or the same bytes?
 unfoldable pub sameShown : Shown → Shown → Bool
