@@ -8,10 +8,11 @@ use native.Mathlib.Omega.{arith}
 use lib.Dec.{leb, ltb}
 use lib.ListN.{length, take, drop, length-append, length-drop, take-append-drop}
 use lib.Seq.{paste, take-paste, take-length, take-at, drop-at, length-take-le}
-use borrow.Author.Tests.{leb-true, le-leb, lt-leb, le-ltb, lt-ltb, not-true}
+use borrow.Author.Tests.{leb-true, le-leb, lt-leb, le-ltb, lt-ltb, not-true, ltb-false, leb-false}
 use Rattle.definition.specs.Lists.{if_then_else_, all, any, same, lower}
 use Rattle.definition.specs.Limits.{archiveBytes, archiveFiles, fileNameBytes}
 use Rattle.definition.specs.Archive.{File, bytesOf, lengthsOf, bodiesOf, archiveOf, numberAt, filesOf, split, isNamePart, isFileName, rising, laidOut}
+use Rattle.definition.specs.Evaluation.{definition}
 use Rattle.laws.proofs.Lists.{not-both, and-true, and-both, same-eq, same-refl, eq-same, same-sym, lower-differ, not-lower-equal, all-map}
 use Rattle.laws.proofs.Archive.{length-lengths, length-archive, files-archive, laidOut-says, says-laidOut, laidOut-archive, rising-first, rising-rest}
 use Rattle.archive.proofs.Walk.{Standing, filesLeft, fitsLeft, fileHere, files-first, files-turn, files-end, fits-left, fits-next, row-in, laid-fits, length-files, part-name}
@@ -385,8 +386,41 @@ module _ (s : List ℕ) (h : laidOut s ≡ true) (f : File) where
         adding-laid d t e =
             rw (e, a, b, lt-leb archiveFiles (length (filesOf s)) c, le-ltb archiveBytes (length (archiveOf (inserted f (filesOf s)))) (omega (arith, length-inserted))) refl
 
+  -- what is added to an archive is one
+  pub added-laid : (t : List ℕ) → laid t ≡ adding s f → laidOut t ≡ true
+  unfolding adding
+  added-laid t e = at₁ (isFileName (f .name)) refl e
+    where
+      new : List ℕ
+      new = archiveOf (inserted f (filesOf s))
+      at₄ : (b : Bool) → ltb archiveBytes (length new) ≡ b → isFileName (f .name) ≡ true → onIt (f .name) (filesOf s) ≡ false → length (filesOf s) < archiveFiles
+          → laid t ≡ (if b then tooLarge else laid new) → laidOut t ≡ true
+      at₄ true l p q r g = absurd (let z : _≡_ {A = ℕ} 0 1 = cc in omega arith)
+      at₄ false l p q r g = let i : t ≡ new = cc in rw i (inserted-laid p q r (ltb-false archiveBytes (length new) l))
+      at₃ : (b : Bool) → leb archiveFiles (length (filesOf s)) ≡ b → isFileName (f .name) ≡ true → onIt (f .name) (filesOf s) ≡ false
+          → laid t ≡ (if b then tooMany else if ltb archiveBytes (length new) then tooLarge else laid new) → laidOut t ≡ true
+      at₃ true l p q g = absurd (let z : _≡_ {A = ℕ} 0 1 = cc in omega arith)
+      at₃ false l p q g = at₄ (ltb archiveBytes (length new)) refl p q (leb-false archiveFiles (length (filesOf s)) l) g
+      at₂ : (b : Bool) → onIt (f .name) (filesOf s) ≡ b → isFileName (f .name) ≡ true
+          → laid t ≡ (if b then again else if leb archiveFiles (length (filesOf s)) then tooMany else if ltb archiveBytes (length new) then tooLarge else laid new) → laidOut t ≡ true
+      at₂ true l p g = absurd (let z : _≡_ {A = ℕ} 0 1 = cc in omega arith)
+      at₂ false l p g = at₃ (leb archiveFiles (length (filesOf s))) refl p l g
+      at₁ : (b : Bool) → isFileName (f .name) ≡ b
+          → laid t ≡ (if not b then notAName else if onIt (f .name) (filesOf s) then again else if leb archiveFiles (length (filesOf s)) then tooMany else if ltb archiveBytes (length new) then tooLarge else laid new) → laidOut t ≡ true
+      at₁ true l g = at₂ (onIt (f .name) (filesOf s)) refl l g
+      at₁ false l g = absurd (let z : _≡_ {A = ℕ} 0 1 = cc in omega arith)
+
 -- what is put stands after what stood before it
 pub put-at : (old new bytes : List ℕ) (at : ℕ) → at + length bytes ≤ length old → new ≡ paste old at bytes (length bytes)
     → take (at + length bytes) new ≡ take at old ++ bytes
 put-at old new bytes at h e =
     ap (take (at + length bytes)) e ∙ take-paste old at bytes (length bytes) (omega arith) (omega arith) ∙ ap (λ (t : List ℕ). take at old ++ t) (take-length bytes)
+
+-- what is put at the front stands there
+pub put-front : (old new bytes : List ℕ) (r n : ℕ) → n ≤ length bytes → r ≡ 0 + length (take n bytes) → take r new ≡ take 0 old ++ take n bytes → take n new ≡ take n bytes
+put-front old new bytes r n h e p = let i : r ≡ n = omega (arith, e, length-take-le n bytes h) in rw i at p
+
+-- an archive of no files
+pub none-laid : laidOut (0 ∷ 0 ∷ []) ≡ true
+unfolding definition
+none-laid = refl

@@ -64,3 +64,14 @@ addedIn out NotAName = notAName
 addedIn out Again = again
 addedIn out TooMany = tooMany
 addedIn out TooLarge = tooLarge
+
+abbrev pub Within : List ℕ → Added → Type 0
+Within out (Size n) = n ≤ length out
+Within out NotAName = Unit {0}
+Within out Again = Unit {0}
+Within out TooMany = Unit {0}
+Within out TooLarge = Unit {0}
+
+pub record Adds (s : List ℕ) (f : File) (out : List ℕ) (r : Added) : Type 0 where
+  pub equals : addedIn out r ≡ adding s f
+  pub inside : Within out r

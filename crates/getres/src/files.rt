@@ -6,7 +6,7 @@ ghost use Prim.Native.Nat.{_+_, _≤_, _<_};
 ghost use lib.ListN.{length, take};
 ghost use Rattle.definition.specs.Archive.{File, bytesOf, archiveOf, filesOf, laidOut};
 ghost use Rattle.definition.specs.Limits.{archiveBytes};
-ghost use Rattle.getres.specs.Adding.{fileOf, Slots, numberOf, inserted, adding, addedIn};
+ghost use Rattle.getres.specs.Adding.{fileOf, Slots, numberOf, inserted, Adds};
 use archive::is_file_name;
 use archive::lower;
 use archive::word_at;
@@ -97,7 +97,7 @@ fn insert(archive: &[u8], slot: Slot, name: &[u8], body: &[u8], out: &mut [u8]) 
 // The archive with one file more, at the start of `out`, or why there is none.
 pub fn add_file(archive: &[u8], name: &[u8], body: &[u8], out: &mut [u8]) -> Added
     requires { ⌜ (laidOut (now archive) ≡ true) × (archiveBytes ≡ length (now out)) ⌝ }
-    ensures { λ r. ⌜ addedIn (now (out .exit)) r ≡ adding (now (archive .entry)) (fileOf (now (name .entry)) (now (body .entry))) ⌝ }
+    ensures { λ r. ⌜ Adds (now (archive .entry)) (fileOf (now (name .entry)) (now (body .entry))) (now (out .exit)) r ⌝ }
 {
     if !is_file_name(name) {
         return Added::NotAName;

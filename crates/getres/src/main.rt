@@ -169,7 +169,7 @@ fn load_path(name: &[u8], path: &[u8], archive: &mut [u8], size: usize) -> Loade
 
 // The place of the first `=`, or the end.
 fn equals_sign(bytes: &[u8]) -> usize
-    ensures { λ r. ⌜ r ≤ length (now (bytes .entry)) ⌝ }
+    ensures { λ r. ⌜ Counts r (now (bytes .entry)) ⌝ }
 {
     let mut i = 0;
     while i < bytes.len() {
@@ -201,6 +201,17 @@ fn load_file(i: usize, archive: &mut [u8], size: usize) -> Loaded
     load_path(&named[..at], &named[at + 1..], archive, size)
 }
 
+// Loads the file of an argument, if it names one.
+fn load_argument(plan: Plan, i: usize, archive: &mut [u8], size: usize) -> Loaded
+    requires { ⌜ (archiveBytes ≡ length (now archive)) × (size ≤ archiveBytes) × (laidOut (take size (now archive)) ≡ true) ⌝ }
+    ensures { λ r. ⌜ Holds (now (archive .exit)) r ⌝ }
+{
+    if plan.next != arguments::FILE {
+        return Loaded::Size(size);
+    }
+    load_file(i, archive, size)
+}
+
 // Loads the files of all arguments.
 fn load_files(archive: &mut [u8]) -> Loaded
     requires { ⌜ archiveBytes ≡ length (now archive) ⌝ }
@@ -211,13 +222,11 @@ fn load_files(archive: &mut [u8]) -> Loaded
     let count = os::arg_count();
     let mut i = 1;
     while i < count {
-        if plan.next == arguments::FILE {
-            let loaded = load_file(i, archive, size);
-            let Loaded::Size(n) = loaded else {
-                return Loaded::Failed;
-            };
-            size = n;
-        }
+        let loaded = load_argument(plan, i, archive, size);
+        let Loaded::Size(n) = loaded else {
+            return Loaded::Failed;
+        };
+        size = n;
         plan = next_argument(plan, i);
         i += 1;
     }
@@ -289,16 +298,23 @@ fn answer_without(i: usize, text: &[u8], archive: &[u8], name: &[u8], class: &[u
     answer_twice(text, archive, number, &file[..n], name, class)
 }
 
+// A class that is not given is empty.
+fn class_argument(i: usize, buffer: &mut [u8]) -> usize
+    ensures { λ r. ⌜ Counts r (now (buffer .exit)) ⌝ }
+{
+    if i == 0 {
+        return 0;
+    }
+    argument(i, buffer)
+}
+
 fn answer_plan(plan: Plan, text: &[u8], archive: &[u8]) -> u8
     requires { ⌜ laidOut (now archive) ≡ true ⌝ }
 {
     let mut name = io::buffer();
     let n = argument(plan.name, &mut name);
     let mut class = io::buffer();
-    let mut m = 0;
-    if plan.class != 0 {
-        m = argument(plan.class, &mut class);
-    }
+    let m = class_argument(plan.class, &mut class);
     let without = plan.without;
     if without == 0 {
         return answer(text, archive, &name[..n], &class[..m]);

@@ -56,7 +56,7 @@ pub fn print(line: &[u8], status: u8) -> u8 {
 pub fn print_both(file: &[u8], a: Lookup, bodies: &[u8], b: Lookup, store: &[u8]) -> u8
     requires { ⌜ (length (now file) ≤ 4096) × Inside (now bodies) a × (length (now bodies) ≡ 32768) × Inside (now store) b × (length (now store) ≡ 32768) ⌝ }
 {
-    let mut out = [0; 36864];
+    let mut out = [0; 36992];
     let n = put_line(b"with ", file, a, bodies, &mut out);
     let first = print(&out[..n], 0);
     let m = put_line(b"without ", file, b, store, &mut out);

@@ -1,3 +1,12 @@
+-- `getres::add` leaves an archive where it leaves one. Assumes nothing.
+use mathlib.Core.Path.{sym, ap, _∙_}
+use native.Mathlib.Omega.{arith}
+use mathlib.Core.Bool.{true}
+use lib.ListN.{take}
+use lib.Seq.{length-take-le}
+use Rattle.definition.specs.Archive.{laidOut}
+use Rattle.getres.specs.Adding.{fileOf}
+use Rattle.getres.proofs.Adding.{added-laid, put-front}
 use borrow.Author.Needs.{needs}
 use Rattle.getres.proofs.add.Statement.{statement}
 use Rattle.getres.proofs.add.Tie as tie
@@ -13,7 +22,9 @@ slice-reshare-prefix-add-file c = search needs
 
 -- src/main.rt:144:26
 slice-aggregate-add-file : tie.Need-slice-aggregate-add-file
-slice-aggregate-add-file c = ?
+slice-aggregate-add-file c =
+    let start-here = c .before .before .before .before in
+    sym (length-take-le (start-here .args .size) (start-here .args .archive .now) (omega (arith, start-here .pre)))
 
 -- src/main.rt:144:56
 slice-aggregate-add-file-2 : tie.Need-slice-aggregate-add-file-2
@@ -29,15 +40,26 @@ enum-known-added c = search needs
 
 -- src/main.rt:147:17
 array-share-prefix-out : tie.Need-array-share-prefix-out
-array-share-prefix-out c = ?
+array-share-prefix-out c =
+    let add-file-here = c .before .before .before .before in
+    let added-here = c .before in
+    omega (arith, rw (added-here .added .given .1) at (add-file-here .add-file .ensures .inside), add-file-here .add-file .kept .1 .1 .1 .0)
 
 -- src/main.rt:147:17
 slice-aggregate-put : tie.Need-slice-aggregate-put
-slice-aggregate-put c = ?
+slice-aggregate-put c =
+    let add-file-here = c .before .before .before .before .before in
+    let added-here = c .before .before in
+    sym (length-take-le (added-here .added .given .0 .0) (add-file-here .add-file .last .1 .1 .1 .0) (rw (added-here .added .given .1) at (add-file-here .add-file .ensures .inside)))
 
 -- src/main.rt:147:13
 put-requires : tie.Need-put-requires
-put-requires c κs = ?
+put-requires c κs =
+    let start-here = c .before .before .before .before .before .before .before .before .before .before .before .before in
+    let add-file-here = c .before .before .before .before .before .before in
+    let added-here = c .before .before .before in
+    let i = rw (added-here .added .given .1) at (add-file-here .add-file .ensures .inside) in
+    omega (arith, start-here .pre .0, i, add-file-here .add-file .kept .1 .1 .1 .0, length-take-le (added-here .added .given .0 .0) (add-file-here .add-file .last .1 .1 .1 .0) i)
 
 -- src/main.rt:148:13
 same-length : tie.Need-same-length
@@ -45,7 +67,19 @@ same-length c = search needs
 
 -- src/main.rt:148:13
 returns : tie.Need-returns
-returns c = ?
+returns c =
+    let start-here = c .before .before .before .before .before .before .before .before .before .before .before .before .before .before .before in
+    let add-file-here = c .before .before .before .before .before .before .before .before .before in
+    let added-here = c .before .before .before .before .before .before in
+    let put-here = c .before .before in
+    let a = start-here .args in
+    let n = added-here .added .given .0 .0 in
+    let out = add-file-here .add-file .last .1 .1 .1 .0 in
+    let inside = rw (added-here .added .given .1) at (add-file-here .add-file .ensures .inside) in
+    let laid = rw (added-here .added .given .1) at (add-file-here .add-file .ensures .equals) in
+    let same = put-front (a .archive .now) (put-here .put .last .1 .0) out (put-here .put .result) n inside (put-here .put .ensures .0) (put-here .put .ensures .1) in
+    (omega (arith, start-here .pre .0, inside, add-file-here .add-file .kept .1 .1 .1 .0, put-here .put .kept .1 .0),
+      ap laidOut same ∙ added-laid (take (a .size) (a .archive .now)) (start-here .pre .2) (fileOf (a .name .now) (a .body .now)) (take n out) laid)
 
 -- src/main.rt:150:43
 enum-told : tie.Need-enum-told

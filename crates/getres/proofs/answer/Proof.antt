@@ -1,3 +1,5 @@
+-- `getres::answer` is safe: a value that was found lies in the bodies. Assumes nothing.
+use native.Mathlib.Omega.{arith}
 use borrow.Author.Needs.{needs}
 use Rattle.getres.proofs.answer.Statement.{statement}
 use Rattle.getres.proofs.answer.Tie as tie
@@ -26,7 +28,10 @@ enum-known-found c = search needs
 
 -- src/main.rt:235:60
 add-print : tie.Need-add-print
-add-print c = ?
+add-print c =
+    let look-up-here = c .before .before .before .before .before in
+    let found-here = c .before in
+    omega (arith, (rw (found-here .found .given .1) at (look-up-here .look-up .ensures .inside)), look-up-here .look-up .kept .1 .1 .1 .1 .1 .0)
 
 -- src/main.rt:235:45
 sub-print : tie.Need-sub-print
@@ -38,7 +43,10 @@ part-print-start c = search needs
 
 -- src/main.rt:235:45
 part-print-end : tie.Need-part-print-end
-part-print-end c = ?
+part-print-end c =
+    let look-up-here = c .before .before .before .before .before .before in
+    let found-here = c .before .before in
+    omega (arith, (rw (found-here .found .given .1) at (look-up-here .look-up .ensures .inside)), look-up-here .look-up .kept .1 .1 .1 .1 .1 .0)
 
 -- src/main.rt:235:39
 print-requires : tie.Need-print-requires

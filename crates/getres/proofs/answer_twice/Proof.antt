@@ -1,3 +1,7 @@
+-- `getres::answer_twice` is safe: what was found lies in the bodies of its reading. Assumes nothing.
+use native.Mathlib.Omega.{arith}
+use Rattle.compare.specs.Comparing.{asked}
+use Rattle.getres.proofs.Showing.{both-inside}
 use borrow.Author.Needs.{needs}
 use Rattle.getres.proofs.answer_twice.Statement.{statement}
 use Rattle.getres.proofs.answer_twice.Tie as tie
@@ -46,7 +50,14 @@ slice-aggregate-print-both-2 c = search needs
 
 -- src/main.rt:273:33
 print-both-requires : tie.Need-print-both-requires
-print-both-requires c κs = ?
+print-both-requires c κs =
+    let start-here = c .before .before .before .before .before .before .before .before .before .before .before .before .before .before .before .before .before .before .before .before .before in
+    let compare-without-here = c .before .before .before .before .before .before .before .before .before .before in
+    let compared-here = c .before .before .before in
+    let w = compare-without-here .compare-without in
+    let e = rw (compared-here .compared .given .1) at (w .ensures .equals) in
+    let i = both-inside _ _ _ _ _ _ _ (compared-here .compared .given .0 .0) (compared-here .compared .given .0 .1 .0) e in
+    (start-here .pre, i .0, omega (arith, w .kept .1 .1 .1 .1 .1 .1 .1 .0), i .1, omega (arith, w .kept .1 .1 .1 .1 .1 .1 .1 .1 .1 .0))
 
 -- src/main.rt:275:28
 enum-told : tie.Need-enum-told

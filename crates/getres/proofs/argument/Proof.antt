@@ -1,3 +1,8 @@
+-- `getres::argument` answers a number of bytes that the buffer has. Assumes nothing.
+use mathlib.Core.Path.{sym, ap}
+use native.Mathlib.Omega.{arith}
+use lib.ListN.{length}
+use lib.Seq.{take-length}
 use borrow.Author.Needs.{needs}
 use Rattle.getres.proofs.argument.Statement.{statement}
 use Rattle.getres.proofs.argument.Tie as tie
@@ -20,7 +25,10 @@ same-length c = search needs
 
 -- src/main.rt:46:9
 returns : tie.Need-returns
-returns c = ?
+returns c =
+    let arg-here = c .before .before .before .before in
+    let b = arg-here .arg .last .1 .0 in
+    (omega arith, sym (ap length (take-length b)))
 
 -- src/main.rt:41:1
 same-length-2 : tie.Need-same-length-2

@@ -1,3 +1,7 @@
+-- `getres::answers::put_line` meets its contract. Assumes nothing.
+use native.Mathlib.Omega.{arith}
+use Rattle.getres.specs.Showing.{shown}
+use Rattle.getres.proofs.Showing.{line-put}
 use borrow.Author.Needs.{needs}
 use Rattle.getres.proofs.answers.put_line.Statement.{statement}
 use Rattle.getres.proofs.answers.put_line.Tie as tie
@@ -32,7 +36,16 @@ same-length c = search needs
 
 -- src/answers.rt:68:1
 returns : tie.Need-returns
-returns c = ?
+returns c =
+    let start-here = c .before .before .before .before .before .before .before .before .before .before .before .before .before .before .before .before .before .before .before .before .before in
+    let put-here = c .before .before .before .before .before .before .before .before .before .before .before .before .before .before .before in
+    let put2-here = c .before .before .before .before .before .before .before .before .before .before .before in
+    let put3-here = c .before .before .before .before .before .before in
+    let put-words-here = c .before .before in
+    let w = put-words-here .put-words in (
+      omega (arith, start-here .pre .1, put-here .put .ensures .0, put2-here .put2 .ensures .0, put3-here .put3 .ensures .0, w .ensures .0, put-here .put .kept .1 .0, put2-here .put2 .kept .1 .0, put3-here .put3 .kept .1 .0, w .kept .1 .1 .0),
+      line-put (start-here .args .label .now) (start-here .args .file .now) (shown (start-here .args .bodies .now) (start-here .args .found)) _ _ _ _ (put-here .put .ensures .1) (put2-here .put2 .ensures .1) (put3-here .put3 .ensures .1) (w .ensures .1),
+    )
 
 pub put-line-spec : {M : Type 1} → statement M
 put-line-spec =

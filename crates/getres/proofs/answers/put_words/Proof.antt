@@ -1,6 +1,7 @@
 -- `getres::answers::put_words` meets its contract. Assumes nothing.
 use mathlib.Core.Path.{refl, _∙_}
 use Prim.Native.Nat.{_+_}
+use lib.ListN.{take}
 use native.Mathlib.Omega.{arith}
 use Rattle.archive_find.proofs.Striking.{part-size}
 use Rattle.getres.specs.Showing.{wordsOf}
@@ -98,7 +99,7 @@ returns c =
     let size = found-here .found .given .0 .1 .0 in
     let inside = (rw (found-here .found .given .1) at (start-here .pre .0)) in (
       omega (arith, put-here .put .ensures .0, put2-here .put2 .ensures .0, part-size b at (at + size) inside),
-      words-found b _ _ (start-here .args .found) (found-here .found .given .1) _ _ _ (put-here .put .ensures .1) (put2-here .put2 .ensures .1),
+      words-found b at size (start-here .args .found) (found-here .found .given .1) (take (start-here .args .at) (start-here .args .out .now)) _ _ (put-here .put .ensures .1) (put2-here .put2 .ensures .1),
     )
 
 -- src/answers.rt:53:1

@@ -29,7 +29,7 @@ returns c =
     let if1-here = c in
     let s = start-here .args .archive .now in
     let f = fileOf (start-here .args .name .now) (start-here .args .body .now) in
-    adding-name s (start-here .pre .0) f (sym (is-file-name-here .is-file-name .ensures) ∙ not-true _ (if1-here .if1 .taken))
+    record { equals = adding-name s (start-here .pre .0) f (sym (is-file-name-here .is-file-name .ensures) ∙ not-true _ (if1-here .if1 .taken)); inside = tt }
 
 -- src/files.rt:105:9
 slot-for-requires : tie.Need-slot-for-requires
@@ -45,7 +45,7 @@ returns-2 c =
     let if2-here = c in
     let s = start-here .args .archive .now in
     let f = fileOf (start-here .args .name .now) (start-here .args .body .now) in
-    adding-again s (start-here .pre .0) f (sym (is-file-name-here .is-file-name .ensures) ∙ not-false _ (if1-here .if1 .left)) (sym (slot-for-here .slot-for .ensures .taken) ∙ if2-here .if2 .taken)
+    record { equals = adding-again s (start-here .pre .0) f (sym (is-file-name-here .is-file-name .ensures) ∙ not-false _ (if1-here .if1 .left)) (sym (slot-for-here .slot-for .ensures .taken) ∙ if2-here .if2 .taken); inside = tt }
 
 -- src/files.rt:109:14
 word-at-requires : tie.Need-word-at-requires
@@ -64,7 +64,7 @@ returns-3 c =
     let word-at-here = c .before in
     let s = start-here .args .archive .now in
     let f = fileOf (start-here .args .name .now) (start-here .args .body .now) in
-    adding-many s (start-here .pre .0) f (sym (is-file-name-here .is-file-name .ensures) ∙ not-false _ (if1-here .if1 .left)) (sym (slot-for-here .slot-for .ensures .taken) ∙ if2-here .if2 .left) (omega (arith, length-files s, word-at-here .word-at .ensures .0))
+    record { equals = adding-many s (start-here .pre .0) f (sym (is-file-name-here .is-file-name .ensures) ∙ not-false _ (if1-here .if1 .left)) (sym (slot-for-here .slot-for .ensures .taken) ∙ if2-here .if2 .left) (omega (arith, length-files s, word-at-here .word-at .ensures .0)); inside = tt }
 
 -- src/files.rt:112:8
 sub-if4 : tie.Need-sub-if4
@@ -99,7 +99,7 @@ returns-4 c =
     let if4-here = c in
     let s = start-here .args .archive .now in
     let f = fileOf (start-here .args .name .now) (start-here .args .body .now) in
-    adding-large s (start-here .pre .0) f (sym (is-file-name-here .is-file-name .ensures) ∙ not-false _ (if1-here .if1 .left)) (sym (slot-for-here .slot-for .ensures .taken) ∙ if2-here .if2 .left) (omega (arith, length-files s, word-at-here .word-at .ensures .0)) (omega (arith, start-here .pre .1))
+    record { equals = adding-large s (start-here .pre .0) f (sym (is-file-name-here .is-file-name .ensures) ∙ not-false _ (if1-here .if1 .left)) (sym (slot-for-here .slot-for .ensures .taken) ∙ if2-here .if2 .left) (omega (arith, length-files s, word-at-here .word-at .ensures .0)) (omega (arith, start-here .pre .1)); inside = tt }
 
 -- src/files.rt:115:17
 insert-requires : tie.Need-insert-requires
@@ -123,7 +123,7 @@ returns-5 c =
     let insert-here = c .before .before in
     let s = start-here .args .archive .now in
     let f = fileOf (start-here .args .name .now) (start-here .args .body .now) in
-    adding-laid s (start-here .pre .0) f (sym (is-file-name-here .is-file-name .ensures) ∙ not-false _ (if1-here .if1 .left)) (sym (slot-for-here .slot-for .ensures .taken) ∙ if2-here .if2 .left) (omega (arith, length-files s, word-at-here .word-at .ensures .0)) (omega (arith, start-here .pre .1, laidOut-says s (start-here .pre .0) .short)) _ (insert-here .insert .ensures .1)
+    record { equals = adding-laid s (start-here .pre .0) f (sym (is-file-name-here .is-file-name .ensures) ∙ not-false _ (if1-here .if1 .left)) (sym (slot-for-here .slot-for .ensures .taken) ∙ if2-here .if2 .left) (omega (arith, length-files s, word-at-here .word-at .ensures .0)) (omega (arith, start-here .pre .1, laidOut-says s (start-here .pre .0) .short)) _ (insert-here .insert .ensures .1); inside = omega (arith, insert-here .insert .ensures .0, insert-here .insert .kept .1 .1 .1 .1 .0, start-here .pre .1) }
 
 pub add-file-spec : {M : Type 1} → statement M
 add-file-spec =

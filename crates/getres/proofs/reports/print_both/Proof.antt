@@ -1,3 +1,7 @@
+-- `getres::reports::print_both` is safe. Assumes nothing.
+use mathlib.Core.Path.{sym}
+use native.Mathlib.Omega.{arith}
+use lib.Seq.{length-take-le}
 use borrow.Author.Needs.{needs}
 use Rattle.getres.proofs.reports.print_both.Statement.{statement}
 use Rattle.getres.proofs.reports.print_both.Tie as tie
@@ -17,7 +21,9 @@ slice-aggregate-put-line-2 c = search needs
 
 -- src/reports.rt:60:9
 put-line-requires : tie.Need-put-line-requires
-put-line-requires c κs = ?
+put-line-requires c κs =
+    let start-here = c .before .before .before .before .before in
+    (start-here .pre .1, omega (arith, start-here .pre .0, start-here .pre .2))
 
 -- src/reports.rt:61:23
 array-share-prefix-out : tie.Need-array-share-prefix-out
@@ -25,7 +31,9 @@ array-share-prefix-out c = search needs
 
 -- src/reports.rt:61:23
 slice-aggregate-print : tie.Need-slice-aggregate-print
-slice-aggregate-print c = ?
+slice-aggregate-print c =
+    let put-line-here = c .before .before in
+    sym (length-take-le (put-line-here .put-line .result) (put-line-here .put-line .last .1 .1 .1 .1 .0) (put-line-here .put-line .ensures .0))
 
 -- src/reports.rt:61:9
 print-requires : tie.Need-print-requires
@@ -41,7 +49,10 @@ slice-aggregate-put-line-4 c = search needs
 
 -- src/reports.rt:62:9
 put-line-requires-2 : tie.Need-put-line-requires-2
-put-line-requires-2 c κs = ?
+put-line-requires-2 c κs =
+    let start-here = c .before .before .before .before .before .before .before .before .before .before .before in
+    let put-line-here = c .before .before .before .before .before in
+    (start-here .pre .3, omega (arith, start-here .pre .0, start-here .pre .4, put-line-here .put-line .kept .1 .1 .1 .1 .0))
 
 -- src/reports.rt:63:24
 array-share-prefix-out-2 : tie.Need-array-share-prefix-out-2
@@ -49,7 +60,9 @@ array-share-prefix-out-2 c = search needs
 
 -- src/reports.rt:63:24
 slice-aggregate-print-2 : tie.Need-slice-aggregate-print-2
-slice-aggregate-print-2 c = ?
+slice-aggregate-print-2 c =
+    let put-line2-here = c .before .before in
+    sym (length-take-le (put-line2-here .put-line2 .result) (put-line2-here .put-line2 .last .1 .1 .1 .1 .0) (put-line2-here .put-line2 .ensures .0))
 
 -- src/reports.rt:63:9
 print-requires-2 : tie.Need-print-requires-2

@@ -1,3 +1,6 @@
+-- `getres::reports::refuse` is safe. Assumes nothing.
+use mathlib.Core.Path.{sym}
+use lib.Seq.{length-take-le}
 use borrow.Author.Needs.{needs}
 use Rattle.getres.proofs.reports.refuse.Statement.{statement}
 use Rattle.getres.proofs.reports.refuse.Tie as tie
@@ -20,7 +23,9 @@ array-share-prefix-words c = search needs
 
 -- src/reports.rt:38:9
 slice-aggregate-say : tie.Need-slice-aggregate-say
-slice-aggregate-say c = ?
+slice-aggregate-say c =
+    let put-refusal-here = c .before .before in
+    sym (length-take-le (put-refusal-here .put-refusal .result) (put-refusal-here .put-refusal .last .1 .0) (put-refusal-here .put-refusal .ensures .0))
 
 -- src/reports.rt:38:5
 say-requires : tie.Need-say-requires
