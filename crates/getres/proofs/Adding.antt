@@ -212,9 +212,11 @@ rising-inserted f (g ∷ gs) h k = at (lower (g .name) (f .name)) refl (rising-i
   where
     above : all (λ e. lower (g .name) (e .name)) gs ≡ true
     above = rw (all-map (lower (g .name)) (λ e. e .name) gs) at (rising-first (g .name) (names gs) h)
+
     first : (b : Bool) → lower (f .name) (g .name) ≡ b → lower (g .name) (f .name) ≡ false → lower (f .name) (g .name) ≡ true
     first true e l = e
     first false e l = absurd (not-both (on-same (f .name) g gs (not-lower-equal (g .name) (f .name) l e)) k)
+
     at : (b : Bool) → lower (g .name) (f .name) ≡ b → (onIt (f .name) gs ≡ false → rising (names (inserted f gs)) ≡ true)
         → rising (names (if b then g ∷ inserted f gs else f ∷ g ∷ gs)) ≡ true
     at true e ih =
@@ -393,18 +395,22 @@ module _ (s : List ℕ) (h : laidOut s ≡ true) (f : File) where
     where
       new : List ℕ
       new = archiveOf (inserted f (filesOf s))
+
       at₄ : (b : Bool) → ltb archiveBytes (length new) ≡ b → isFileName (f .name) ≡ true → onIt (f .name) (filesOf s) ≡ false → length (filesOf s) < archiveFiles
           → laid t ≡ (if b then tooLarge else laid new) → laidOut t ≡ true
       at₄ true l p q r g = absurd (let z : _≡_ {A = ℕ} 0 1 = cc in omega arith)
       at₄ false l p q r g = let i : t ≡ new = cc in rw i (inserted-laid p q r (ltb-false archiveBytes (length new) l))
+
       at₃ : (b : Bool) → leb archiveFiles (length (filesOf s)) ≡ b → isFileName (f .name) ≡ true → onIt (f .name) (filesOf s) ≡ false
           → laid t ≡ (if b then tooMany else if ltb archiveBytes (length new) then tooLarge else laid new) → laidOut t ≡ true
       at₃ true l p q g = absurd (let z : _≡_ {A = ℕ} 0 1 = cc in omega arith)
       at₃ false l p q g = at₄ (ltb archiveBytes (length new)) refl p q (leb-false archiveFiles (length (filesOf s)) l) g
+
       at₂ : (b : Bool) → onIt (f .name) (filesOf s) ≡ b → isFileName (f .name) ≡ true
           → laid t ≡ (if b then again else if leb archiveFiles (length (filesOf s)) then tooMany else if ltb archiveBytes (length new) then tooLarge else laid new) → laidOut t ≡ true
       at₂ true l p g = absurd (let z : _≡_ {A = ℕ} 0 1 = cc in omega arith)
       at₂ false l p g = at₃ (leb archiveFiles (length (filesOf s))) refl p l g
+
       at₁ : (b : Bool) → isFileName (f .name) ≡ b
           → laid t ≡ (if not b then notAName else if onIt (f .name) (filesOf s) then again else if leb archiveFiles (length (filesOf s)) then tooMany else if ltb archiveBytes (length new) then tooLarge else laid new) → laidOut t ≡ true
       at₁ true l g = at₂ (onIt (f .name) (filesOf s)) refl l g

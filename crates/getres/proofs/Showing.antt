@@ -137,12 +137,15 @@ module _ (c : Case) (struck s c₁ b₁ c₂ b₂ : List ℕ) (x y : Lookup) (e 
       at₄ : (t : Bool) → leaving (Both x y) s c₁ b₁ c₂ b₂ ≡ (if t then bothRead c struck else onlyFirst c struck noFile) → leaving (Both x y) s c₁ b₁ c₂ b₂ ≡ bothRead c struck
       at₄ true f = f
       at₄ false f = absurd (let g : both (replied x) (replied y) ≡ noFile = ap (λ (l : Left). l .answer) f in let z : _≡_ {A = ℕ} 0 1 = cc in omega arith)
+
       at₃ : (a : Answer) → leaving (Both x y) s c₁ b₁ c₂ b₂ ≡ afterFirst c struck a → leaving (Both x y) s c₁ b₁ c₂ b₂ ≡ bothRead c struck
       at₃ (accepted n o) f = at₄ (ltb (c .file) (length (filesOf (c .archive)))) f
       at₃ (refusedReading k) f = absurd (not-both-left k (ap (λ (l : Left). l .answer) f))
+
       at₂ : (t : Bool) → leaving (Both x y) s c₁ b₁ c₂ b₂ ≡ (if t then noRoom c struck else afterFirst c struck (withFile c .answer)) → leaving (Both x y) s c₁ b₁ c₂ b₂ ≡ bothRead c struck
       at₂ true f = absurd (not-both-left 1 (ap (λ (l : Left). l .answer) f))
       at₂ false f = at₃ (withFile c .answer) f
+
       at₁ : (t : Bool) → ltb (length struck) (length (c .archive)) ≡ t → leaving (Both x y) s c₁ b₁ c₂ b₂ ≡ bothRead c struck
       at₁ true f =
           let g : leaving (Both x y) s c₁ b₁ c₂ b₂ ≡ noRoom c struck = e ∙ rw f refl in
@@ -159,9 +162,10 @@ module _ (c : Case) (struck s c₁ b₁ c₂ b₂ : List ℕ) (x y : Lookup) (e 
   both-inside =
       let a = answers-are (lookup c (withFile c)) (lookup c (withoutFile c)) (ap (λ (l : Left). l .answer) left-is) in
       let e₁ = ap (λ (l : Left). l .bodies) left-is in
-      let e₂ = ap (λ (l : Left). l .bodies′) left-is in
-      (rw e₁ (inside-of (withFile c .contents) (withFile c .bodies) (c .name) (c .class) x (a .0)),
-        rw e₂ (inside-of (withoutFile c .contents) (withoutFile c .bodies) (c .name) (c .class) y (a .1)))
+      let e₂ = ap (λ (l : Left). l .bodies′) left-is in (
+        rw e₁ (inside-of (withFile c .contents) (withFile c .bodies) (c .name) (c .class) x (a .0)),
+        rw e₂ (inside-of (withoutFile c .contents) (withoutFile c .bodies) (c .name) (c .class) y (a .1)),
+      )
 
 -- ---- Lines, piece by piece
 

@@ -83,15 +83,39 @@ pub fn put_refusal(number: u8, out: &mut [u8]) -> usize
 {
     match number {
         1 => put(b"refused 1: the buffers are too short", out, 0),
-        2 => put(b"refused 2: the main text has more than 32,768 bytes", out, 0),
-        3 => put(b"refused 3: the files are not laid out as an archive", out, 0),
-        4 => put(b"refused 4: the includes open files more than 4,096 times", out, 0),
+        2 => put(
+            b"refused 2: the main text has more than 32,768 bytes",
+            out,
+            0,
+        ),
+        3 => put(
+            b"refused 3: the files are not laid out as an archive",
+            out,
+            0,
+        ),
+        4 => put(
+            b"refused 4: the includes open files more than 4,096 times",
+            out,
+            0,
+        ),
         5 => put(b"refused 5: an entry has more than 16 parts", out, 0),
         6 => put(b"refused 6: there are more than 512 entries", out, 0),
-        7 => put(b"refused 7: keys and values have more than 32,768 bytes", out, 0),
+        7 => put(
+            b"refused 7: keys and values have more than 32,768 bytes",
+            out,
+            0,
+        ),
         8 => put(b"refused 8: the buffers hold no database", out, 0),
-        9 => put(b"refused 9: the name or the class has more than 1,024 bytes", out, 0),
-        10 => put(b"refused 10: the name or the class has more than 32 parts", out, 0),
+        9 => put(
+            b"refused 9: the name or the class has more than 1,024 bytes",
+            out,
+            0,
+        ),
+        10 => put(
+            b"refused 10: the name or the class has more than 32 parts",
+            out,
+            0,
+        ),
         _ => put(b"refused", out, 0),
     }
 }

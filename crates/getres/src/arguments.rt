@@ -3,9 +3,13 @@ use check::same;
 
 // What an argument asks of the next one: nothing, to be an option's value, or to be an operand, whatever it looks like.
 pub const ANY: u8 = 0;
+
 pub const FILE: u8 = 1;
+
 const WITHOUT: u8 = 2;
+
 const STATUS: u8 = 3;
+
 const OPERAND: u8 = 4;
 
 // Arguments by their numbers, of which 0, the program's own name, says that there is none. `wrong` is the first that is not

@@ -147,7 +147,10 @@ fn add(name: &[u8], body: &[u8], archive: &mut [u8], size: usize) -> Loaded
             put(&out[..n], archive, 0);
             return Loaded::Size(n);
         }
-        Added::NotAName => complain(name, b"refused 3: not a file's name: 1 to 96 bytes, parts of letters, digits, _ - . joined by /"),
+        Added::NotAName => complain(
+            name,
+            b"refused 3: not a file's name: 1 to 96 bytes, parts of letters, digits, _ - . joined by /",
+        ),
         Added::Again => complain(name, b"there are two files of this name"),
         Added::TooMany => complain(name, b"refused 3: more than 64 files"),
         Added::TooLarge => complain(name, b"refused 3: the files have more than 65,536 bytes"),

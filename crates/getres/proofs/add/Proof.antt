@@ -77,9 +77,10 @@ returns c =
     let out = add-file-here .add-file .last .1 .1 .1 .0 in
     let inside = rw (added-here .added .given .1) at (add-file-here .add-file .ensures .inside) in
     let laid = rw (added-here .added .given .1) at (add-file-here .add-file .ensures .equals) in
-    let same = put-front (a .archive .now) (put-here .put .last .1 .0) out (put-here .put .result) n inside (put-here .put .ensures .0) (put-here .put .ensures .1) in
-    (omega (arith, start-here .pre .0, inside, add-file-here .add-file .kept .1 .1 .1 .0, put-here .put .kept .1 .0),
-      ap laidOut same ∙ added-laid (take (a .size) (a .archive .now)) (start-here .pre .2) (fileOf (a .name .now) (a .body .now)) (take n out) laid)
+    let same = put-front (a .archive .now) (put-here .put .last .1 .0) out (put-here .put .result) n inside (put-here .put .ensures .0) (put-here .put .ensures .1) in (
+      omega (arith, start-here .pre .0, inside, add-file-here .add-file .kept .1 .1 .1 .0, put-here .put .kept .1 .0),
+      ap laidOut same ∙ added-laid (take (a .size) (a .archive .now)) (start-here .pre .2) (fileOf (a .name .now) (a .body .now)) (take n out) laid,
+    )
 
 -- src/main.rt:150:43
 enum-told : tie.Need-enum-told

@@ -296,10 +296,11 @@ returns c =
     let s = start-here .args .archive .now in
     let i = start-here .args .slot .index in
     let at = start-here .args .slot .at in
-    let q = facts start-here in
-    (omega (arith, start-here .pre .2, start-here .pre .3, q .0, q .1, q .2, q .3, word-at-here .word-at .ensures .0, put-word-here .put-word .ensures .0, put-word-here .put-word .kept .1 .0, put-here .put .ensures .0, put-here .put .kept .1 .0, put-word2-here .put-word2 .ensures .0, put-word2-here .put-word2 .kept .1 .0, put-word3-here .put-word3 .ensures .0, put-word3-here .put-word3 .kept .1 .0, put2-here .put2 .ensures .0, put2-here .put2 .kept .1 .0, put3-here .put3 .ensures .0, put3-here .put3 .kept .1 .0, put4-here .put4 .ensures .0, put4-here .put4 .kept .1 .0, put5-here .put5 .ensures .0, put5-here .put5 .kept .1 .0, part-size s 2 (2 + 4 * i) (omega (arith, q .1, q .2)), part-size s (2 + 4 * i) at (q .2), part-size s at (length s) (omega arith)),
+    let q = facts start-here in (
+      omega (arith, start-here .pre .2, start-here .pre .3, q .0, q .1, q .2, q .3, word-at-here .word-at .ensures .0, put-word-here .put-word .ensures .0, put-word-here .put-word .kept .1 .0, put-here .put .ensures .0, put-here .put .kept .1 .0, put-word2-here .put-word2 .ensures .0, put-word2-here .put-word2 .kept .1 .0, put-word3-here .put-word3 .ensures .0, put-word3-here .put-word3 .kept .1 .0, put2-here .put2 .ensures .0, put2-here .put2 .kept .1 .0, put3-here .put3 .ensures .0, put3-here .put3 .kept .1 .0, put4-here .put4 .ensures .0, put4-here .put4 .kept .1 .0, put5-here .put5 .ensures .0, put5-here .put5 .kept .1 .0, part-size s 2 (2 + 4 * i) (omega (arith, q .1, q .2)), part-size s (2 + 4 * i) at (q .2), part-size s at (length s) (omega arith)),
       inserted-put s (start-here .pre .0) (fileOf (start-here .args .name .now) (start-here .args .body .now)) i at (word-at-here .word-at .result) (start-here .pre .1 .index) (start-here .pre .1 .place) (word-at-here .word-at .ensures .0)
-      _ _ _ _ _ _ _ _ (put-word-here .put-word .ensures .1) (put-here .put .ensures .1) (put-word2-here .put-word2 .ensures .1) (put-word3-here .put-word3 .ensures .1) (put2-here .put2 .ensures .1) (put3-here .put3 .ensures .1) (put4-here .put4 .ensures .1) (put5-here .put5 .ensures .1))
+          _ _ _ _ _ _ _ _ (put-word-here .put-word .ensures .1) (put-here .put .ensures .1) (put-word2-here .put-word2 .ensures .1) (put-word3-here .put-word3 .ensures .1) (put2-here .put2 .ensures .1) (put3-here .put3 .ensures .1) (put4-here .put4 .ensures .1) (put5-here .put5 .ensures .1),
+    )
 
 pub insert-spec : {M : Type 1} → statement M
 insert-spec =
