@@ -1,0 +1,3 @@
+-- Laws of getres.
+pub mod Adding
+pub mod Showing

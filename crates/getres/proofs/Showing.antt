@@ -1,0 +1,180 @@
+-- What getres shows is what the definition answers. Assumes nothing.
+use mathlib.Core.Bool.{Bool, true, false}
+use mathlib.Core.List.{List, [], _∷_, _++_, append-assoc}
+use mathlib.Core.Option.{Option, some, none}
+use mathlib.Core.Path.{_≡_, refl, sym, ap, _∙_}
+use Prim.Native.Nat.{ℕ, _+_, _-_, _≤_, _<_}
+use native.Mathlib.Omega.{arith}
+use lib.Dec.{ltb}
+use lib.ListN.{length, take, drop}
+use lib.Seq.{slice}
+use Rattle.definition.specs.Lists.{if_then_else_, ascii, same}
+use Rattle.definition.specs.Archive.{filesOf}
+use Rattle.definition.specs.Image.{tooShort, isImage}
+use Rattle.definition.specs.Text.{Entry}
+use Rattle.definition.specs.Evaluation.{definition}
+use Rattle.definition.specs.Query.{Query, positions, malformed, pastLimit, queryOf}
+use Rattle.definition.specs.Reading.{Answer, accepted, refused as refusedReading, Outcome, outcome, reading, plain, readEntries}
+use Rattle.definition.specs.Lookup.{Reply, given, noValue as noReply, refused, Place, getBytes, answerIn, answerOf}
+use Rattle.definition.specs.ThirdTerm.{Case, withFile, withoutFile, lookup}
+use Rattle.laws.proofs.Lists.{not-both, both-ways, same-eq, eq-same, part-slice}
+use Rattle.laws.proofs.Reading.{Reads, accepted-reads}
+use Rattle.laws.proofs.ThirdTerm.{reading-answers, reading-replies}
+use Rattle.lookup.specs.declared.Lookup.{Lookup}
+use Rattle.lookup.specs.declared.Lookup.the-variants.{Found, Nothing, Refused}
+use Rattle.lookup.specs.Replies.{replied}
+use Rattle.lookup.proofs.Looking.{no-image, past, found-inside}
+use Rattle.compare.specs.declared.Compared.the-variants.{Both}
+use Rattle.compare.specs.Comparing.{Comparison, both, noFile, refusedBy as comparedRefused, Left, answering, noRoom, onlyFirst, bothRead, afterFirst, comparing, Promise, leaving}
+use Rattle.getres.specs.Showing.{Shown, value, noValue, refusedBy, shown, Inside, ofBytes, ofQuery, ofReading, answered, Answers, wordsOf, lineOf, sameShown}
+
+-- ---- A lookup's answer
+
+-- a query of no parts is within the limits
+no-parts : (k : ℕ) → queryOf [] [] ≡ pastLimit k → ⊥
+unfolding definition
+no-parts k e = let z : _≡_ {A = ℕ} 0 1 = cc in omega arith
+
+shown-refused : (b : List ℕ) (x : Lookup) (k : ℕ) → replied x ≡ refused k → shown b x ≡ refusedBy k
+shown-refused b (Found p n) k e = absurd (let z : _≡_ {A = ℕ} 0 1 = cc in omega arith)
+shown-refused b Nothing k e = absurd (let z : _≡_ {A = ℕ} 0 1 = cc in omega arith)
+shown-refused b (Refused j) k e = let i : j ≡ k = cc in ap refusedBy i
+
+shown-bytes : (b : List ℕ) (x : Lookup) (o : Option (List ℕ)) → answerIn b (replied x) ≡ o → ((k : ℕ) → replied x ≡ refused k → ⊥) → shown b x ≡ ofBytes o
+unfolding answerIn
+shown-bytes b (Found p n) o e h = ap ofBytes e
+shown-bytes b Nothing o e h = ap ofBytes e
+shown-bytes b (Refused k) o e h = absurd (h k refl)
+
+inside-of : (c b name class : List ℕ) (x : Lookup) → replied x ≡ getBytes c b name class → Inside b x
+inside-of c b name class (Found p n) e = found-inside c b name class p n e
+inside-of c b name class Nothing e = tt
+inside-of c b name class (Refused k) e = tt
+
+module _ (text archive contents bodies : List ℕ) (r : Reads text archive contents bodies) where
+  abbrev es : List Entry
+  es = plain (readEntries text archive)
+
+  abbrev c : List ℕ
+  c = reading text archive contents bodies .contents
+
+  abbrev b : List ℕ
+  b = reading text archive contents bodies .bodies
+
+  read-image : isImage c b ≡ true
+  read-image = at (isImage c b) refl
+    where
+      at : (t : Bool) → isImage c b ≡ t → isImage c b ≡ true
+      at true e = e
+      at false e = absurd (reading-replies text archive contents bodies r [] [] no-parts 8 (sym (no-image c b [] [] e)))
+
+  module _ (name class : List ℕ) (x : Lookup) (h : replied x ≡ getBytes c b name class) where
+    bytes-are : answerIn b (replied x) ≡ answerOf es (queryOf name class)
+    bytes-are = ap (answerIn b) h ∙ reading-answers text archive contents bodies r name class
+
+    apart : ((k : ℕ) → queryOf name class ≡ pastLimit k → ⊥) → (k : ℕ) → replied x ≡ refused k → ⊥
+    apart g k e = reading-replies text archive contents bodies r name class g k (sym h ∙ e)
+
+    shown-is : shown b x ≡ ofQuery es (queryOf name class)
+    unfolding ofQuery answerOf
+    shown-is = at (queryOf name class) refl
+      where
+        at : (q : Query) → queryOf name class ≡ q → shown b x ≡ ofQuery es q
+        at (positions qs) e =
+            shown-bytes b x (answerOf es (positions qs)) (bytes-are ∙ ap (answerOf es) e) (apart (λ k f. let z : _≡_ {A = ℕ} 0 1 = cc in omega arith))
+        at malformed e = shown-bytes b x none (bytes-are ∙ ap (answerOf es) e) (apart (λ k f. let z : _≡_ {A = ℕ} 0 1 = cc in omega arith))
+        at (pastLimit k) e = shown-refused b x k (h ∙ sym (past c b name class read-image k e))
+
+module _ (text archive name class contents bodies c b : List ℕ) where
+  pub refused-answers : (k : ℕ) → outcome (refusedReading k) c b ≡ reading text archive contents bodies → Answers text archive name class contents bodies b (Refused k)
+  unfolding answered ofReading
+  refused-answers k e = record {
+    shows = ap (λ (o : Outcome). ofReading (o .answer) (ofQuery (plain (readEntries text archive)) (queryOf name class))) e;
+    inside = tt;
+  }
+
+  module _ (n o : ℕ) (e : outcome (accepted n o) c b ≡ reading text archive contents bodies) where
+    reads : Reads text archive contents bodies
+    reads = accepted-reads text archive contents bodies (rw (← e) refl)
+
+    pub accepted-answers : (x : Lookup) → replied x ≡ getBytes c b name class → Answers text archive name class contents bodies b x
+    unfolding answered ofReading
+    accepted-answers x h =
+        let ec : c ≡ reading text archive contents bodies .contents = ap (λ (p : Outcome). p .contents) e in
+        let eb : b ≡ reading text archive contents bodies .bodies = ap (λ (p : Outcome). p .bodies) e in
+        let h′ : replied x ≡ getBytes (reading text archive contents bodies .contents) (reading text archive contents bodies .bodies) name class =
+        h ∙ ap (λ (y : List ℕ). getBytes y b name class) ec ∙ ap (λ (y : List ℕ). getBytes (reading text archive contents bodies .contents) y name class) eb in
+        record {
+          shows = ap (λ (y : List ℕ). shown y x) eb ∙ shown-is text archive contents bodies reads name class x h′
+              ∙ ap (λ (p : Outcome). ofReading (p .answer) (ofQuery (plain (readEntries text archive)) (queryOf name class))) e;
+          inside = inside-of c b name class x h;
+        }
+
+-- ---- Two answers
+
+module _ (bodies store : List ℕ) (a b : Lookup) where
+  pub same-found : (p n q m : ℕ) → a ≡ Found p n → b ≡ Found q m → (r : Bool)
+      → ((r ≡ true → take (p + n - p) (drop p bodies) ≡ take (q + m - q) (drop q store)) × (take (p + n - p) (drop p bodies) ≡ take (q + m - q) (drop q store) → r ≡ true))
+      → r ≡ sameShown (shown bodies a) (shown store b)
+  unfolding sameShown
+  same-found p n q m ea eb r h =
+      let v = slice p (p + n) bodies in
+      let w = slice q (q + m) store in
+      let ev = part-slice bodies p (p + n) in
+      let ew = part-slice store q (q + m) in
+      rw (ea, eb)
+      (both-ways r (same v w) (λ t. eq-same v w (sym ev ∙ h .0 t ∙ ew)) (λ t. h .1 (ev ∙ same-eq v w t ∙ sym ew)))
+
+-- the call's two lookups lie in what was read
+module _ (c : Case) (struck s c₁ b₁ c₂ b₂ : List ℕ) (x y : Lookup) (e : leaving (Both x y) s c₁ b₁ c₂ b₂ ≡ comparing c struck) where
+  not-both-left : (k : ℕ) → both (replied x) (replied y) ≡ comparedRefused k → ⊥
+  not-both-left k f = let z : _≡_ {A = ℕ} 0 1 = cc in omega arith
+
+  left-is : leaving (Both x y) s c₁ b₁ c₂ b₂ ≡ bothRead c struck
+  unfolding afterFirst comparing
+  left-is = at₁ (ltb (length struck) (length (c .archive))) refl
+    where
+      at₄ : (t : Bool) → leaving (Both x y) s c₁ b₁ c₂ b₂ ≡ (if t then bothRead c struck else onlyFirst c struck noFile) → leaving (Both x y) s c₁ b₁ c₂ b₂ ≡ bothRead c struck
+      at₄ true f = f
+      at₄ false f = absurd (let g : both (replied x) (replied y) ≡ noFile = ap (λ (l : Left). l .answer) f in let z : _≡_ {A = ℕ} 0 1 = cc in omega arith)
+
+      at₃ : (a : Answer) → leaving (Both x y) s c₁ b₁ c₂ b₂ ≡ afterFirst c struck a → leaving (Both x y) s c₁ b₁ c₂ b₂ ≡ bothRead c struck
+      at₃ (accepted n o) f = at₄ (ltb (c .file) (length (filesOf (c .archive)))) f
+      at₃ (refusedReading k) f = absurd (not-both-left k (ap (λ (l : Left). l .answer) f))
+
+      at₂ : (t : Bool) → leaving (Both x y) s c₁ b₁ c₂ b₂ ≡ (if t then noRoom c struck else afterFirst c struck (withFile c .answer)) → leaving (Both x y) s c₁ b₁ c₂ b₂ ≡ bothRead c struck
+      at₂ true f = absurd (not-both-left 1 (ap (λ (l : Left). l .answer) f))
+      at₂ false f = at₃ (withFile c .answer) f
+
+      at₁ : (t : Bool) → ltb (length struck) (length (c .archive)) ≡ t → leaving (Both x y) s c₁ b₁ c₂ b₂ ≡ bothRead c struck
+      at₁ true f =
+          let g : leaving (Both x y) s c₁ b₁ c₂ b₂ ≡ noRoom c struck = e ∙ rw f refl in
+          absurd (not-both-left 1 (ap (λ (l : Left). l .answer) g))
+      at₁ false f = at₂ (tooShort (c .contents′) (c .bodies′)) (e ∙ rw f refl)
+
+  answers-are : (p q : Reply Place) → both (replied x) (replied y) ≡ answering p q → (replied x ≡ p) × (replied y ≡ q)
+  unfolding answering
+  answers-are (given p) q f = (cc, cc)
+  answers-are noReply q f = (cc, cc)
+  answers-are (refused k) q f = absurd (not-both-left k f)
+
+  pub both-inside : Inside b₁ x × Inside b₂ y
+  both-inside =
+      let a = answers-are (lookup c (withFile c)) (lookup c (withoutFile c)) (ap (λ (l : Left). l .answer) left-is) in
+      let e₁ = ap (λ (l : Left). l .bodies) left-is in
+      let e₂ = ap (λ (l : Left). l .bodies′) left-is in (
+        rw e₁ (inside-of (withFile c .contents) (withFile c .bodies) (c .name) (c .class) x (a .0)),
+        rw e₂ (inside-of (withoutFile c .contents) (withoutFile c .bodies) (c .name) (c .class) y (a .1)),
+      )
+
+-- ---- Lines, piece by piece
+
+pub words-found : (bodies : List ℕ) (p n : ℕ) (x : Lookup) → x ≡ Found p n → (t₀ t₁ t₂ : List ℕ) → t₁ ≡ t₀ ++ ascii "value " → t₂ ≡ t₁ ++ take (p + n - p) (drop p bodies)
+    → t₂ ≡ t₀ ++ wordsOf (shown bodies x)
+unfolding wordsOf
+words-found bodies p n x ex t₀ t₁ t₂ a b = rw (b, a, ex, part-slice bodies p (p + n)) (append-assoc t₀ (ascii "value ") (slice p (p + n) bodies))
+
+pub line-put : (label file : List ℕ) (s : Shown) (t₁ t₂ t₃ t₄ : List ℕ) → t₁ ≡ label → t₂ ≡ t₁ ++ file → t₃ ≡ t₂ ++ ascii ": " → t₄ ≡ t₃ ++ wordsOf s
+    → t₄ ≡ lineOf label file s
+unfolding lineOf
+line-put label file s t₁ t₂ t₃ t₄ a b c d = rw (d, c, b, a) refl

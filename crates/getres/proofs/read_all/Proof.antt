@@ -1,0 +1,114 @@
+-- `getres::read_all` is safe and ends, and answers a number of bytes that the buffer has. Assumes nothing.
+use mathlib.Core.Path.{_≡_}
+use Prim.Native.Nat.{_-_, _≤_}
+use lib.ListN.{length}
+use borrow.Author.Needs.{needs}
+use Rattle.getres.proofs.read_all.Statement.{statement}
+use Rattle.getres.proofs.read_all.Tie as tie
+use Rattle.getres.proofs.read_all.Reads as reads
+use Rattle.getres.proofs.read_all.Lts as lts
+use Rattle.io.proofs.count.Reads as count-reads
+use Rattle.libc.proofs.read.Reads as read-reads
+
+abbrev Inv-loop : tie.InvT-loop
+Inv-loop fd buffer₀ n₀ buffer n = (length buffer ≡ length buffer₀) × (n ≤ length buffer)
+
+abbrev μ-loop : tie.MeasureT-loop
+μ-loop fd buffer₀ n₀ buffer n = length buffer₀ - n
+
+-- src/main.rt:81:5
+loop-holds : tie.Need-loop-holds Inv-loop μ-loop
+loop-holds c = search needs
+
+-- src/main.rt:82:34
+sub-read : tie.Need-sub-read Inv-loop μ-loop
+sub-read c = search needs
+
+-- src/main.rt:82:34
+part-read-start : tie.Need-part-read-start Inv-loop μ-loop
+part-read-start c = search needs
+
+-- src/main.rt:82:34
+part-read-end : tie.Need-part-read-end Inv-loop μ-loop
+part-read-end c = search needs
+
+-- src/main.rt:82:13
+read-requires : tie.Need-read-requires Inv-loop μ-loop
+read-requires c κs = search needs
+
+-- src/main.rt:84:13
+same-length : tie.Need-same-length Inv-loop μ-loop
+same-length c = search needs
+
+-- src/main.rt:84:13
+returns : tie.Need-returns Inv-loop μ-loop
+returns c = search needs
+
+-- src/main.rt:86:35
+sub-count : tie.Need-sub-count Inv-loop μ-loop
+sub-count c = search needs
+
+-- src/main.rt:86:35
+part-count-start : tie.Need-part-count-start Inv-loop μ-loop
+part-count-start c = search needs
+
+-- src/main.rt:86:35
+part-count-end : tie.Need-part-count-end Inv-loop μ-loop
+part-count-end c = search needs
+
+-- src/main.rt:86:13
+count-requires : tie.Need-count-requires Inv-loop μ-loop
+count-requires c κs = search needs
+
+-- src/main.rt:88:13
+same-length-2 : tie.Need-same-length-2 Inv-loop μ-loop
+same-length-2 c = search needs
+
+-- src/main.rt:88:13
+returns-2 : tie.Need-returns-2 Inv-loop μ-loop
+returns-2 c = search needs
+
+-- src/main.rt:90:9
+add-n : tie.Need-add-n Inv-loop μ-loop
+add-n c = search needs
+
+-- src/main.rt:81:5
+loop-less : tie.Need-loop-less Inv-loop μ-loop
+loop-less c = search needs
+
+-- src/main.rt:81:5
+loop-again : tie.Need-loop-again Inv-loop μ-loop
+loop-again c = search needs
+
+-- src/main.rt:77:1
+same-length-3 : tie.Need-same-length-3 Inv-loop μ-loop
+same-length-3 c = search needs
+
+-- src/main.rt:77:1
+returns-3 : tie.Need-returns-3 Inv-loop μ-loop
+returns-3 c = search needs
+
+pub read-all-spec : {M : Type 1} → statement M
+read-all-spec =
+    tie.close
+    (tie.spec
+    Inv-loop
+    μ-loop
+    loop-holds
+    sub-read
+    part-read-start
+    part-read-end
+    read-requires
+    same-length
+    returns
+    sub-count
+    part-count-start
+    part-count-end
+    count-requires
+    same-length-2
+    returns-2
+    add-n
+    loop-less
+    loop-again
+    same-length-3
+    returns-3)

@@ -1,0 +1,5 @@
+-- What the contracts of getres cite beside the definition.
+pub mod Adding
+pub mod Showing
+pub mod Refusals
+pub mod Loading
