@@ -8,11 +8,11 @@ ghost use Rattle.compare.specs.Comparing.{asked, leaving, Promise, Secon
 ghost use Rattle.lookup.specs.Replies.{replied};
 use archive::word_at;
 use archive_find::strike_off;
+use image::BODY_BYTES;
+use image::CONTENTS_WORDS;
 use lookup::Lookup;
 use lookup::get_bytes;
 use reader::Answer;
-use reader::BODY_BYTES;
-use reader::CONTENTS_WORDS;
 use reader::read;
 
 // The answers of both lookups, that the archive has no such file, or the number that refuses the call.

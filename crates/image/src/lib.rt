@@ -5,6 +5,15 @@ ghost use Prim.Native.Nat.{_+_, _-_, _≤_, _<_};
 ghost use lib.ListN.{length, take, set};
 ghost use Rattle.definition.specs.Lists.{zeroes};
 
+// Document 01's limits on an image.
+pub const CONTENTS_WORDS: usize = 1538;
+
+pub const BODY_BYTES: usize = 32768;
+
+pub const MOST_ENTRIES: usize = 512;
+
+pub const MOST_PARTS: usize = 16;
+
 // What a reading has met so far: document 01's limits are laid over these.
 pub struct Totals {
     pub opens: usize,

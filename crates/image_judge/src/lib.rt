@@ -10,16 +10,11 @@ ghost use Rattle.definition.specs.Bytes.{isBinding, isName};
 ghost use Rattle.definition.specs.Image.{rowsFrom, isKey, isImage};
 ghost use Rattle.image_judge.specs.Pairs.{mayFollow, bindingsIn};
 ghost use Rattle.image_judge.specs.Rows.{holds};
+use image::BODY_BYTES;
+use image::CONTENTS_WORDS;
+use image::MOST_ENTRIES;
+use image::MOST_PARTS;
 use scan::next_component;
-
-// Document 01's limits on an image.
-pub const CONTENTS_WORDS: usize = 1538;
-
-pub const BODY_BYTES: usize = 32768;
-
-pub const MOST_ENTRIES: usize = 512;
-
-pub const MOST_PARTS: usize = 16;
 
 fn is_binding(c: u8) -> bool
     ensures { λ r. ⌜ r ≡ isBinding c ⌝ }

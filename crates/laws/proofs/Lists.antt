@@ -427,10 +427,6 @@ module _ {A : Type 0} where
   pub paste-one : (d : List A) (at : ℕ) (x : A) → at < length d → set d at x ≡ paste d at (x ∷ []) 1
   paste-one d at x h = sets-eq (x ∷ []) d at (omega arith)
 
-  -- of a list only the beginning is stored
-  pub paste-take : (d : List A) (at : ℕ) (s : List A) (n : ℕ) → n ≤ length s → paste d at s n ≡ paste d at (take n s) (length (take n s))
-  paste-take d at s n h = rw (take-length (take n s), length-take-le n s h) refl
-
   -- two lists stored one after the other
   pub paste-append : (d : List A) (at : ℕ) (xs ys : List A) → at + length xs ≤ length d
       → paste d at (xs ++ ys) (length (xs ++ ys)) ≡ paste (paste d at xs (length xs)) (at + length xs) ys (length ys)

@@ -19,6 +19,7 @@ use interpret::parse_i64;
 use interpret::to_bool;
 use matcher::Row;
 use matcher::last_part;
+use matcher::longer;
 use matcher::match_key;
 use matcher::may_match;
 use matcher::wins;
@@ -39,12 +40,6 @@ pub enum Lookup {
 struct Best {
     row: Row,
     entry: usize,
-}
-
-fn longer(a: usize, b: usize) -> usize
-    ensures { λ r. ⌜ r ≡ max a b ⌝ }
-{
-    if a < b { b } else { a }
 }
 
 // Entry `entry` with that key after those passed so far.

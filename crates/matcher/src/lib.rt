@@ -16,11 +16,9 @@ ghost use Rattle.query.specs.Splits.{Inside};
 ghost use Rattle.matcher.specs.Rows.{rowIn, bestIn, markIn, skipOf, extended, Clear, Continued};
 ghost use Rattle.matcher.specs.Keys.{notBinding, partBetween, Bounded};
 ghost use Rattle.matcher.specs.Places.{placeOf, placed, Within, positionIn, queried};
+use image::MOST_PARTS;
 use query::QUERY_PARTS;
 use query::Split;
-
-// The most parts of a key.
-const KEY_PARTS: usize = 16;
 
 // A row of marks, one for each position passed, if there is one. The marks after them are 0.
 pub struct Row {
@@ -30,7 +28,7 @@ pub struct Row {
 
 // A key's parts in its bytes: part i stands from bound i, where its binding is, up to bound i + 1.
 pub struct Key {
-    pub bounds: [usize; KEY_PARTS + 1],
+    pub bounds: [usize; MOST_PARTS + 1],
     pub count: usize,
 }
 
@@ -164,7 +162,7 @@ fn split_key(key: &[u8]) -> Key
     requires { ⌜ isKey (now key) ≡ true ⌝ }
     ensures { λ r. ⌜ Bounded (now (key .entry)) r ⌝ }
 {
-    let mut bounds = [0; KEY_PARTS + 1];
+    let mut bounds = [0; MOST_PARTS + 1];
     let mut count = 0;
     let mut at = 0;
     while at < key.len() {
@@ -265,7 +263,7 @@ fn check_match(
     let at = k.bounds[0];
     let binding = key[at];
     let blank = no_row();
-    let mut rows = [blank; KEY_PARTS];
+    let mut rows = [blank; MOST_PARTS];
     let first = first_row();
     rows[0] = first;
     let mut p = 0;

@@ -10,6 +10,8 @@ ghost use Rattle.parser.specs.Lined.{partsOf, EndsAt, Lined};
 ghost use Rattle.parser.specs.Putting.{Putting};
 use components::parse_components;
 use components::write_key;
+use image::MOST_ENTRIES;
+use image::MOST_PARTS;
 use image::Totals;
 use image::write_row;
 use scan::Include;
@@ -20,11 +22,6 @@ use scan::starts_with;
 use values::Value;
 use values::parse_value;
 use values::skip_blanks;
-
-// Document 01's limits on one entry.
-pub const MOST_PARTS: usize = 16;
-
-pub const MOST_ENTRIES: usize = 512;
 
 // What a line is. Its numbers count bytes from the line's start.
 pub enum Line {

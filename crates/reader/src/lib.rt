@@ -14,6 +14,8 @@ use archive::is_archive;
 use archive_find::Found;
 use archive_find::find;
 use archive_find::folder_of;
+use image::BODY_BYTES;
+use image::CONTENTS_WORDS;
 use image::Step;
 use image::Totals;
 use image::clear_bytes;
@@ -29,10 +31,6 @@ pub const MOST_OPENS: usize = 4096;
 pub const DEEPEST: usize = 100;
 
 pub const TEXT_BYTES: usize = 32768;
-
-pub const CONTENTS_WORDS: usize = 1538;
-
-pub const BODY_BYTES: usize = 32768;
 
 // Reads the file that an include of `name` from `folder` asks for, in the include's place. `depth` depths are left below the text.
 fn include(

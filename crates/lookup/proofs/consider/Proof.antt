@@ -9,7 +9,7 @@ use Rattle.lookup.proofs.consider.Statement.{statement}
 use Rattle.lookup.proofs.consider.Tie as tie
 use Rattle.lookup.proofs.consider.Reads as reads
 use Rattle.lookup.proofs.consider.Lts as lts
-use Rattle.lookup.proofs.longer.Reads as longer-reads
+use Rattle.matcher.proofs.longer.Reads as longer-reads
 use Rattle.matcher.proofs.match_key.Reads as match-key-reads
 use Rattle.matcher.proofs.wins.Reads as wins-reads
 

@@ -18,7 +18,7 @@ use Rattle.lookup.proofs.match_entry.Reads as reads
 use Rattle.lookup.proofs.match_entry.Lts as lts
 use Rattle.lookup.proofs.consider.Reads as consider-reads
 use Rattle.lookup.proofs.extent_of.Reads as extent-of-reads
-use Rattle.lookup.proofs.longer.Reads as longer-reads
+use Rattle.matcher.proofs.longer.Reads as longer-reads
 use Rattle.matcher.proofs.last_part.Reads as last-part-reads
 use Rattle.matcher.proofs.may_match.Reads as may-match-reads
 
