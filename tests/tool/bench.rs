@@ -111,9 +111,9 @@ fn show_all(room: &str) {
     readings::time_all(room);
     let compared = lookups::time_all(room);
     children::say_held(room);
-    println!("\nOf these inputs, what is read and answered otherwise than by the port:\n");
-    readings::say_differing(room);
-    compared.say();
+    let lines: Vec<String> = readings::differing(room).into_iter().chain(compared.lines()).collect();
+    println!("\nRead or answered otherwise than by the port{}", if lines.is_empty() { ": nothing." } else { ":\n" });
+    lines.iter().for_each(|line| println!("- {line}"));
 }
 
 fn list_cases(room: &str) {

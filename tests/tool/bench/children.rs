@@ -1,8 +1,9 @@
 //! What is done in processes of their own: lookups that may not end, and memory that is counted.
 
-use crate::readings;
+use crate::readings::{self, Reading};
 use crate::table::{self, Cell, ABSENT};
 use crate::Side;
+use model::limits::{BODIES_BYTES, CONTENTS_WORDS};
 use std::os::unix::process::ExitStatusExt;
 use std::process::{Command, Stdio};
 use std::time::{Duration, Instant};
@@ -73,45 +74,44 @@ fn in_use() -> usize {
     info.used + info.mapped
 }
 
-/// The process that counts: prints the bytes of heap that a reading holds, and those left when it is
-/// freed. A reading of no text comes first, for what a library sets up once.
+/// The process that counts: prints the bytes of heap that a reading holds. A reading of no text comes
+/// first, for what a library sets up once.
 pub fn count_held(case: &str, side: Side, room: &str) {
     let reading = readings::find(case, room).expect("a case");
     let empty = readings::find("empty", room).expect("a case");
-    let Some(mut reader) = reading.reader(side) else { return };
+    let mut reader = reading.reader(side).expect("a side that is there");
     let mut first = empty.reader(side).expect("a reader");
     first.read();
     first.free();
     let before = in_use();
     reader.read();
-    let held = in_use() - before;
-    reader.free();
-    println!("{held} {}", in_use() - before);
+    println!("{}", in_use() - before);
 }
 
 /// The heap of a reading, counted in a process without malloc's caches, whose blocks count as used.
-fn held(case: &str, side: Side, room: &str) -> [Cell; 2] {
-    let output = this_program(&["held", &format!("{case}/{}", side.name()), room])
+fn held(reading: &Reading, side: Side, room: &str) -> Cell {
+    if reading.reader(side).is_none() {
+        return ABSENT;
+    }
+    let output = this_program(&["held", &format!("{}/{}", reading.case.name, side.name()), room])
         .env("GLIBC_TUNABLES", "glibc.malloc.tcache_count=0")
+        .stderr(Stdio::inherit())
         .output()
         .expect("a process");
     if !output.status.success() {
-        return [CRASHED; 2];
+        return CRASHED;
     }
-    let text = String::from_utf8(output.stdout).expect("numbers");
-    let mut numbers = text.split_whitespace().map(|word| Cell::Figure(word.parse().expect("a number")));
-    [numbers.next().unwrap_or(ABSENT), numbers.next().unwrap_or(ABSENT)]
+    let text = String::from_utf8(output.stdout).expect("a number");
+    Cell::Figure(text.trim().parse().expect("a number"))
 }
 
+/// The port's are the two lent buffers, and it has no heap.
 pub fn say_held(room: &str) {
-    let lent = 2 * model::limits::CONTENTS_WORDS + model::limits::BODIES_BYTES;
-    table::head("Memory after a reading", "bytes", &readings::OTHERS);
+    let lent = Cell::Figure((2 * CONTENTS_WORDS + BODIES_BYTES) as f64);
+    table::head("Held after a reading", "bytes", &readings::OTHERS);
     for reading in readings::all(room) {
-        let (case, what) = (reading.case.name, reading.case.what);
-        let [ports, _] = held(case, Side::Port, room);
-        assert!(matches!(ports, Cell::Figure(0.0)), "the port has a heap");
-        let others = readings::OTHERS.map(|side| held(case, side, room));
-        table::row(what, Cell::Figure(lent as f64), &others.map(|[held, _]| held));
-        table::row(&format!("{what}, then freed"), Cell::Figure(lent as f64), &others.map(|[_, left]| left));
+        assert!(matches!(held(&reading, Side::Port, room), Cell::Figure(0.0)), "the port has a heap");
+        let others = readings::OTHERS.map(|side| held(&reading, side, room));
+        table::row(reading.case.what, lent, &others);
     }
 }

@@ -36,7 +36,8 @@ const QUERIES_FOUND: usize = 6_169;
 
 pub fn questions() -> Vec<Questions> {
     let keys = keys();
-    let text: Vec<u8> = keys.iter().map(|key| format!("{}: value\n", written(key))).collect::<String>().into_bytes();
+    let line = |(n, key): (usize, &Vec<Part>)| format!("{}: value {n}\n", written(key));
+    let text: Vec<u8> = keys.iter().enumerate().map(line).collect::<String>().into_bytes();
     let one = |name: &'static str, what, found| Questions {
         name,
         what,
@@ -97,7 +98,7 @@ fn costliest() -> Questions {
     Questions {
         name: "costliest",
         what: "512 keys of fifteen `*?` and `*a`, a name of 32 parts `a`",
-        text: format!("{}*a:\n", "*?".repeat(15)).repeat(ENTRIES).into_bytes(),
+        text: format!("{}*a: 1\n", "*?".repeat(15)).repeat(ENTRIES).into_bytes(),
         entries: ENTRIES,
         queries: vec![(["a"; QUERY_PARTS].join("."), String::new())],
         answers: Answers::Found(1),
@@ -109,7 +110,7 @@ fn costliest() -> Questions {
 fn costliest_of_different_keys(name: &'static str, what: &'static str, last_but_one: &str, found: usize) -> Questions {
     let key = |n: usize| {
         let first: String = (0..9).map(|bit| if n >> bit & 1 == 0 { "*?" } else { "*a" }).collect();
-        format!("{first}{}*{last_but_one}*a:\n", "*?".repeat(5))
+        format!("{first}{}*{last_but_one}*a: {n}\n", "*?".repeat(5))
     };
     Questions {
         name,

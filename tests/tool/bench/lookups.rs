@@ -8,7 +8,6 @@ use crate::timing::{best, Timed};
 use crate::Side;
 use model::limits::{BODIES_BYTES, CONTENTS_WORDS};
 use oracle::resource_manager::Database;
-use std::collections::BTreeMap;
 use std::ffi::CString;
 use std::hint::black_box;
 use std::time::Instant;
@@ -229,9 +228,9 @@ impl Asker for OfLibrary {
     }
 }
 
-/// How many queries each side was asked, and how many it answered otherwise than the port.
+/// What sides answered otherwise than the port, a line for each side and case.
 #[derive(Default)]
-pub struct Compared(BTreeMap<&'static str, (usize, usize)>);
+pub struct Compared(Vec<String>);
 
 impl Compared {
     fn add(&mut self, side: Side, asking: &Asking, asker: &dyn Asker) {
@@ -239,15 +238,14 @@ impl Compared {
             return;
         }
         let (ports, theirs) = (asking.values(asking), asking.values(asker));
-        let (queries, otherwise) = self.0.entry(side.title()).or_default();
-        *queries += ports.len();
-        *otherwise += ports.iter().zip(&theirs).filter(|(port, other)| port != other).count();
+        let otherwise = ports.iter().zip(&theirs).filter(|(port, other)| port != other).count();
+        if otherwise > 0 {
+            self.0.push(format!("{}, {}: {otherwise} of {} lookups", side.title(), asking.case.what, ports.len()));
+        }
     }
 
-    pub fn say(&self) {
-        for (side, (queries, otherwise)) in self.0.iter().filter(|(side, _)| **side != Side::Port.title()) {
-            println!("- {side}: of {queries} queries {otherwise} are answered otherwise");
-        }
+    pub fn lines(self) -> Vec<String> {
+        self.0
     }
 }
 

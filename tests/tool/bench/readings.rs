@@ -227,20 +227,17 @@ impl Reading {
     }
 }
 
-/// A line for each library: what it reads otherwise than the port.
-pub fn say_differing(room: &str) {
-    for side in [Side::Xlib, Side::XcbXrm].into_iter().filter(|side| side.library().is_some()) {
-        let (mut entries, mut otherwise, mut besides) = (0, 0, 0);
-        for reading in all(room) {
-            if let Some((more, others)) = reading.differing(side) {
-                entries += reading.case.entries;
-                otherwise += more;
-                besides += others;
+/// What libraries read otherwise than the port, a line for each library and case.
+pub fn differing(room: &str) -> Vec<String> {
+    let mut lines = Vec::new();
+    for reading in all(room) {
+        for side in [Side::Xlib, Side::XcbXrm] {
+            let (otherwise, besides) = reading.differing(side).unwrap_or_default();
+            if otherwise + besides > 0 {
+                let (title, what, entries) = (side.title(), reading.case.what, reading.case.entries);
+                lines.push(format!("{title}, {what}: {otherwise} of {entries} entries, and {besides} more keys"));
             }
         }
-        println!(
-            "- {}: of {entries} entries {otherwise} are read otherwise, and {besides} keys are not the port's",
-            side.title()
-        );
     }
+    lines
 }
