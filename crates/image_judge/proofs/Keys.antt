@@ -1,4 +1,4 @@
--- How `is_key` goes through a key. Assumes nothing.
+-- How `walk_key` goes through a key. Assumes nothing.
 use mathlib.Core.Bool.{Bool, true, false, _&&_, not, and-false}
 use mathlib.Core.List.{List, [], _∷_}
 use mathlib.Core.Logic.{_⊎_, inl, inr, ⊎-elim}
@@ -79,7 +79,7 @@ module _ (n : ℕ) (t : List ℕ) (p : Part) (u : List ℕ) (e : storedPartAt t 
   key-turn = ap (endsParsed n) (many-more storedPartAt stored-part-shrinks t p u e)
 
   -- the key ends here, in a name
-  key-ends : isNamed (p .component) ≡ true → u ≡ [] → n < mostParts → endsKey n t ≡ true
+  pub key-ends : isNamed (p .component) ≡ true → u ≡ [] → n < mostParts → endsKey n t ≡ true
   unfolding isEmpty endsInName storedPartAt
   key-ends h z k =
       key-turn
@@ -87,7 +87,7 @@ module _ (n : ℕ) (t : List ℕ) (p : Part) (u : List ℕ) (e : storedPartAt t 
       (ap (many storedPartAt) z ∙ many-stop storedPartAt stored-part-shrinks [] refl)
       ∙ rw (le-leb (n + 1) mostParts (omega arith)) h
 
-  key-wild : isNamed (p .component) ≡ false → endsKey n t ≡ endsKey (n + 1) u
+  pub key-wild : isNamed (p .component) ≡ false → endsKey n t ≡ endsKey (n + 1) u
   unfolding endsKey endsInName
   key-wild h = key-turn ∙ at (keyParts u) (many storedPartAt u .rest)
     where
@@ -95,7 +95,7 @@ module _ (n : ℕ) (t : List ℕ) (p : Part) (u : List ℕ) (e : storedPartAt t 
       at [] r = rw h (and-false (isEmpty r && leb (n + 1) mostParts)) ∙ sym (no-part (n + 1) r)
       at (q ∷ ps) r = two-parts n p q ps r
 
-  key-more : 0 < length u → endsKey n t ≡ endsKey (n + 1) u
+  pub key-more : 0 < length u → endsKey n t ≡ endsKey (n + 1) u
   unfolding endsKey
   key-more h = key-turn ∙ at (storedPartAt u) refl
     where
@@ -124,13 +124,13 @@ name-first (c ∷ t) h = at (isName c) refl
 name-not-wild : (c : ℕ) → isName c ≡ true → eqb c question ≡ false
 name-not-wild c k = ne-eqb c question (λ q. not-both k (ap isName q ∙ (unfold isName isDigit in refl)))
 
-component-name : (b : Binding) (u : List ℕ) → 0 < length (takeWhile isName u)
+pub component-name : (b : Binding) (u : List ℕ) → 0 < length (takeWhile isName u)
     → componentAt b u ≡ found (record { binding = b; component = name (takeWhile isName u) }) (dropWhile isName u)
 unfolding componentAt takeWhile dropWhile
 component-name b [] h = absurd (omega arith)
 component-name b (c ∷ t) h = let k = name-first (c ∷ t) h in rw (name-not-wild c k, k) refl
 
-component-wild : (b : Binding) (u : List ℕ) → 0 < length u → getD u 0 0 ≡ question
+pub component-wild : (b : Binding) (u : List ℕ) → 0 < length u → getD u 0 0 ≡ question
     → componentAt b u ≡ found (record { binding = b; component = wildcard }) (drop 1 u)
 unfolding componentAt
 component-wild b [] h e = absurd (omega arith)
@@ -145,7 +145,7 @@ component-none b (c ∷ t) h e = at (isName c) refl
     at true k = absurd (let z : suc (length (takeWhile isName t)) ≡ 0 = rw k at h in omega arith)
     at false k = rw (ne-eqb c question e, k) refl
 
-stored-part : (t : List ℕ) → isBinding (getD t 0 0) ≡ true → 0 < length t → storedPartAt t ≡ componentAt (bindingOf (getD t 0 0 ∷ [])) (drop 1 t)
+pub stored-part : (t : List ℕ) → isBinding (getD t 0 0) ≡ true → 0 < length t → storedPartAt t ≡ componentAt (bindingOf (getD t 0 0 ∷ [])) (drop 1 t)
 unfolding storedPartAt
 stored-part [] e h = absurd (omega arith)
 stored-part (c ∷ t) e h = rw e refl

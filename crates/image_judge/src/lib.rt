@@ -1,12 +1,16 @@
 // Do two lent buffers hold a database image? Every lookup asks this first, so it goes once over the bytes of the keys and looks at no
 // byte of a value.
 ghost use mathlib.Core.Path.{_≡_};
-ghost use Prim.Native.Nat.{_+_, _*_, _≤_};
-ghost use lib.ListN.{length, drop};
+ghost use mathlib.Core.Bool.{true};
+ghost use Prim.Native.Nat.{ℕ, _+_, _*_, _≤_, _<_};
+ghost use lib.ListN.{length, drop, getD};
+ghost use Rattle.definition.specs.Lists.{if_then_else_};
 ghost use Rattle.definition.specs.Limits.{rowWords};
 ghost use Rattle.definition.specs.Bytes.{isBinding};
 ghost use Rattle.definition.specs.Image.{rowsFrom, isKey, isImage};
+ghost use Rattle.image_judge.specs.Pairs.{mayFollow, bindingsIn};
 ghost use Rattle.image_judge.specs.Rows.{holds};
+use scan::allowed_in_quark_name;
 use scan::next_component;
 
 // Document 01's limits on an image.
@@ -27,8 +31,14 @@ fn is_binding(c: u8) -> bool
     }
 }
 
-// One to 16 parts, each a binding and `?` or a name, of which the last is a name.
-pub fn is_key(key: &[u8]) -> bool
+fn bit(b: bool) -> u8
+    ensures { λ r. ⌜ r ≡ (if b then 1 else 0) ⌝ }
+{
+    if b { 1 } else { 0 }
+}
+
+// One to 16 parts, each a binding and `?` or a name, of which the last is a name: part by part.
+fn walk_key(key: &[u8]) -> bool
     ensures { λ r. ⌜ r ≡ isKey (now (key .entry)) ⌝ }
 {
     let mut rest = key;
@@ -56,6 +66,98 @@ pub fn is_key(key: &[u8]) -> bool
         parts += 1;
     }
     false
+}
+
+// May `c` stand after `p` in a key? All is computed and nothing is branched on: see `run_links`.
+fn may_follow(p: u8, c: u8) -> bool
+    ensures { λ r. ⌜ r ≡ mayFollow p c ⌝ }
+{
+    let bound = is_binding(p);
+    let binding = is_binding(c);
+    let wild = p == b'?';
+    let wildcard = c == b'?';
+    let name = allowed_in_quark_name(c);
+    (binding & !bound) | (bound & wildcard) | (name & !wild)
+}
+
+// May each of the 16 bytes after the one at `at` stand after the byte before it? No test leaves the loop, so a machine may compare
+// all 16 at once.
+fn run_links(key: &[u8], at: usize) -> bool
+    requires { ⌜ at + 17 ≤ length (now key) ⌝ }
+    ensures { λ r. ⌜ (r ≡ true → (j : ℕ) → j < 16 → mayFollow (getD (now (key .entry)) (at + j) 0) (getD (now (key .entry)) (at + j + 1) 0) ≡ true) ⌝ }
+{
+    let mut links = true;
+    let mut i: usize = 0;
+    while i < 16 {
+        let link = may_follow(key[at + i], key[at + i + 1]);
+        links = links & link;
+        i += 1;
+    }
+    links
+}
+
+// The same for every byte, in runs of 17, of which the last ends with the key.
+fn all_links(key: &[u8]) -> bool
+    requires { ⌜ 17 ≤ length (now key) ⌝ }
+    ensures { λ r. ⌜ (r ≡ true → (j : ℕ) → j + 1 < length (now (key .entry)) → mayFollow (getD (now (key .entry)) j 0) (getD (now (key .entry)) (j + 1) 0) ≡ true) ⌝ }
+{
+    let last = key.len() - 17;
+    let mut at: usize = 0;
+    while at < last {
+        if !run_links(key, at) {
+            return false;
+        }
+        at += 16;
+    }
+    run_links(key, last)
+}
+
+fn count_bindings(key: &[u8]) -> u8
+    requires { ⌜ length (now key) ≤ 255 ⌝ }
+    ensures { λ r. ⌜ r ≡ bindingsIn (now (key .entry)) ⌝ }
+{
+    let mut n: u8 = 0;
+    let mut i: usize = 0;
+    while i < key.len() {
+        n += bit(is_binding(key[i]));
+        i += 1;
+    }
+    n
+}
+
+// A key for certain, by its neighbouring bytes. Short ones and long ones are left to `walk_key`. A part has two bytes or more, so
+// a key of under 34 bytes has 16 parts at most.
+fn is_plain_key(key: &[u8]) -> bool
+    ensures { λ r. ⌜ (r ≡ true → isKey (now (key .entry)) ≡ true) ⌝ }
+{
+    let n = key.len();
+    if n < 17 {
+        return false;
+    }
+    if 255 < n {
+        return false;
+    }
+    if !is_binding(key[0]) {
+        return false;
+    }
+    if !allowed_in_quark_name(key[n - 1]) {
+        return false;
+    }
+    if 33 < n {
+        if 16 < count_bindings(key) {
+            return false;
+        }
+    }
+    all_links(key)
+}
+
+pub fn is_key(key: &[u8]) -> bool
+    ensures { λ r. ⌜ r ≡ isKey (now (key .entry)) ⌝ }
+{
+    if is_plain_key(key) {
+        return true;
+    }
+    walk_key(key)
 }
 
 // Are keys and values packed from 0 up to `used`, and is each key one? A row that reaches past `used` ends the test, so every key

@@ -11,14 +11,12 @@ ghost use Rattle.definition.specs.Lookup.{lookup, getBytes};
 ghost use Rattle.definition.specs.Value.{getString, getBool, getValue, shown};
 ghost use Rattle.query.specs.Splits.{namesIn, Inside};
 ghost use Rattle.matcher.specs.Rows.{bestIn};
-ghost use Rattle.matcher.specs.Places.{placeOf};
 ghost use Rattle.lookup.specs.Replies.{replied, truthReplied, valueReplied, bothShapes, Extends};
 use image_judge::is_image;
 use interpret::Number;
 use interpret::is_utf8;
 use interpret::parse_i64;
 use interpret::to_bool;
-use matcher::Place;
 use matcher::Row;
 use matcher::last_part;
 use matcher::match_key;
@@ -49,24 +47,19 @@ fn longer(a: usize, b: usize) -> usize
     if a < b { b } else { a }
 }
 
-// Entry `entry` with that key after those passed so far. `n` and `c` are what name and class have at the last position.
+// Entry `entry` with that key after those passed so far.
 fn consider(
     key: &[u8],
     name: &[u8],
     names: Split,
-    n: Place,
     class: &[u8],
     classes: Split,
-    c: Place,
     entry: usize,
     best: Best,
 ) -> Best
-    requires { ⌜ (isKey (now key) ≡ true) × Inside (now name) names × Inside (now class) classes × (n ≡ placeOf names (max (names .count) (classes .count) - 1)) × (c ≡ placeOf classes (max (names .count) (classes .count) - 1)) ⌝ }
+    requires { ⌜ (isKey (now key) ≡ true) × Inside (now name) names × Inside (now class) classes ⌝ }
     ensures { λ r. ⌜ bestIn (max (names .count) (classes .count)) (r .entry) (r .row) ≡ better entry (rankOf (keyParts (now (key .entry))) (positionsOf (namesIn (now (name .entry)) names) (namesIn (now (class .entry)) classes))) (bestIn (max (names .count) (classes .count)) (best .entry) (best .row)) ⌝ }
 {
-    if !may_match(key, name, n, class, c) {
-        return best;
-    }
     let row = match_key(key, name, names, class, classes);
     let len = longer(names.count, classes.count);
     let other = best.row;
@@ -122,17 +115,11 @@ fn match_entry(
         let here = extent_of(contents, i);
         let start = here.key;
         let end = here.value;
-        best = consider(
-            &bodies[start..end],
-            name,
-            names,
-            n,
-            class,
-            classes,
-            c,
-            i,
-            best,
-        );
+        let key = &bodies[start..end];
+        // Few keys end as the query does. For the others nothing is copied.
+        if may_match(key, name, n, class, c) {
+            best = consider(key, name, names, class, classes, i, best);
+        }
         i += 1;
     }
     let row = best.row;
