@@ -7,7 +7,7 @@ help:
 	@echo 'make recorded-antt  prints the short recorded answers as rows for the prover'
 	@echo 'make beside SEED=n  compares the model and the Rust alone, with another seed'
 	@echo 'make port SEED=n    compares the port with both alone, with another seed; TIMES=n draws more'
-	@echo 'make bench          times the port and the Rust; COUNT=1 counts instructions too'
+	@echo 'make bench          times the port, the Rust, Xlib and xcb-xrm; COUNT=1 counts instructions too'
 
 test:
 	@tests/run

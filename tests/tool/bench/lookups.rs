@@ -234,7 +234,7 @@ pub struct Compared(Vec<String>);
 
 impl Compared {
     fn add(&mut self, side: Side, asking: &Asking, asker: &dyn Asker) {
-        if matches!(asking.case.answers, Answers::Refused(_)) {
+        if side == Side::Port {
             return;
         }
         let (ports, theirs) = (asking.values(asking), asking.values(asker));

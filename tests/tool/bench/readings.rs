@@ -168,16 +168,12 @@ impl<D, R: Fn() -> D, L: Fn(&D) -> Vec<Entry>> Reader for Holding<D, R, L> {
 }
 
 /// The Rust's entries.
-fn list(database: &Database) -> Vec<Entry> {
+pub fn list(database: &Database) -> Vec<Entry> {
     let part = |(loose, name): &(bool, Option<String>)| {
         format!("{}{}", if *loose { '*' } else { '.' }, name.as_deref().unwrap_or("?")).into_bytes()
     };
     let written = |key: &[(bool, Option<String>)]| key.iter().flat_map(part).collect();
     entries_of(database).into_iter().map(|(key, value)| (written(&key), value)).collect()
-}
-
-pub fn entries_of_text(text: &[u8]) -> Vec<Entry> {
-    list(&Database::new_from_data(text))
 }
 
 /// The time of so many calls, each timed alone. What was read is freed with the clock stopped.
