@@ -127,20 +127,20 @@ fn list_cases(room: &str) {
     }
 }
 
-/// Prepares a case for a side, and hands on the work: lookups, or a reading that is not the first.
+/// Prepares a case for a side, and hands on the work: a reading that is not the first, or lookups.
 fn with_work(case: &str, side: Side, room: &str, hand_on: &mut dyn FnMut(&mut dyn FnMut())) {
-    if let Some(asking) = lookups::find(case) {
-        let asker = asking.asker(side).expect("a side that is there");
-        return hand_on(&mut || asker.ask(asking.counted()));
+    if let Some(reading) = readings::find(case, room) {
+        let mut reader = reading.reader(side).expect("a side that is there");
+        let mut call = || {
+            reader.read();
+            reader.free();
+        };
+        call();
+        return hand_on(&mut call);
     }
-    let reading = readings::find(case, room).expect("a case");
-    let mut reader = reading.reader(side).expect("a side that is there");
-    let mut call = || {
-        reader.read();
-        reader.free();
-    };
-    call();
-    hand_on(&mut call);
+    let asking = lookups::find(case).expect("a case");
+    let asker = asking.asker(side).expect("a side that is there");
+    hand_on(&mut || asker.ask(asking.counted()));
 }
 
 /// What an instruction counter counts.
