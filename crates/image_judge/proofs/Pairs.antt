@@ -145,13 +145,17 @@ ran c (d ∷ v) n e = let l = and-true (mayFollow c d) (linked d v) e in at (l .
     at : mayFollow c d ≡ true → linked d v ≡ true → (isName d ≡ true → Ran v) → (b : Bool) → isName d ≡ b → Ran (d ∷ v)
     at f l ih true m =
         ⊎-elim (λ z. inl (rw m z))
-        (λ g. inr (g .0, g .1, record {
-          rest = rw m (g .2 .rest);
-          bound = g .2 .bound;
-          links = g .2 .links;
-          fewer = rw (name-no-binding d m) (omega (arith, g .2 .fewer));
-          shorter = omega (arith, g .2 .shorter);
-        }))
+        (λ g. inr (
+          g .0,
+          g .1,
+          record {
+            rest = rw m (g .2 .rest);
+            bound = g .2 .bound;
+            links = g .2 .links;
+            fewer = rw (name-no-binding d m) (omega (arith, g .2 .fewer));
+            shorter = omega (arith, g .2 .shorter);
+          },
+        ))
         (ih m)
     at f l ih false m =
         let b = after-name c d n m f in
@@ -187,10 +191,10 @@ module _ (k : ℕ) (go : Ends k) (n p c : ℕ) (u : List ℕ) (s : suc (length u
       let q : Part = record { binding = bindingOf (p ∷ []); component = name (takeWhile isName (c ∷ u)) } in
       ⊎-elim (λ z. key-ends n (p ∷ c ∷ u) q (dropWhile isName (c ∷ u)) f refl (o ∙ z) (omega arith))
       (λ (x : (d : ℕ) × (v : List ℕ) × Goes u d v).
-        let y = o ∙ x .2 .rest in
-        let y' : length (dropWhile isName (c ∷ u)) ≡ suc (length (x .1)) = ap length y in
-        key-more n (p ∷ c ∷ u) q (dropWhile isName (c ∷ u)) f (omega arith)
-        ∙ rw y (go (n + 1) (x .0) (x .1) (omega (arith, x .2 .shorter)) (x .2 .bound) (x .2 .links) (omega (arith, x .2 .fewer))))
+      let y = o ∙ x .2 .rest in
+      let y' : length (dropWhile isName (c ∷ u)) ≡ suc (length (x .1)) = ap length y in
+      key-more n (p ∷ c ∷ u) q (dropWhile isName (c ∷ u)) f (omega arith)
+      ∙ rw y (go (n + 1) (x .0) (x .1) (omega (arith, x .2 .shorter)) (x .2 .bound) (x .2 .links) (omega (arith, x .2 .fewer))))
       (ran c u m l)
 
 sound : (k : ℕ) → Ends k

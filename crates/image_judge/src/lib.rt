@@ -6,11 +6,10 @@ ghost use Prim.Native.Nat.{ℕ, _+_, _*_, _≤_, _<_};
 ghost use lib.ListN.{length, drop, getD};
 ghost use Rattle.definition.specs.Lists.{if_then_else_};
 ghost use Rattle.definition.specs.Limits.{rowWords};
-ghost use Rattle.definition.specs.Bytes.{isBinding};
+ghost use Rattle.definition.specs.Bytes.{isBinding, isName};
 ghost use Rattle.definition.specs.Image.{rowsFrom, isKey, isImage};
 ghost use Rattle.image_judge.specs.Pairs.{mayFollow, bindingsIn};
 ghost use Rattle.image_judge.specs.Rows.{holds};
-use scan::allowed_in_quark_name;
 use scan::next_component;
 
 // Document 01's limits on an image.
@@ -68,7 +67,18 @@ fn walk_key(key: &[u8]) -> bool
     false
 }
 
-// May `c` stand after `p` in a key? All is computed and nothing is branched on: see `run_links`.
+// As `scan::allowed_in_quark_name`, but all is computed and nothing is branched on: see `run_links`.
+fn is_name_byte(c: u8) -> bool
+    ensures { λ r. ⌜ r ≡ isName c ⌝ }
+{
+    (c >= b'A') & (c <= b'Z')
+        | (c >= b'a') & (c <= b'z')
+        | (c >= b'0') & (c <= b'9')
+        | (c == b'_')
+        | (c == b'-')
+}
+
+// May `c` stand after `p` in a key?
 fn may_follow(p: u8, c: u8) -> bool
     ensures { λ r. ⌜ r ≡ mayFollow p c ⌝ }
 {
@@ -76,7 +86,7 @@ fn may_follow(p: u8, c: u8) -> bool
     let binding = is_binding(c);
     let wild = p == b'?';
     let wildcard = c == b'?';
-    let name = allowed_in_quark_name(c);
+    let name = is_name_byte(c);
     (binding & !bound) | (bound & wildcard) | (name & !wild)
 }
 
@@ -140,7 +150,7 @@ fn is_plain_key(key: &[u8]) -> bool
     if !is_binding(key[0]) {
         return false;
     }
-    if !allowed_in_quark_name(key[n - 1]) {
+    if !is_name_byte(key[n - 1]) {
         return false;
     }
     if 33 < n {

@@ -32,11 +32,12 @@ pub enum Answers {
 
 const QUERIES: usize = 10_000;
 /// How many of those find a value; half are drawn to.
-const QUERIES_FOUND: usize = 6_169;
+const QUERIES_FOUND: usize = 5_838;
 
 pub fn questions() -> Vec<Questions> {
     let keys = keys();
-    let line = |(n, key): (usize, &Vec<Part>)| format!("{}: value {n}\n", written(key));
+    // Each entry has a value of its own, which tells it from the others.
+    let line = |(n, key): (usize, &Vec<Part>)| format!("{}: value{n}\n", written(key));
     let text: Vec<u8> = keys.iter().enumerate().map(line).collect::<String>().into_bytes();
     let one = |name: &'static str, what, found| Questions {
         name,
@@ -208,16 +209,14 @@ fn written(key: &[Part]) -> String {
     key.iter().map(part).collect()
 }
 
-/// Every other query is made from a key, which it meets if it is not too long for it; the rest are drawn freely.
+/// Every other query is made from a key, which it then meets, if that gives it 3 parts or more; the rest are drawn freely.
 fn queries(keys: &[Vec<Part>]) -> Vec<(String, String)> {
     let mut draw = Draw::new(1, "queries");
     let mut query = |n: usize| {
         let length = draw.between(3, 6);
-        let mut words: Vec<&str> = (0..length).map(|_| draw.pick(&WORDS)).collect();
-        if n % 2 == 0 {
-            let key = &keys[draw.below(keys.len())];
-            words = meeting(key, length, &words);
-        }
+        let free: Vec<&str> = (0..length).map(|_| draw.pick(&WORDS)).collect();
+        let met = meeting(&keys[draw.below(keys.len())], length, &free);
+        let words = if n % 2 == 0 && met.len() >= 3 { met } else { free };
         let classes: Vec<String> = words.iter().map(|word| class_of(word)).collect();
         (words.join("."), classes.join("."))
     };

@@ -70,8 +70,8 @@ returns-2 c =
     let loop-test-here = c .before in
     let run-links2-here = c in
     λ e j h.
-      run-next (λ (j : ℕ). mayFollow (getD key j 0) (getD key (j + 1) 0)) (loop-here .loop .at) (length key - 17) 16 (loop-test-here .loop-test .left) (loop-here .loop .inv)
-      (run-links2-here .run-links2 .ensures e) j (omega (arith, start-here .pre, h))
+    run-next (λ (j : ℕ). mayFollow (getD key j 0) (getD key (j + 1) 0)) (loop-here .loop .at) (length key - 17) 16 (loop-test-here .loop-test .left) (loop-here .loop .inv)
+    (run-links2-here .run-links2 .ensures e) j (omega (arith, start-here .pre, h))
 
 pub all-links-spec : {M : Type 1} → statement M
 all-links-spec =

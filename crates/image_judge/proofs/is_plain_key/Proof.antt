@@ -13,7 +13,7 @@ use Rattle.image_judge.proofs.is_plain_key.Lts as lts
 use Rattle.image_judge.proofs.all_links.Reads as all-links-reads
 use Rattle.image_judge.proofs.count_bindings.Reads as count-bindings-reads
 use Rattle.image_judge.proofs.is_binding.Reads as is-binding-reads
-use Rattle.scan.proofs.allowed_in_quark_name.Reads as allowed-in-quark-name-reads
+use Rattle.image_judge.proofs.is_name_byte.Reads as is-name-byte-reads
 
 -- src/lib.rt:135:9
 returns : tie.Need-returns
@@ -36,16 +36,16 @@ returns-3 : tie.Need-returns-3
 returns-3 c = λ e. absurd (not-both e refl)
 
 -- src/lib.rt:143:35
-sub-allowed-in-quark-name : tie.Need-sub-allowed-in-quark-name
-sub-allowed-in-quark-name c = search needs
+sub-is-name-byte : tie.Need-sub-is-name-byte
+sub-is-name-byte c = search needs
 
 -- src/lib.rt:143:31
-shared-slice-read-allowed-in-quark-name : tie.Need-shared-slice-read-allowed-in-quark-name
-shared-slice-read-allowed-in-quark-name c = search needs
+shared-slice-read-is-name-byte : tie.Need-shared-slice-read-is-name-byte
+shared-slice-read-is-name-byte c = search needs
 
 -- src/lib.rt:143:9
-allowed-in-quark-name-requires : tie.Need-allowed-in-quark-name-requires
-allowed-in-quark-name-requires c κs = search needs
+is-name-byte-requires : tie.Need-is-name-byte-requires
+is-name-byte-requires c κs = search needs
 
 -- src/lib.rt:144:9
 returns-4 : tie.Need-returns-4
@@ -71,13 +71,13 @@ returns-6 c =
     let if1-here = c .before .before .before .before .before .before .before .before .before in
     let is-binding-here = c .before .before .before .before .before .before in
     let if3-here = c .before .before .before .before .before in
-    let allowed-in-quark-name-here = c .before .before .before in
+    let is-name-byte-here = c .before .before .before in
     let if4-here = c .before .before in
     let if5-here = c .before in
     let all-links-here = c in
     λ e. key-linked key (omega (arith, if1-here .if1 .left))
     (sym (is-binding-here .is-binding .ensures) ∙ not-false _ (if3-here .if3 .left))
-    (sym (allowed-in-quark-name-here .allowed-in-quark-name .ensures) ∙ not-false _ (if4-here .if4 .left))
+    (sym (is-name-byte-here .is-name-byte .ensures) ∙ not-false _ (if4-here .if4 .left))
     (all-links-here .all-links .ensures e)
     (⊎-elim (λ w. inr (omega (arith, w .1 .ensures, w .2 .left))) (λ w. inl (omega (arith, w .left))) (if5-here .if5 .came))
 
@@ -90,9 +90,9 @@ is-plain-key-spec =
     shared-slice-read-is-binding
     is-binding-requires
     returns-3
-    sub-allowed-in-quark-name
-    shared-slice-read-allowed-in-quark-name
-    allowed-in-quark-name-requires
+    sub-is-name-byte
+    shared-slice-read-is-name-byte
+    is-name-byte-requires
     returns-4
     count-bindings-requires
     returns-5

@@ -63,9 +63,10 @@ loop-again c =
     let a = start-here .args in
     let loop-here = c .before .before .before .before in
     let loop-test-here = c .before .before .before in
-    let i = loop-here .loop .i in
-    (omega (arith, loop-test-here .loop-test .taken),
-     and-next (λ (j : ℕ). mayFollow (getD (a .key .now) (a .at + j) 0) (getD (a .key .now) (a .at + j + 1) 0)) (loop-here .loop .links) (c .may-follow .result) i (loop-here .loop .inv .1) (c .may-follow .ensures))
+    let i = loop-here .loop .i in (
+      omega (arith, loop-test-here .loop-test .taken),
+      and-next (λ (j : ℕ). mayFollow (getD (a .key .now) (a .at + j) 0) (getD (a .key .now) (a .at + j + 1) 0)) (loop-here .loop .links) (c .may-follow .result) i (loop-here .loop .inv .1) (c .may-follow .ensures),
+    )
 
 -- src/lib.rt:85:1
 returns : tie.Need-returns Inv-loop μ-loop
