@@ -10,7 +10,7 @@ help:
 	@echo 'make beside SEED=n  compares the model and the Rust alone, with another seed'
 	@echo 'make port SEED=n    compares the port with both alone, with another seed; TIMES=n draws more'
 	@echo 'make fuzz SECONDS=n fuzzes the Rust crate beside the model and the Rust; SEED=n draws the same again'
-	@echo 'make bench          times the port and the Rust; COUNT=1 counts instructions too'
+	@echo 'make bench          times the port, the Rust, Xlib and xcb-xrm; COUNT=1 counts instructions too'
 
 test:
 	@tests/run

@@ -12,8 +12,16 @@ pub struct Questions {
     pub queries: Vec<(String, String)>,
     /// What is answered, query by query: so many values, nothing, or a refusal.
     pub answers: Answers,
-    /// The Rust answers too.
-    pub both: bool,
+    /// Who is asked.
+    pub asked: Asked,
+}
+
+#[derive(Clone, Copy, PartialEq)]
+pub enum Asked {
+    ThePort,
+    All,
+    /// All, each in a process of its own first: some do not end.
+    AllThatEnd,
 }
 
 #[derive(Clone, Copy, Debug, PartialEq)]
@@ -38,16 +46,16 @@ pub fn questions() -> Vec<Questions> {
         entries: 1,
         queries: vec![(format!("app.reader.page.{}", if found { "font" } else { "size" }), "App.Reader.Page.Any".to_string())],
         answers: Answers::Found(found.into()),
-        both: true,
+        asked: Asked::All,
     };
-    let alone = |name, what, query: (String, &str), answers| Questions {
+    let single = |name, what, query: (String, &str), answers, asked| Questions {
         name,
         what,
         text: text.clone(),
         entries: ENTRIES,
         queries: vec![(query.0, query.1.to_string())],
         answers,
-        both: false,
+        asked,
     };
     vec![
         Questions {
@@ -57,23 +65,32 @@ pub fn questions() -> Vec<Questions> {
             entries: ENTRIES,
             queries: queries(&keys),
             answers: Answers::Found(QUERIES_FOUND),
-            both: true,
+            asked: Asked::All,
         },
         one("one-found", "1 entry, found", true),
         one("one-none", "1 entry, not found", false),
-        alone(
+        single(
             "judging",
             "512 entries, a name that is too long: the image is judged",
             ("a".repeat(QUERY_BYTES + 1), ""),
             Answers::Refused(9),
+            Asked::ThePort,
         ),
-        alone(
+        single(
             "no-ending",
             "512 entries, none ends as the query does",
             ("desk.left.zzz".to_string(), "Desk.Left.Zzz"),
             Answers::Found(0),
+            Asked::All,
         ),
         costliest(),
+        costliest_of_different_keys("costliest-different", "512 different keys of that kind, found", "?", 1),
+        costliest_of_different_keys(
+            "costliest-none",
+            "512 different keys of that kind, with a `*b` before the end: not found",
+            "b",
+            0,
+        ),
     ]
 }
 
@@ -82,11 +99,26 @@ fn costliest() -> Questions {
     Questions {
         name: "costliest",
         what: "512 keys of fifteen `*?` and `*a`, a name of 32 parts `a`",
-        text: format!("{}*a:\n", "*?".repeat(15)).repeat(ENTRIES).into_bytes(),
+        text: format!("{}*a: 1\n", "*?".repeat(15)).repeat(ENTRIES).into_bytes(),
         entries: ENTRIES,
         queries: vec![(["a"; QUERY_PARTS].join("."), String::new())],
         answers: Answers::Found(1),
-        both: false,
+        asked: Asked::AllThatEnd,
+    }
+}
+
+/// As above, with keys that no library takes for one: of each nine parts are `?` or `a`.
+fn costliest_of_different_keys(name: &'static str, what: &'static str, last_but_one: &str, found: usize) -> Questions {
+    let key = |n: usize| {
+        let first: String = (0..9).map(|bit| if n >> bit & 1 == 0 { "*?" } else { "*a" }).collect();
+        format!("{first}{}*{last_but_one}*a: {n}\n", "*?".repeat(5))
+    };
+    Questions {
+        name,
+        what,
+        text: (0..ENTRIES).map(key).collect::<String>().into_bytes(),
+        answers: Answers::Found(found),
+        ..costliest()
     }
 }
 
