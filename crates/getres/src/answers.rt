@@ -75,8 +75,8 @@ pub fn put_line(label: &[u8], file: &[u8], found: Lookup, bodies: &[u8], out: &m
     put_words(found, bodies, out, end)
 }
 
-// Puts the words of a refusal at the start of `out`. Only 2 to 10 but 8 come up here: the buffers are long enough and hold what
-// was read.
+// Puts the words of a refusal at the start of `out`. 1, 3 and 8 do not come up here: the buffers are long enough and hold what was
+// read, and the archive is laid out.
 pub fn put_refusal(number: u8, out: &mut [u8]) -> usize
     requires { ⌜ 80 ≤ length (now out) ⌝ }
     ensures { λ r. ⌜ (r ≤ length (now (out .exit))) × (take r (now (out .exit)) ≡ refusalOf number) ⌝ }
