@@ -15,12 +15,12 @@ use Rattle.archive.proofs.Walk.{length-files}
 
 -- ---- The bytes of files one after another
 
-lengths-append : (fs gs : List File) → lengthsOf (fs ++ gs) ≡ lengthsOf fs ++ lengthsOf gs
+pub lengths-append : (fs gs : List File) → lengthsOf (fs ++ gs) ≡ lengthsOf fs ++ lengthsOf gs
 unfolding lengthsOf
 lengths-append [] gs = refl
 lengths-append (f ∷ fs) gs = rw (lengths-append fs gs) refl
 
-bodies-append : (fs gs : List File) → bodiesOf (fs ++ gs) ≡ bodiesOf fs ++ bodiesOf gs
+pub bodies-append : (fs gs : List File) → bodiesOf (fs ++ gs) ≡ bodiesOf fs ++ bodiesOf gs
 unfolding bodiesOf
 bodies-append [] gs = refl
 bodies-append (f ∷ fs) gs = rw (bodies-append fs gs) (sym (append-assoc (f .name ++ f .body) (bodiesOf fs) (bodiesOf gs)))
@@ -45,7 +45,7 @@ archive-cut fs f gs =
     (regroup (bytesOf (length (fs ++ f ∷ gs))) (lengthsOf fs) (rowOf f) (lengthsOf gs) (bodiesOf fs) ((f .name ++ f .body) ++ bodiesOf gs))
 
 -- a stretch of a list
-part-at : (p x q : List ℕ) (a n : ℕ) → length p ≡ a → length x ≡ n → take n (drop a (p ++ (x ++ q))) ≡ x
+pub part-at : (p x q : List ℕ) (a n : ℕ) → length p ≡ a → length x ≡ n → take n (drop a (p ++ (x ++ q))) ≡ x
 part-at p x q a n h k = rw (drop-at p (x ++ q) a h) (take-at x q n k)
 
 number-at : (p q : List ℕ) (x y a : ℕ) → length p ≡ a → numberAt (p ++ x ∷ y ∷ q) a ≡ x + 256 * y

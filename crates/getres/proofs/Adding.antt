@@ -7,17 +7,17 @@ use native.Mathlib.Numerals.{add-one}
 use native.Mathlib.Omega.{arith}
 use lib.Dec.{leb, ltb}
 use lib.ListN.{length, take, drop, length-append, length-drop, take-append-drop}
-use lib.Seq.{paste, take-paste, take-length, take-at, drop-at, length-take-le}
+use lib.Seq.{length-take-le}
 use borrow.Author.Tests.{leb-true, le-leb, lt-leb, le-ltb, lt-ltb, not-true, ltb-false, leb-false}
 use Rattle.definition.specs.Lists.{if_then_else_, all, any, same, lower}
 use Rattle.definition.specs.Limits.{archiveBytes, archiveFiles, fileNameBytes}
 use Rattle.definition.specs.Archive.{File, bytesOf, lengthsOf, bodiesOf, archiveOf, numberAt, filesOf, split, isNamePart, isFileName, rising, laidOut}
 use Rattle.definition.specs.Evaluation.{definition}
 use Rattle.laws.proofs.Lists.{not-both, and-true, and-both, same-eq, same-refl, eq-same, same-sym, lower-differ, not-lower-equal, all-map}
-use Rattle.laws.proofs.Archive.{length-lengths, length-archive, files-archive, laidOut-says, says-laidOut, laidOut-archive, rising-first, rising-rest}
+use Rattle.laws.proofs.Archive.{length-lengths, length-archive, files-archive, laidOut-says, says-laidOut, laidOut-archive, rising-first, rising-rest, rising-cons}
 use Rattle.archive.proofs.Walk.{Standing, filesLeft, fitsLeft, fileHere, files-first, files-turn, files-end, fits-left, fits-next, row-in, laid-fits, length-files, part-name}
 use Rattle.archive_find.specs.Striking.{placeOf}
-use Rattle.archive_find.proofs.Striking.{place-first, place-next, place-low, rows-room}
+use Rattle.archive_find.proofs.Striking.{lengths-append, bodies-append, part-at, place-first, place-next, place-low, rows-room}
 use Rattle.getres.specs.Adding.{fileOf, below, onIt, numberOf, Slots, inserted, Adding, laid, notAName, again, tooMany, tooLarge, adding}
 
 abbrev pub names : List File → List (List ℕ)
@@ -200,11 +200,6 @@ all-inserted p f (g ∷ gs) h k =
     at true ih = ih
     at false ih = and-both h k
 
-rising-cons : (f : File) (fs : List File) → all (λ g. lower (f .name) (g .name)) fs ≡ true → rising (names fs) ≡ true → rising (names (f ∷ fs)) ≡ true
-unfolding rising all
-rising-cons f [] h k = refl
-rising-cons f (g ∷ gs) h k = and-both (and-true (lower (f .name) (g .name)) (all (λ e. lower (f .name) (e .name)) gs) h .0) k
-
 rising-inserted : (f : File) (fs : List File) → rising (names fs) ≡ true → onIt (f .name) fs ≡ false → rising (names (inserted f fs)) ≡ true
 unfolding inserted rising
 rising-inserted f [] h k = refl
@@ -220,21 +215,12 @@ rising-inserted f (g ∷ gs) h k = at (lower (g .name) (f .name)) refl (rising-i
     at : (b : Bool) → lower (g .name) (f .name) ≡ b → (onIt (f .name) gs ≡ false → rising (names (inserted f gs)) ≡ true)
         → rising (names (if b then g ∷ inserted f gs else f ∷ g ∷ gs)) ≡ true
     at true e ih =
-        rising-cons g (inserted f gs) (all-inserted (λ x. lower (g .name) (x .name)) f gs e above)
+        rising-cons (g .name) (names (inserted f gs))
+        (rw (all-map (lower (g .name)) (λ x. x .name) (inserted f gs)) (all-inserted (λ x. lower (g .name) (x .name)) f gs e above))
         (ih (sym (on-passed (f .name) g gs e) ∙ k))
     at false e ih = and-both (first (lower (f .name) (g .name)) refl e) h
 
 -- ---- The bytes of files one after another
-
-lengths-append : (fs gs : List File) → lengthsOf (fs ++ gs) ≡ lengthsOf fs ++ lengthsOf gs
-unfolding lengthsOf
-lengths-append [] gs = refl
-lengths-append (f ∷ fs) gs = rw (lengths-append fs gs) refl
-
-bodies-append : (fs gs : List File) → bodiesOf (fs ++ gs) ≡ bodiesOf fs ++ bodiesOf gs
-unfolding bodiesOf
-bodies-append [] gs = refl
-bodies-append (f ∷ fs) gs = rw (bodies-append fs gs) (sym (append-assoc (f .name ++ f .body) (bodiesOf fs) (bodiesOf gs)))
 
 regroup : (h l m b t : List ℕ) → h ++ (l ++ m) ++ (b ++ t) ≡ h ++ (l ++ ((m ++ b) ++ t))
 regroup h l m b t = simp append-assoc
@@ -244,10 +230,6 @@ regroup-more h l r m b t = simp append-assoc
 
 regroup-put : (a b c d e n m t : List ℕ) → a ++ b ++ c ++ d ++ e ++ n ++ m ++ t ≡ a ++ (b ++ ((c ++ d) ++ (e ++ (n ++ m ++ t))))
 regroup-put a b c d e n m t = simp append-assoc
-
--- a stretch of a list
-part-at : (p x q : List ℕ) (a n : ℕ) → length p ≡ a → length x ≡ n → take n (drop a (p ++ (x ++ q))) ≡ x
-part-at p x q a n h k = rw (drop-at p (x ++ q) a h) (take-at x q n k)
 
 module _ (s : List ℕ) (h : laidOut s ≡ true) (j : ℕ) (k : j ≤ length (filesOf s)) where
   abbrev before : List File
@@ -415,12 +397,6 @@ module _ (s : List ℕ) (h : laidOut s ≡ true) (f : File) where
           → laid t ≡ (if not b then notAName else if onIt (f .name) (filesOf s) then again else if leb archiveFiles (length (filesOf s)) then tooMany else if ltb archiveBytes (length new) then tooLarge else laid new) → laidOut t ≡ true
       at₁ true l g = at₂ (onIt (f .name) (filesOf s)) refl l g
       at₁ false l g = absurd (let z : _≡_ {A = ℕ} 0 1 = cc in omega arith)
-
--- what is put stands after what stood before it
-pub put-at : (old new bytes : List ℕ) (at : ℕ) → at + length bytes ≤ length old → new ≡ paste old at bytes (length bytes)
-    → take (at + length bytes) new ≡ take at old ++ bytes
-put-at old new bytes at h e =
-    ap (take (at + length bytes)) e ∙ take-paste old at bytes (length bytes) (omega arith) (omega arith) ∙ ap (λ (t : List ℕ). take at old ++ t) (take-length bytes)
 
 -- what is put at the front stands there
 pub put-front : (old new bytes : List ℕ) (r n : ℕ) → n ≤ length bytes → r ≡ 0 + length (take n bytes) → take r new ≡ take 0 old ++ take n bytes → take n new ≡ take n bytes

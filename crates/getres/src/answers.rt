@@ -5,11 +5,11 @@ ghost use Prim.Native.Nat.{_+_, _≤_};
 ghost use lib.ListN.{length, take};
 ghost use Rattle.getres.specs.Showing.{shown, Inside, Answers, wordsOf, lineOf, sameShown};
 ghost use Rattle.getres.specs.Refusals.{refusalOf};
-use crate::files::put;
 use lookup::Lookup;
 use lookup::get_bytes;
 use reader::Answer;
 use reader::read;
+use scan::put;
 
 // Reads the text with the archive, and looks the query up in what was read.
 pub fn look_up(

@@ -10,7 +10,7 @@ ghost use Rattle.getres.specs.Adding.{fileOf, Slots, numberOf, inserted,
 use archive::is_file_name;
 use archive::lower;
 use archive::word_at;
-use scan::copy_in;
+use scan::put;
 
 // Where a name stands among the files: `index` files stand below it, and the name of the next begins at `at`. `taken` says
 // whether that next one has the name itself.
@@ -56,15 +56,6 @@ pub fn slot_for(archive: &[u8], name: &[u8]) -> Slot
         at,
         taken: false,
     }
-}
-
-// Puts `bytes` at `at`, and answers the place after them.
-pub fn put(bytes: &[u8], out: &mut [u8], at: usize) -> usize
-    requires { ⌜ at + length (now bytes) ≤ length (now out) ⌝ }
-    ensures { λ r. ⌜ (r ≡ at + length (now (bytes .entry))) × (take r (now (out .exit)) ≡ take at (now (out .entry)) ++ now (bytes .entry)) ⌝ }
-{
-    copy_in(bytes, out, at);
-    at + bytes.len()
 }
 
 // Puts a number in two bytes, low byte first.

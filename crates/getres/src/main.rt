@@ -22,7 +22,6 @@ use compare::compare_without;
 use files::Added;
 use files::add_file;
 use files::number_of;
-use files::put;
 use libc::STDERR_FILENO;
 use libc::STDIN_FILENO;
 use libc::STDOUT_FILENO;
@@ -34,6 +33,7 @@ use reports::print_both;
 use reports::refuse;
 use reports::say;
 use reports::write_help;
+use scan::put;
 
 // ---- Arguments
 

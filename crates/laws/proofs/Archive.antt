@@ -140,7 +140,7 @@ unfolding rising
 rising-rest n [] h = refl
 rising-rest n (m ∷ ns) h = and-true (lower n m) (rising (m ∷ ns)) h .1
 
-rising-cons : (n : List ℕ) (ns : List (List ℕ)) → all (lower n) ns ≡ true → rising ns ≡ true → rising (n ∷ ns) ≡ true
+pub rising-cons : (n : List ℕ) (ns : List (List ℕ)) → all (lower n) ns ≡ true → rising ns ≡ true → rising (n ∷ ns) ≡ true
 unfolding rising all
 rising-cons n [] h k = refl
 rising-cons n (m ∷ ns) h k = and-both (and-true (lower n m) (all (lower n) ns) h .0) k

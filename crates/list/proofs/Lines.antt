@@ -6,13 +6,6 @@ use native.Mathlib.Omega.{arith}
 use lib.ListN.{length, take}
 use Rattle.definition.specs.Bytes.{space, newline}
 use Rattle.list.specs.Listing.{decimal, wordLine, entryLine}
-use lib.Seq.{paste, take-paste, take-length}
-
--- what is put stands after what stood before it
-pub put-at : (old new bytes : List ℕ) (at : ℕ) → at + length bytes ≤ length old → new ≡ paste old at bytes (length bytes)
-    → take (at + length bytes) new ≡ take at old ++ bytes
-put-at old new bytes at h e =
-    ap (take (at + length bytes)) e ∙ take-paste old at bytes (length bytes) (omega arith) (omega arith) ∙ ap (λ (t : List ℕ). take at old ++ t) (take-length bytes)
 
 -- a line is put piece by piece
 pub word-put : (word : List ℕ) (n : ℕ) (t₁ t₂ t₃ t₄ : List ℕ) → t₁ ≡ word → t₂ ≡ t₁ ++ space ∷ [] → t₃ ≡ t₂ ++ decimal n → t₄ ≡ t₃ ++ newline ∷ []

@@ -11,16 +11,7 @@ ghost use Rattle.list.specs.Listing.{decimal, entryLine, entryLines, wor
 use libc::STDIN_FILENO;
 use libc::STDOUT_FILENO;
 use reader::Answer;
-use scan::copy_in;
-
-// Puts `bytes` at `at`, and answers the place after them.
-fn put(bytes: &[u8], out: &mut [u8], at: usize) -> usize
-    requires { ⌜ at + length (now bytes) ≤ length (now out) ⌝ }
-    ensures { λ r. ⌜ (r ≡ at + length (now (bytes .entry))) × (take r (now (out .exit)) ≡ take at (now (out .entry)) ++ now (bytes .entry)) ⌝ }
-{
-    copy_in(bytes, out, at);
-    at + bytes.len()
-}
+use scan::put;
 
 // Puts `n` in decimal at `at`, and answers the place after it.
 fn put_number(n: usize, out: &mut [u8], at: usize) -> usize

@@ -3,3 +3,4 @@ mod Bytes
 mod Texts
 pub mod Beginnings
 mod Includes
+mod Copies

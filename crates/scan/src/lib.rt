@@ -1,8 +1,9 @@
 // Bytes, runs of bytes and include directives: the common helpers and skippers of the Rust's parser; and copying.
 ghost use mathlib.Core.Path.{_≡_};
+ghost use mathlib.Core.List.{_++_};
 ghost use mathlib.Core.Option.{some, none};
 ghost use Prim.Native.Nat.{_+_, _≤_};
-ghost use lib.ListN.{length, drop};
+ghost use lib.ListN.{length, take, drop};
 ghost use lib.Seq.{paste};
 ghost use Rattle.definition.specs.Lists.{if_then_else_, takeWhile, dropWhile};
 ghost use Rattle.definition.specs.Parsing.{after};
@@ -159,4 +160,13 @@ pub fn copy_in(source: &[u8], store: &mut [u8], at: usize)
         store[at + i] = source[i];
         i += 1;
     }
+}
+
+// Puts `bytes` at `at`, and answers the place after them.
+pub fn put(bytes: &[u8], out: &mut [u8], at: usize) -> usize
+    requires { ⌜ at + length (now bytes) ≤ length (now out) ⌝ }
+    ensures { λ r. ⌜ (r ≡ at + length (now (bytes .entry))) × (take r (now (out .exit)) ≡ take at (now (out .entry)) ++ now (bytes .entry)) ⌝ }
+{
+    copy_in(bytes, out, at);
+    at + bytes.len()
 }

@@ -13,7 +13,7 @@ use Rattle.getres.proofs.add.Tie as tie
 use Rattle.getres.proofs.add.Reads as reads
 use Rattle.getres.proofs.add.Lts as lts
 use Rattle.getres.proofs.files.add_file.Reads as add-file-reads
-use Rattle.getres.proofs.files.put.Reads as put-reads
+use Rattle.scan.proofs.put.Reads as put-reads
 use Rattle.getres.proofs.reports.complain.Reads as complain-reads
 
 -- src/main.rt:144:26

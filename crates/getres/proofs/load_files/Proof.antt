@@ -13,7 +13,7 @@ use Rattle.getres.proofs.load_files.Tie as tie
 use Rattle.getres.proofs.load_files.Reads as reads
 use Rattle.getres.proofs.load_files.Lts as lts
 use Rattle.getres.proofs.arguments.nothing_asked.Reads as nothing-asked-reads
-use Rattle.getres.proofs.files.put.Reads as put-reads
+use Rattle.scan.proofs.put.Reads as put-reads
 use Rattle.getres.proofs.load_argument.Reads as load-argument-reads
 use Rattle.getres.proofs.next_argument.Reads as next-argument-reads
 use Rattle.os.proofs.arg_count.Reads as arg-count-reads

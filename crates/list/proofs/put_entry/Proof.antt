@@ -7,7 +7,7 @@ use Rattle.list.proofs.put_entry.Statement.{statement}
 use Rattle.list.proofs.put_entry.Tie as tie
 use Rattle.list.proofs.put_entry.Reads as reads
 use Rattle.list.proofs.put_entry.Lts as lts
-use Rattle.list.proofs.put.Reads as put-reads
+use Rattle.scan.proofs.put.Reads as put-reads
 use Rattle.list.proofs.put_number.Reads as put-number-reads
 
 -- src/main.rt:49:9

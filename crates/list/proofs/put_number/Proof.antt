@@ -8,7 +8,7 @@ use Rattle.list.proofs.put_number.Tie as tie
 use Rattle.list.proofs.put_number.Reads as reads
 use Rattle.list.proofs.put_number.Lts as lts
 use Rattle.io.proofs.decimal.Reads as decimal-reads
-use Rattle.list.proofs.put.Reads as put-reads
+use Rattle.scan.proofs.put.Reads as put-reads
 
 -- src/main.rt:29:9
 decimal-requires : tie.Need-decimal-requires

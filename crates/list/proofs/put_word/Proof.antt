@@ -6,7 +6,7 @@ use Rattle.list.proofs.put_word.Statement.{statement}
 use Rattle.list.proofs.put_word.Tie as tie
 use Rattle.list.proofs.put_word.Reads as reads
 use Rattle.list.proofs.put_word.Lts as lts
-use Rattle.list.proofs.put.Reads as put-reads
+use Rattle.scan.proofs.put.Reads as put-reads
 use Rattle.list.proofs.put_number.Reads as put-number-reads
 
 -- src/main.rt:38:9

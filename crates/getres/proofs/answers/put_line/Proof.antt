@@ -8,7 +8,7 @@ use Rattle.getres.proofs.answers.put_line.Tie as tie
 use Rattle.getres.proofs.answers.put_line.Reads as reads
 use Rattle.getres.proofs.answers.put_line.Lts as lts
 use Rattle.getres.proofs.answers.put_words.Reads as put-words-reads
-use Rattle.getres.proofs.files.put.Reads as put-reads
+use Rattle.scan.proofs.put.Reads as put-reads
 
 -- src/answers.rt:72:9
 put-requires : tie.Need-put-requires

@@ -8,7 +8,7 @@ use Rattle.getres.proofs.answers.put_refusal.Statement.{statement}
 use Rattle.getres.proofs.answers.put_refusal.Tie as tie
 use Rattle.getres.proofs.answers.put_refusal.Reads as reads
 use Rattle.getres.proofs.answers.put_refusal.Lts as lts
-use Rattle.getres.proofs.files.put.Reads as put-reads
+use Rattle.scan.proofs.put.Reads as put-reads
 
 -- src/answers.rt:86:18
 slice-aggregate-put : tie.Need-slice-aggregate-put

@@ -11,7 +11,7 @@ use Rattle.getres.proofs.answers.put_words.Statement.{statement}
 use Rattle.getres.proofs.answers.put_words.Tie as tie
 use Rattle.getres.proofs.answers.put_words.Reads as reads
 use Rattle.getres.proofs.answers.put_words.Lts as lts
-use Rattle.getres.proofs.files.put.Reads as put-reads
+use Rattle.scan.proofs.put.Reads as put-reads
 
 -- src/answers.rt:58:23
 enum-known-found : tie.Need-enum-known-found

@@ -13,7 +13,7 @@ use Rattle.getres.proofs.files.insert.Tie as tie
 use Rattle.getres.proofs.files.insert.Reads as reads
 use Rattle.getres.proofs.files.insert.Lts as lts
 use Rattle.archive.proofs.word_at.Reads as word-at-reads
-use Rattle.getres.proofs.files.put.Reads as put-reads
+use Rattle.scan.proofs.put.Reads as put-reads
 use Rattle.getres.proofs.files.put_word.Reads as put-word-reads
 
 -- where the slot stands

@@ -1,26 +1,26 @@
--- `getres::files::put` meets its contract. Assumes nothing.
+-- `scan::put` meets its contract. Assumes nothing.
 use mathlib.Core.Path.{refl}
-use Rattle.getres.proofs.Adding.{put-at}
+use Rattle.scan.proofs.Copies.{put-at}
 use borrow.Author.Needs.{needs}
-use Rattle.getres.proofs.files.put.Statement.{statement}
-use Rattle.getres.proofs.files.put.Tie as tie
-use Rattle.getres.proofs.files.put.Reads as reads
-use Rattle.getres.proofs.files.put.Lts as lts
+use Rattle.scan.proofs.put.Statement.{statement}
+use Rattle.scan.proofs.put.Tie as tie
+use Rattle.scan.proofs.put.Reads as reads
+use Rattle.scan.proofs.put.Lts as lts
 use Rattle.scan.proofs.copy_in.Reads as copy-in-reads
 
--- src/files.rt:66:5
+-- src/main.rt:19:5
 copy-in-requires : tie.Need-copy-in-requires
 copy-in-requires c κs = search needs
 
--- src/files.rt:67:5
+-- src/main.rt:20:5
 add-result : tie.Need-add-result
 add-result c = search needs
 
--- src/files.rt:62:1
+-- src/main.rt:15:1
 same-length : tie.Need-same-length
 same-length c = search needs
 
--- src/files.rt:62:1
+-- src/main.rt:15:1
 returns : tie.Need-returns
 returns c =
     let start-here = c .before .before .before .before .before .before in
