@@ -1,8 +1,9 @@
-.PHONY: help test demo library rust record recorded-antt beside port fuzz bench
+.PHONY: help test demo programs library rust record recorded-antt beside port fuzz bench
 
 help:
 	@echo 'make test           the gate: rt ci, then every test outside Rattle'
 	@echo 'make demo           shows the product at work'
+	@echo 'make programs       makes the programs list and getres (target/bin; crates/getres/getres runs the second)'
 	@echo 'make library        makes the static library for C and Rust (target/staticlib)'
 	@echo 'make rust           makes the static library and builds the Rust crate over it (rust, target/rust)'
 	@echo 'make record         writes the recorded answers of the Rust again (crates/replay/data)'
@@ -17,6 +18,9 @@ test:
 
 demo:
 	@tests/demo
+
+programs:
+	@rt check list getres
 
 library:
 	@tests/library

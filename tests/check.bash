@@ -1,4 +1,4 @@
-# For tests outside Rattle: 'check NAME COMMAND..' is one test. Sets bad=1 if it fails.
+# For tests outside Rattle: 'check NAME COMMAND..' is one test. If it fails, so does check, and bad is 1.
 bad=0
 
 check() {
@@ -13,5 +13,6 @@ check() {
         echo "not ok $name: $(tail -n 1 "$log" | cut -c 1-500)"
         cut -c 1-2000 "$log" | head -n 40 | sed 's/^/    /'
         bad=1
+        return 1
     fi
 }
