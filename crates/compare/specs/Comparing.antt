@@ -37,11 +37,11 @@ answering noValue b = both noValue b
 answering (refusedLookup k) b = refusedBy k
 
 module _ (c : Case) (struck : List ℕ) where
-  -- 1 for a buffer of either reading, or for less room than the archive takes; nothing has changed
+  -- 1 for less room than the archive takes, or for short buffers of the second reading; nothing has changed
   abbrev pub noRoom : Left
   noRoom = record { answer = refusedBy 1; struck = struck; contents = c .contents; bodies = c .bodies; contents′ = c .contents′; bodies′ = c .bodies′ }
 
-  -- the first reading is done
+  -- the first reading is done, or refused: by 1 for its own buffers, or by 2 to 7
   abbrev pub onlyFirst : Comparison → Left
   onlyFirst a = record { answer = a; struck = struck; contents = withFile c .contents; bodies = withFile c .bodies; contents′ = c .contents′; bodies′ = c .bodies′ }
 
