@@ -12,20 +12,6 @@ use std::ffi::CString;
 use std::hint::black_box;
 use std::time::Instant;
 
-extern "C" {
-    /// A slice passes as a pointer and a count of elements.
-    fn resource_manager_get_bytes(
-        contents: *const u16,
-        contents_length: usize,
-        bodies: *const u8,
-        bodies_length: usize,
-        name: *const u8,
-        name_length: usize,
-        class: *const u8,
-        class_length: usize,
-    ) -> u64;
-}
-
 /// How many queries of a case an instruction counter sees: it slows them fifty times.
 const COUNTED: usize = 1_000;
 
@@ -82,20 +68,7 @@ impl Asking {
     /// 0, 65535 for none, or a refusal's number in bits 0 to 15; a value's place in bits 16 to 31 and
     /// its length in bits 32 to 47.
     fn word(&self, name: &str, class: &str) -> u64 {
-        // SAFETY: each pointer and count are those of a slice that is borrowed for the call, which is
-        // proved to stay within them, to write nothing and to keep nothing.
-        unsafe {
-            resource_manager_get_bytes(
-                self.contents.as_ptr(),
-                self.contents.len(),
-                self.bodies.as_ptr(),
-                self.bodies.len(),
-                name.as_ptr(),
-                name.len(),
-                class.as_ptr(),
-                class.len(),
-            )
-        }
+        port::get_bytes_word(&self.contents, &self.bodies, name.as_bytes(), class.as_bytes())
     }
 
     pub fn name(&self) -> &'static str {
