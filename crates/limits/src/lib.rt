@@ -1,0 +1,34 @@
+// Document 01's limits, each under the name that Limits.antt of the definition has for it. A contract holds code to the definition's
+// number, so that a slip here is refused where the number is used; a test holds the two lists to each other.
+
+// Main text and archive (document 01's shelf), in bytes.
+pub const TEXT_BYTES: usize = 32768;
+
+pub const ARCHIVE_BYTES: usize = 65536;
+
+pub const ARCHIVE_FILES: usize = 64;
+
+pub const FILE_NAME_BYTES: usize = 96;
+
+// The deepest text that is read; the main text is at depth 0.
+pub const DEEPEST: usize = 100;
+
+pub const MOST_OPENS: usize = 4096;
+
+pub const MOST_ENTRIES: usize = 512;
+
+pub const MOST_PARTS: usize = 16;
+
+// Keys and values together, and the bytes of the lent bodies.
+pub const BODY_BYTES: usize = 32768;
+
+// The words of an entry's row: start, key length, value length.
+pub const ROW_WORDS: usize = 3;
+
+// The words of the lent contents.
+pub const CONTENTS_WORDS: usize = 2 + ROW_WORDS * MOST_ENTRIES;
+
+// Of a query's name or class.
+pub const QUERY_BYTES: usize = 1024;
+
+pub const QUERY_PARTS: usize = 32;
