@@ -19,7 +19,7 @@ use Rattle.laws.proofs.Lists.{part-rest, paste-append, Suffix, suffix-whole}
 use Rattle.image.specs.Running.{world, Room, went, stopped, rowOf, stored, put}
 use Rattle.image.specs.declared.Totals.{Totals}
 use Rattle.values.specs.Decoded.{valueAt, Stored}
-use Rattle.parser.specs.Lined.{partsOf}
+use Rattle.lines.specs.Lined.{partsOf}
 use Rattle.parser.specs.Putting.{entryFrom, Puts}
 
 -- ---- Blanks after `:`

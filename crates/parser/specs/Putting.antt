@@ -6,7 +6,7 @@ use lib.ListN.{length, drop}
 use Rattle.definition.specs.Text.{Entry, pieces}
 use Rattle.image.specs.Running.{World, world, went, stopped, put}
 use Rattle.image.specs.declared.Totals.{Totals}
-use Rattle.parser.specs.Lined.{partsOf}
+use Rattle.lines.specs.Lined.{partsOf}
 use Rattle.parser.specs.declared.Put.{Put}
 use Rattle.parser.specs.declared.Put.the-variants.{Done, Stop}
 

@@ -32,7 +32,7 @@ use Rattle.reader.proofs.+include+parse_database.Lts-parse_database as 
 use Rattle.archive_find.proofs.find.Reads as find-reads
 use Rattle.archive_find.proofs.folder_of.Reads as folder-of-reads
 use Rattle.parser.proofs.parse_entry.Reads as parse-entry-reads
-use Rattle.parser.proofs.parse_line.Reads as parse-line-reads
+use Rattle.lines.proofs.parse_line.Reads as parse-line-reads
 use Rattle.reader.proofs.+include+parse_database.{statement}
 use Rattle.reader.proofs.+include+parse_database.Tie.{close}
 
