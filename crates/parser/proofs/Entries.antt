@@ -18,19 +18,13 @@ use Rattle.definition.specs.Reading.{sizeOf}
 use Rattle.laws.proofs.Lists.{part-rest, paste-append, Suffix, suffix-whole}
 use Rattle.image.specs.Running.{world, Room, went, stopped, rowOf, stored, put}
 use Rattle.image.specs.declared.Totals.{Totals}
-use Rattle.values.specs.Decoded.{valueAt, Stored}
+use Rattle.scan.proofs.Suffixes.{suffix-cons, suffix-none}
+use Rattle.values.specs.Decoded.{valueAt}
+use Rattle.values.proofs.Values.{Fits}
 use Rattle.lines.specs.Lined.{partsOf}
 use Rattle.parser.specs.Putting.{entryFrom, Puts}
 
 -- ---- Blanks after `:`
-
-suffix-cons : (c : ℕ) (u t : List ℕ) → Suffix u t → Suffix u (c ∷ t)
-suffix-cons c u t s =
-    let e : suc (length t) - length u ≡ suc (length t - length u) = omega (arith, s .most) in
-    record { most = omega (arith, s .most); same = rw e (s .same) }
-
-suffix-none : (t : List ℕ) → Suffix [] t
-suffix-none t = record { most = omega arith; same = drop-of-length-le t {i = length t - 0} (omega arith) }
 
 pub blanks-suffix : (t : List ℕ) → Suffix (afterBlanks t) t
 unfolding afterBlanks
@@ -44,8 +38,8 @@ blanks-suffix (c ∷ d ∷ t) = at (isBlank c) (eqb c backslash && eqb d newline
   where
     at : (a b : Bool) → Suffix (afterBlanks (d ∷ t)) (d ∷ t) → Suffix (afterBlanks t) t
         → Suffix (if a then afterBlanks (d ∷ t) else if b then afterBlanks t else c ∷ d ∷ t) (c ∷ d ∷ t)
-    at true b s u = suffix-cons c _ (d ∷ t) s
-    at false true s u = suffix-cons c _ (d ∷ t) (suffix-cons d _ t u)
+    at true b s u = suffix-cons c s
+    at false true s u = suffix-cons c (suffix-cons d u)
     at false false s u = suffix-whole (c ∷ d ∷ t)
 
 -- ---- The limits on an entry
@@ -139,7 +133,7 @@ module _ (t : List ℕ) (v count size : ℕ) (s : Totals) (c b : List ℕ)
         pub long-value : length b₁ < s .used + size + length (valueAt u) → put (world s c b) e ≡ stopped 7
         long-value h = put-full s c b e (omega arith) less (omega (arith, value-long, room .bytes-long))
 
-        module _ (b₂ : List ℕ) (end taken : ℕ) (st : Stored u b₁ (s .used + size) b₂ end taken) where
+        module _ (b₂ : List ℕ) (end taken : ℕ) (st : Fits u b₁ (s .used + size) b₂ end taken) where
           pub value-after : s .used + size ≤ end
           value-after = omega (arith, st .ends)
 

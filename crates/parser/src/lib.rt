@@ -11,7 +11,7 @@ use image::MOST_ENTRIES;
 use image::MOST_PARTS;
 use image::Totals;
 use image::write_row;
-use values::Value;
+use values::Stored;
 use values::parse_value;
 use values::skip_blanks;
 
@@ -50,7 +50,7 @@ pub fn parse_entry(
     let at = used + size;
     let rest = skip_blanks(&text[value..]);
     let decoded = parse_value(rest, store, at);
-    let Value::Done(end, taken) = decoded else {
+    let Stored::Done(end, taken) = decoded else {
         return Put::Stop(7);
     };
     write_row(

@@ -12,6 +12,7 @@ use Rattle.parser.proofs.Entries.{
   done-next,
   done-last,
 }
+use Rattle.values.proofs.Values.{decoded-fits, decoded-full}
 use borrow.Author.Needs.{needs}
 use Rattle.parser.proofs.parse_entry.Statement.{statement}
 use Rattle.parser.proofs.parse_entry.Tie as tie
@@ -113,7 +114,7 @@ returns-4 c =
     let enum-told-here = c in
     long-value (a .text .now) (a .value) (a .count) (a .size) (a .totals) (a .words .now) (a .store .now) (p .0) (p .1) (p .2) (p .3)
     (if1-here .if1 .left) (if2-here .if2 .left) (if3-here .if3 .left) (keyed .last .1 .0) (keyed .ensures) (keyed .kept .1 .0) (blanks .result .now) (blanks .ensures)
-    (rw (enum-told-here .enum-told .given .1) at (parse-value-here .parse-value .ensures))
+    (decoded-full (rw (enum-told-here .enum-told .given .1) at (parse-value-here .parse-value .ensures)))
 
 -- src/lib.rt:134:13
 mul-write-row : tie.Need-mul-write-row
@@ -146,7 +147,7 @@ sub-write-row c =
     let keyed = write-key-here .write-key in
     let blanks = skip-blanks-here .skip-blanks in
     let decoded-here = c .before .before in
-    let st = rw (decoded-here .decoded .given .1) at (parse-value-here .parse-value .ensures) in
+    let st = decoded-fits (rw (decoded-here .decoded .given .1) at (parse-value-here .parse-value .ensures)) in
     value-after (a .text .now) (a .value) (a .count) (a .size) (a .totals) (a .words .now) (a .store .now) (p .0) (p .1) (p .2) (p .3)
     (if1-here .if1 .left) (if2-here .if2 .left) (if3-here .if3 .left) (keyed .last .1 .0) (keyed .ensures) (keyed .kept .1 .0) (blanks .result .now) (blanks .ensures)
     (parse-value-here .parse-value .last .1 .0) _ _ st
@@ -166,7 +167,7 @@ cast-write-row-3 c =
     let keyed = write-key-here .write-key in
     let blanks = skip-blanks-here .skip-blanks in
     let decoded-here = c .before .before in
-    let st = rw (decoded-here .decoded .given .1) at (parse-value-here .parse-value .ensures) in
+    let st = decoded-fits (rw (decoded-here .decoded .given .1) at (parse-value-here .parse-value .ensures)) in
     omega (
       arith,
       ends-inside (a .text .now) (a .value) (a .count) (a .size) (a .totals) (a .words .now) (a .store .now) (p .0) (p .1) (p .2) (p .3)
@@ -206,7 +207,7 @@ add-passed-2 c =
     let keyed = write-key-here .write-key in
     let blanks = skip-blanks-here .skip-blanks in
     let decoded-here = c .before .before .before .before .before in
-    let st = rw (decoded-here .decoded .given .1) at (parse-value-here .parse-value .ensures) in
+    let st = decoded-fits (rw (decoded-here .decoded .given .1) at (parse-value-here .parse-value .ensures)) in
     omega (
       arith,
       start-here .good .0 .0,
@@ -242,7 +243,7 @@ returns-5 c =
     let keyed = write-key-here .write-key in
     let blanks = skip-blanks-here .skip-blanks in
     let decoded-here = c .before .before .before .before .before .before in
-    let st = rw (decoded-here .decoded .given .1) at (parse-value-here .parse-value .ensures) in
+    let st = decoded-fits (rw (decoded-here .decoded .given .1) at (parse-value-here .parse-value .ensures)) in
     let write-row-here = c .before .before .before in
     let if4-here = c in
     done-next (a .text .now) (a .value) (a .count) (a .size) (a .totals) (a .words .now) (a .store .now) (p .0) (p .1) (p .2) (p .3)
@@ -272,7 +273,7 @@ returns-6 c =
     let keyed = write-key-here .write-key in
     let blanks = skip-blanks-here .skip-blanks in
     let decoded-here = c .before .before .before .before .before .before in
-    let st = rw (decoded-here .decoded .given .1) at (parse-value-here .parse-value .ensures) in
+    let st = decoded-fits (rw (decoded-here .decoded .given .1) at (parse-value-here .parse-value .ensures)) in
     let write-row-here = c .before .before .before in
     let if4-here = c in
     done-last (a .text .now) (a .value) (a .count) (a .size) (a .totals) (a .words .now) (a .store .now) (p .0) (p .1) (p .2) (p .3)
