@@ -3,7 +3,7 @@ use mathlib.Core.List.{List, [], _∷_}
 use mathlib.Core.Path.{_≡_}
 use Prim.Native.Nat.{ℕ, zero, suc, _-_}
 use native.Mathlib.Omega.{arith}
-use lib.ListN.{length, drop, drop-of-length-le}
+use lib.ListN.{length, drop-of-length-le}
 use Rattle.definition.specs.Parsing.{Parse, nothing, found, continued, atMost, many}
 use Rattle.laws.proofs.Lists.{Suffix, suffix-whole, suffix-drop}
 use Rattle.laws.proofs.Keys.{Finds}

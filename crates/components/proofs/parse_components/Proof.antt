@@ -15,9 +15,6 @@ abbrev μ-loop : tie.MeasureT-loop
 loop-holds : tie.Need-loop-holds Inv-loop μ-loop
 loop-holds c = counting-first _
 
-next-part-requires : tie.Need-next-part-requires Inv-loop μ-loop
-next-part-requires c κs = search needs
-
 sub-t12 : tie.Need-sub-t12 Inv-loop μ-loop
 sub-t12 c =
     let loop-here = c .before .before in
@@ -33,9 +30,6 @@ returns c =
 add-count : tie.Need-add-count Inv-loop μ-loop
 add-count c = omega arith
 
-sub-size : tie.Need-sub-size Inv-loop μ-loop
-sub-size c = search needs
-
 add-size : tie.Need-add-size Inv-loop μ-loop
 add-size c = omega arith
 
@@ -47,9 +41,6 @@ sub-rest c = omega arith
 
 part-rest-start : tie.Need-part-rest-start Inv-loop μ-loop
 part-rest-start c = omega arith
-
-part-rest-end : tie.Need-part-rest-end Inv-loop μ-loop
-part-rest-end c = search needs
 
 loop-less : tie.Need-loop-less Inv-loop μ-loop
 loop-less c =
@@ -68,18 +59,5 @@ pub parse-components-spec : {M : Type 1} → statement M
 parse-components-spec =
     tie.close
     (tie.spec
-    Inv-loop
-    μ-loop
-    loop-holds
-    next-part-requires
-    sub-t12
-    returns
-    add-count
-    sub-size
-    add-size
-    add-size-2
-    sub-rest
-    part-rest-start
-    part-rest-end
-    loop-less
-    loop-again)
+    Inv-loop μ-loop loop-holds (λ c κs. search needs) sub-t12 returns add-count (λ c. search needs) add-size add-size-2 sub-rest
+    part-rest-start (λ c. search needs) loop-less loop-again)

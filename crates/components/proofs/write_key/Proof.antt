@@ -26,9 +26,6 @@ loop-holds c =
     let a = start-here .args in
     writing-first (a .text .now) (a .store .now) (a .at) (start-here .pre)
 
-next-part-requires : tie.Need-next-part-requires Inv-loop μ-loop
-next-part-requires c κs = search needs
-
 same-length : tie.Need-same-length Inv-loop μ-loop
 same-length c =
     let loop-here = c .before .before in
@@ -39,9 +36,6 @@ returns c =
     let loop-here = c .before .before in
     let next-part-here = c .before in
     writing-done (loop-here .loop .inv) (next-part-here .next-part .ensures) (c .if1 .taken)
-
-binding-byte-requires : tie.Need-binding-byte-requires Inv-loop μ-loop
-binding-byte-requires c κs = search needs
 
 slice-write-store : tie.Need-slice-write-store Inv-loop μ-loop
 slice-write-store c =
@@ -87,9 +81,6 @@ sub-rest c = omega arith
 part-rest-start : tie.Need-part-rest-start Inv-loop μ-loop
 part-rest-start c = omega arith
 
-part-rest-end : tie.Need-part-rest-end Inv-loop μ-loop
-part-rest-end c = search needs
-
 loop-less : tie.Need-loop-less Inv-loop μ-loop
 loop-less c =
     let loop-here = c .before .before .before .before .before .before .before .before .before in
@@ -111,24 +102,6 @@ pub write-key-spec : {M : Type 1} → statement M
 write-key-spec =
     tie.close
     (tie.spec
-    Inv-loop
-    μ-loop
-    loop-holds
-    next-part-requires
-    same-length
-    returns
-    binding-byte-requires
-    slice-write-store
-    sub-copy-in
-    part-copy-in-start
-    part-copy-in-end
-    add-copy-in
-    copy-in-requires
-    sub-place
-    add-place
-    add-place-2
-    sub-rest
-    part-rest-start
-    part-rest-end
-    loop-less
-    loop-again)
+    Inv-loop μ-loop loop-holds (λ c κs. search needs) same-length returns (λ c κs. search needs) slice-write-store sub-copy-in
+    part-copy-in-start part-copy-in-end add-copy-in copy-in-requires sub-place add-place add-place-2 sub-rest part-rest-start
+    (λ c. search needs) loop-less loop-again)
