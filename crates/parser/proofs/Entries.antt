@@ -5,7 +5,7 @@ use mathlib.Core.Path.{_≡_, refl, sym, ap, _∙_}
 use Prim.Native.Nat.{ℕ, suc, _+_, _-_, _≤_, _<_}
 use native.Mathlib.Omega.{arith}
 use lib.Dec.{eqb}
-use lib.ListN.{length, take, drop, set, length-append, length-drop, drop-of-length-le}
+use lib.ListN.{length, take, drop, length-append, length-drop, drop-of-length-le}
 use lib.Seq.{paste, drop-drop}
 use borrow.Author.Tests.{lt-ltb, le-ltb, le-leb, lt-leb}
 use Rattle.definition.specs.Lists.{if_then_else_}
@@ -16,7 +16,8 @@ use Rattle.definition.specs.Text.{Entry, pieceAt, afterBlanks, pieces}
 use Rattle.definition.specs.Image.{keyOf}
 use Rattle.definition.specs.Reading.{sizeOf}
 use Rattle.laws.proofs.Lists.{part-rest, paste-append, Suffix, suffix-whole}
-use Rattle.image.specs.Running.{world, Room, went, stopped, rowOf, stored, put}
+use Rattle.image.specs.Running.{world, Room, went, stopped, rowFor, stored, put}
+use Rattle.image.specs.Rows.{withRow}
 use Rattle.image.specs.declared.Totals.{Totals}
 use Rattle.values.specs.Decoded.{valueAt, Stored}
 use Rattle.parser.specs.Lined.{partsOf}
@@ -154,11 +155,11 @@ module _ (t : List ℕ) (v count size : ℕ) (s : Totals) (c b : List ℕ)
               sym (both-stored b (keyOf (partsOf t)) (e .value) (s .used) (omega (arith, st .room, value-long)))
               ∙ sym (st .stored ∙ rw (keyed, key, value-is t v inside u is) refl)
 
-          module _ (c₂ : List ℕ) (rowed : c₂ ≡ set (set (set c (rowOf (s .entries)) (s .used)) (rowOf (s .entries) + 1) size) (rowOf (s .entries) + 2) (end - (s .used + size))) where
+          module _ (c₂ : List ℕ) (rowed : c₂ ≡ withRow c (s .entries) (record { start = s .used; keyLength = size; valueLength = end - (s .used + size) })) where
             abbrev next : Totals
             next = record { opens = s .opens; entries = s .entries + 1; used = end }
 
-            words-are : set (set (set c (rowOf (s .entries)) (s .used)) (rowOf (s .entries) + 1) (length (keyOf (partsOf t)))) (rowOf (s .entries) + 2) (length (e .value)) ≡ c₂
+            words-are : withRow c (s .entries) (rowFor (s .used) e) ≡ c₂
             words-are =
                 let n : end - (s .used + size) ≡ length (e .value) = omega (arith, st .ends, value-long) in
                 sym (rowed ∙ rw (n, key) refl)

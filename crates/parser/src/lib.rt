@@ -10,10 +10,11 @@ ghost use Rattle.parser.specs.Lined.{partsOf, EndsAt, Lined};
 ghost use Rattle.parser.specs.Putting.{Putting};
 use components::parse_components;
 use components::write_key;
-use image::MOST_ENTRIES;
-use image::MOST_PARTS;
+use image::Row;
 use image::Totals;
 use image::write_row;
+use limits::MOST_ENTRIES;
+use limits::MOST_PARTS;
 use scan::Include;
 use scan::parse_include;
 use scan::skip_spaces;
@@ -126,13 +127,13 @@ pub fn parse_entry(
     let Value::Done(end, taken) = decoded else {
         return Put::Stop(7);
     };
-    write_row(
-        words,
-        2 + 3 * entries,
-        used as u16,
-        size as u16,
-        (end - at) as u16,
-    );
+    let length = end - at;
+    let row = Row {
+        start: used,
+        key: size,
+        value: length,
+    };
+    write_row(words, entries, row);
     let next = Totals {
         opens,
         entries: entries + 1,
