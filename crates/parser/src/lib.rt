@@ -1,16 +1,12 @@
 // Entries: the Rust's `parse_entry`, and the row that it makes.
-ghost use mathlib.Core.Path.{_≡_};
-ghost use Prim.Native.Nat.{_≤_};
-ghost use lib.ListN.{length};
-ghost use Rattle.definition.specs.Image.{keyOf};
-ghost use Rattle.image.specs.Running.{world, Room};
-ghost use Rattle.lines.specs.Lined.{partsOf};
-ghost use Rattle.parser.specs.Putting.{Putting};
+ghost use Rattle.image.specs.Running.{world};
+ghost use Rattle.parser.specs.Putting.{Asked, Putting};
 use components::write_key;
-use image::MOST_ENTRIES;
-use image::MOST_PARTS;
+use image::Row;
 use image::Totals;
 use image::write_row;
+use limits::MOST_ENTRIES;
+use limits::MOST_PARTS;
 use values::Stored;
 use values::parse_value;
 use values::skip_blanks;
@@ -31,7 +27,7 @@ pub fn parse_entry(
     words: &mut [u16],
     store: &mut [u8],
 ) -> Put
-    requires { ⌜ (value ≤ length (now text)) × (count ≡ length (partsOf (now text))) × (size ≡ length (keyOf (partsOf (now text)))) × Room totals (now words) (now store) ⌝ }
+    requires { ⌜ Asked (now text) value count size totals (now words) (now store) ⌝ }
     ensures { λ r. ⌜ Putting (now (text .entry)) value (world totals (now (words .entry)) (now (store .entry))) (now (words .exit)) (now (store .exit)) r ⌝ }
 {
     let opens = totals.opens;
@@ -53,13 +49,13 @@ pub fn parse_entry(
     let Stored::Done(end, taken) = decoded else {
         return Put::Stop(7);
     };
-    write_row(
-        words,
-        2 + 3 * entries,
-        used as u16,
-        size as u16,
-        (end - at) as u16,
-    );
+    let length = end - at;
+    let row = Row {
+        start: used,
+        key: size,
+        value: length,
+    };
+    write_row(words, entries, row);
     let next = Totals {
         opens,
         entries: entries + 1,

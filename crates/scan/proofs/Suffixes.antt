@@ -17,7 +17,7 @@ module _ {A : Type 0} where
   pub suffix-none : (t : List A) → Suffix [] t
   suffix-none t = record { most = omega arith; same = drop-of-length-le t {i = length t - 0} (omega arith) }
 
-  suffix-trans : {w u t : List A} → Suffix w u → Suffix u t → Suffix w t
+  pub suffix-trans : {w u t : List A} → Suffix w u → Suffix u t → Suffix w t
   suffix-trans {w} {u} r s = rw (r .same) at (suffix-drop s (length u - length w) (omega arith))
 
 -- what is left after what was found, if anything, is the rest of t

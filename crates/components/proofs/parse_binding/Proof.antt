@@ -12,9 +12,6 @@ Inv-loop text loose₀ i₀ loose i = Binding-at text loose i
 abbrev μ-loop : tie.MeasureT-loop
 μ-loop text loose₀ i₀ loose i = length text - i
 
-loop-holds : tie.Need-loop-holds Inv-loop μ-loop
-loop-holds c = binding-first (c .args .text .now)
-
 returns : tie.Need-returns Inv-loop μ-loop
 returns c =
     let loop-here = c .before .before .before .before in
@@ -35,4 +32,4 @@ pub parse-binding-spec : {M : Type 1} → statement M
 parse-binding-spec =
     tie.close
     (tie.spec
-    Inv-loop μ-loop loop-holds (λ c. search needs) returns (λ c. search needs) (λ c. search needs) loop-again returns-2)
+    Inv-loop μ-loop (λ c. binding-first (c .args .text .now)) (λ c. search needs) returns (λ c. search needs) (λ c. search needs) loop-again returns-2)

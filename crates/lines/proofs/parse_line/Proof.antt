@@ -5,9 +5,6 @@ use Rattle.lines.proofs.Fronts.{newline-line, comment-line, resource-li
 use Rattle.lines.proofs.parse_line.Statement.{statement}
 use Rattle.lines.proofs.parse_line.Tie as tie
 
-returns : tie.Need-returns
-returns c = newline-line _ (c .before .before .before .pre) (c .if1 .taken)
-
 returns-2 : tie.Need-returns-2
 returns-2 c =
     let start-here = c .before .before .before .before .before in
@@ -22,5 +19,5 @@ pub parse-line-spec : {M : Type 1} → statement M
 parse-line-spec =
     tie.close
     (tie.spec
-    (λ c. search needs) returns (λ c κs. search needs) returns-2 (λ c κs. search needs) (λ c. search needs)
+    (λ c. search needs) (λ c. newline-line _ (c .before .before .before .pre) (c .if1 .taken)) (λ c κs. search needs) returns-2 (λ c κs. search needs) (λ c. search needs)
     (λ c κs. search needs) returns-4)

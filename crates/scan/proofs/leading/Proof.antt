@@ -25,12 +25,9 @@ loop-again c =
     let loop-here = c .before .before .before in
     passed-more (eqb _) _ (loop-here .loop .inv) (c .before .before .loop-test .taken) (eq-eqb _ _ (sym (c .if1 .left)))
 
-returns-2 : tie.Need-returns-2 Inv-loop μ-loop
-returns-2 c = passed-end (eqb _) _ (c .before .loop .inv) (c .loop-test .left)
-
 pub leading-spec : {M : Type 1} → statement M
 leading-spec =
     tie.close
     (tie.spec
     Inv-loop μ-loop (λ c. passed-none (eqb _) _) (λ c. search needs) returns (λ c. search needs) (λ c. search needs) loop-again
-    returns-2)
+    (λ c. passed-end (eqb _) _ (c .before .loop .inv) (c .loop-test .left)))

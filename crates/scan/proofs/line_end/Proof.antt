@@ -24,12 +24,9 @@ loop-again c =
     let loop-here = c .before .before .before in
     passed-more notNewline _ (loop-here .loop .inv) (c .before .before .loop-test .taken) (line-on _ (c .if1 .left))
 
-returns-2 : tie.Need-returns-2 Inv-loop μ-loop
-returns-2 c = passed-end notNewline _ (c .before .loop .inv) (c .loop-test .left)
-
 pub line-end-spec : {M : Type 1} → statement M
 line-end-spec =
     tie.close
     (tie.spec
     Inv-loop μ-loop (λ c. passed-none notNewline _) (λ c. search needs) returns (λ c. search needs) (λ c. search needs) loop-again
-    returns-2)
+    (λ c. passed-end notNewline _ (c .before .loop .inv) (c .loop-test .left)))

@@ -25,12 +25,9 @@ loop-again c =
     let loop-here = c .before .before .before .before in
     passed-more isName _ (loop-here .loop .inv) (c .before .before .before .loop-test .taken) (sym (c .before .allowed-in-quark-name .ensures) ∙ not-false _ (c .if1 .left))
 
-returns-2 : tie.Need-returns-2 Inv-loop μ-loop
-returns-2 c = passed-end isName _ (c .before .loop .inv) (c .loop-test .left)
-
 pub next-component-spec : {M : Type 1} → statement M
 next-component-spec =
     tie.close
     (tie.spec
     Inv-loop μ-loop (λ c. passed-none isName _) (λ c. search needs) (λ c κs. search needs) returns (λ c. search needs)
-    (λ c. search needs) loop-again returns-2)
+    (λ c. search needs) loop-again (λ c. passed-end isName _ (c .before .loop .inv) (c .loop-test .left)))

@@ -29,12 +29,9 @@ loop-again c =
     let loop-here = c .before .before .before .before in
     passed-more inQuotes _ (loop-here .loop .inv) (c .before .before .before .loop-test .taken) (quoted _ (c .before .if1 .left) (c .if2 .left))
 
-returns-3 : tie.Need-returns-3 Inv-loop μ-loop
-returns-3 c = passed-end inQuotes _ (c .before .loop .inv) (c .loop-test .left)
-
 pub quoted-length-spec : {M : Type 1} → statement M
 quoted-length-spec =
     tie.close
     (tie.spec
     Inv-loop μ-loop (λ c. passed-none inQuotes _) (λ c. search needs) returns returns-2 (λ c. search needs) (λ c. search needs)
-    loop-again returns-3)
+    loop-again (λ c. passed-end inQuotes _ (c .before .loop .inv) (c .loop-test .left)))

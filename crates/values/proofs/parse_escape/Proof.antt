@@ -38,12 +38,6 @@ returns-5 c =
     let r = c .before .before .match .rest in
     escape-other _ _ (omega (arith, c .before .before .before .before .if1)) (r .0 .0 .1) (r .0 .1) (r .1) (c .before .octal-digits .ensures) (c .if2 .taken)
 
-read-second : tie.Need-shared-slice-read-octal
-read-second c = omega (arith, few (c .before .before .before), c .before .if3 .taken)
-
-read-third : tie.Need-shared-slice-read-octal-2
-read-third c = omega (arith, few (c .before .before .before .before), c .before .before .if3 .taken)
-
 octal-requires : tie.Need-octal-requires
 octal-requires c κs =
     let digits-here = c .before .before .before .before in
@@ -51,9 +45,6 @@ octal-requires c κs =
 
 returns-6 : tie.Need-returns-6
 returns-6 c = escape-octal _ _ (c .before .before .before .before .before .octal-digits .ensures) _ (c .before .before .before .if3 .taken) (c .octal .ensures)
-
-read-after : tie.Need-shared-slice-read-if5
-read-after c = let h = few (c .before .before .before .before) .1 in omega (arith, c .before .if4 .left)
 
 returns-7 : tie.Need-returns-7
 returns-7 c =
@@ -79,5 +70,5 @@ parse-escape-spec =
     (tie.spec
     (λ c. escape-end _ (c .if1 .taken)) (λ c. search needs) (λ c. escape-itself _ (omega arith) (c .match .keys1))
     (λ c. escape-newline _ (omega arith) (c .match .keys2)) (λ c. escape-joined _ (omega arith) (c .match .keys3))
-    (λ c κs. search needs) returns-5 read-second read-third octal-requires returns-6 read-after
+    (λ c κs. search needs) returns-5 (λ c. omega (arith, few (c .before .before .before), c .before .if3 .taken)) (λ c. omega (arith, few (c .before .before .before .before), c .before .before .if3 .taken)) octal-requires returns-6 (λ c. let h = few (c .before .before .before .before) .1 in omega (arith, c .before .if4 .left))
     (λ c. omega (arith, few (c .before .before .before))) returns-7 returns-8)
