@@ -16,7 +16,7 @@ use Rattle.laws.proofs.Lists.{part-rest, length-part-rest, Suffix, suffix-drop,
 use Rattle.scan.specs.Scanned.{includeAt}
 use Rattle.scan.specs.declared.Include as scan
 use Rattle.scan.specs.declared.Include.the-variants.{Named}
-use Rattle.scan.proofs.Includes.{include-included}
+use Rattle.scan.proofs.Includes.{include-found}
 use Rattle.components.specs.Parts.{partsOf, componentsAt}
 use Rattle.components.specs.declared.Components.{Components}
 use Rattle.components.proofs.Rests.{parts-suffix}
@@ -44,7 +44,7 @@ directive-line (c ∷ t) h e n f r g = rw (f, g, part-rest (c ∷ t) 1, e) refl
 
 -- the name lies inside
 pub name-start : (t : List ℕ) → 0 < length t → (a l : ℕ) → Named a l ≡ includeAt (take (length t - 1) (drop 1 t)) → 1 + a ≤ length t
-name-start t h a l e = let i = rw (← e) at (include-included (take (length t - 1) (drop 1 t))) in omega (arith, i .inside, length-part-rest t 1)
+name-start t h a l e = let i = rw (← e) at (include-found (take (length t - 1) (drop 1 t))) in omega (arith, i .inside, length-part-rest t 1)
 
 pub resource-line : (t : List ℕ) → 0 < length t → (getD t 0 0 ≡ newline → ⊥) → (getD t 0 0 ≡ exclamation → ⊥) → (getD t 0 0 ≡ hash → ⊥)
     → resourceIn t (assigned t) ≡ lineIn t

@@ -19,7 +19,7 @@ use Rattle.scan.specs.Scanned.{includeAt}
 use Rattle.scan.specs.declared.Include as scan
 use Rattle.scan.specs.declared.Include.the-variants.{Named, Other}
 use Rattle.scan.proofs.Beginnings.{after-suffix}
-use Rattle.scan.proofs.Includes.{includedName, Included, include-included}
+use Rattle.scan.proofs.Includes.{includedName, IncludeFound, include-found}
 use Rattle.components.specs.Parts.{partsOf}
 use Rattle.components.proofs.Rests.{parts-suffix}
 use Rattle.lines.specs.Places.{endOf, directiveIn, resourceIn, lineIn}
@@ -65,7 +65,7 @@ end-after c t e = end-is (c ∷ t) ∙ rw e refl
 
 -- ---- Each kind of line
 
-directive-lined : (c : ℕ) (t : List ℕ) (end : ℕ) → end ≤ length (c ∷ t) → (r : scan.Include) → Included t r
+directive-lined : (c : ℕ) (t : List ℕ) (end : ℕ) → end ≤ length (c ∷ t) → (r : scan.Include) → IncludeFound t r
     → Lined (c ∷ t) (found (directiveOf (includeOf t)) (drop end (c ∷ t))) (directiveIn end r)
 unfolding directiveIn directiveOf includedName
 directive-lined c t end h Other i = record { is = rw (← i .name) refl; inside = h }
@@ -102,7 +102,7 @@ line-lined (c ∷ t) h = at (eqb c newline) (eqb c exclamation) (eqb c hash) ref
         (if n then Skip 1 else if x then Skip (endOf (c ∷ t)) else if k then directiveIn (endOf (c ∷ t)) (includeAt t) else resourceIn (c ∷ t) (assigned (c ∷ t)))
     at true x k e = record { is = refl; inside = omega arith }
     at false true k e = record { is = rw (end-after c t e) refl; inside = end-inside (c ∷ t) }
-    at false false true e = rw (← end-after c t e) (directive-lined c t (endOf (c ∷ t)) (end-inside (c ∷ t)) (includeAt t) (include-included t))
+    at false false true e = rw (← end-after c t e) (directive-lined c t (endOf (c ∷ t)) (end-inside (c ∷ t)) (includeAt t) (include-found t))
     at false false false e = resource-lined (c ∷ t) (assigned (c ∷ t)) refl
 
 -- r is what `parse_line` answers

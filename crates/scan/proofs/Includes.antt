@@ -77,13 +77,13 @@ NamedWithin (Named s n) m = s + n ≤ m
 NamedWithin Other m = Unit {0}
 
 -- r is the include that the definition has after the `#`
-pub record Included (t : List ℕ) (r : Include) : Type 0 where
+pub record IncludeFound (t : List ℕ) (r : Include) : Type 0 where
   pub name : includedName t r ≡ includeOf t
   pub inside : NamedWithin r (length t)
 
-pub include-included : (t : List ℕ) → Included t (includeAt t)
+pub include-found : (t : List ℕ) → IncludeFound t (includeAt t)
 unfolding includeAt nameOn namedIn includeOf includedName
-include-included t = let r = word (after (ascii "include") (dropWhile isSpace t)) (after-suffix _ (run t (suffix-whole t))) in record { name = r .0; inside = r .1 }
+include-found t = let r = word (after (ascii "include") (dropWhile isSpace t)) (after-suffix _ (run t (suffix-whole t))) in record { name = r .0; inside = r .1 }
   where
     -- v gives the place, and n the name
     Agree : Option (List ℕ) → Option (List ℕ) → Type 0

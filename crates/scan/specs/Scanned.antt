@@ -13,10 +13,10 @@ use Rattle.scan.specs.declared.Include.{Include}
 use Rattle.scan.specs.declared.Include.the-variants.{Named, Other}
 
 -- does the second begin with the first?
-unfoldable pub begins : List ℕ → List ℕ → Bool
-begins [] t = true
-begins (b ∷ w) [] = false
-begins (b ∷ w) (c ∷ t) = if eqb b c then begins w t else false
+unfoldable pub startsWith : List ℕ → List ℕ → Bool
+startsWith [] t = true
+startsWith (b ∷ w) [] = false
+startsWith (b ∷ w) (c ∷ t) = if eqb b c then startsWith w t else false
 
 -- what follows `#`, from the include's name on: as includeOf, which gives the name itself
 unfoldable pub nameOn : List ℕ → Option (List ℕ)

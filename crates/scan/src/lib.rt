@@ -7,7 +7,7 @@ ghost use lib.Seq.{paste};
 ghost use Rattle.definition.specs.Lists.{takeWhile, dropWhile};
 ghost use Rattle.definition.specs.Bytes.{isOctal, isName, isBlank, isSpace, notNewline};
 ghost use Rattle.definition.specs.Text.{inQuotes};
-ghost use Rattle.scan.specs.Scanned.{begins, includeAt};
+ghost use Rattle.scan.specs.Scanned.{startsWith, includeAt};
 
 // What follows a `#`: the start and the length of an include's name, or no include.
 pub enum Include {
@@ -110,7 +110,7 @@ pub fn next_component(text: &[u8]) -> usize
 
 // Does `text` begin with `word`?
 pub fn starts_with(text: &[u8], word: &[u8]) -> bool
-    ensures { λ r. ⌜ r ≡ begins (now (word .entry)) (now (text .entry)) ⌝ }
+    ensures { λ r. ⌜ r ≡ startsWith (now (word .entry)) (now (text .entry)) ⌝ }
 {
     if text.len() < word.len() {
         return false;

@@ -2,7 +2,7 @@
 use borrow.Author.Tests.{not-true, not-false}
 use borrow.Author.Needs.{needs}
 use Rattle.definition.specs.Lists.{ascii}
-use Rattle.scan.proofs.Beginnings.{begun, begun-not}
+use Rattle.scan.proofs.Beginnings.{starts-yes, starts-no}
 use Rattle.lines.proofs.Fronts.{parts-inside, skipped-line, unnamed, no-colon, colon-at, entry-line}
 use Rattle.lines.proofs.parse_resource.Statement.{statement}
 use Rattle.lines.proofs.parse_resource.Tie as tie
@@ -22,7 +22,7 @@ returns-2 c =
     let starts = c .before .before .starts-with in
     skipped-line _ _ (c .line-end2 .ensures)
     (no-colon _ (parts .result) (parts .ensures) _ (skip-spaces-here .skip-spaces .ensures .0)
-    (begun-not (ascii ":") _ (starts .result) (starts .ensures) (not-true _ (c .before .if2 .taken))))
+    (starts-no (ascii ":") _ (starts .result) (starts .ensures) (not-true _ (c .before .if2 .taken))))
 
 sub-t17 : tie.Need-sub-t17
 sub-t17 c =
@@ -37,7 +37,7 @@ returns-3 c =
     let parts = if1-here .before .before .parse-components in
     let starts = c .before .starts-with in
     entry-line _ (parts .result) (parts .ensures) _ (skip-spaces-here .skip-spaces .ensures .0) (not-false _ (if1-here .if1 .left))
-    (begun (ascii ":") _ (starts .result) (starts .ensures) (not-false _ (c .if2 .left)))
+    (starts-yes (ascii ":") _ (starts .result) (starts .ensures) (not-false _ (c .if2 .left)))
 
 pub parse-resource-spec : {M : Type 1} → statement M
 parse-resource-spec =
