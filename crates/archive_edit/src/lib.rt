@@ -11,10 +11,10 @@ ghost use Rattle.archive.specs.Walk.{nameStart};
 ghost use Rattle.archive_edit.specs.Adding.{fileOf, slotFor, archiveWith, leaving, adding};
 use archive::Member;
 use archive::file_count;
-use archive::is_file_name;
 use archive::lengths_at;
-use archive::lower;
 use archive::member_at;
+use file_names::is_file_name;
+use file_names::lower;
 use limits::ARCHIVE_BYTES;
 use limits::ARCHIVE_FILES;
 use scan::copy_in;
@@ -103,6 +103,7 @@ pub fn strike_off(archive: &[u8], file: usize, out: &mut [u8]) -> usize
     archive.len() - 4 - (rest - at)
 }
 
+// Where the name stands among the files of the archive.
 fn slot_for(archive: &[u8], name: &[u8]) -> Slot
     requires { ⌜ laidOut (now archive) ≡ true ⌝ }
     ensures { λ r. ⌜ r ≡ slotFor (now (name .entry)) (now (archive .entry)) ⌝ }

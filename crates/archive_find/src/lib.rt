@@ -17,9 +17,9 @@ pub enum Found {
     Nothing,
 }
 
-// The name before its last `/`, or empty.
+// The name before its last `/`, or empty: a front of the name itself.
 pub fn folder_of(name: &[u8]) -> &[u8]
-    ensures { λ r. ⌜ now r ≡ folderOf (now (name .entry)) ⌝ }
+    ensures { λ r. ⌜ (now r ≡ folderOf (now (name .entry))) × (r .ptr ≡ name .entry .ptr) ⌝ }
 {
     let mut i = name.len();
     while 0 < i {

@@ -1,10 +1,10 @@
--- `archive::next` meets its contract. Assumes nothing.
+-- `file_names::next` meets its contract. Assumes nothing.
 use mathlib.Core.Path.{sym, _∙_}
 use borrow.Author.Tests.{eq-eqb, ne-eqb}
 use borrow.Author.Needs.{needs}
-use Rattle.archive.specs.Names.{next}
-use Rattle.archive.proofs.next.Statement.{statement}
-use Rattle.archive.proofs.next.Tie as tie
+use Rattle.file_names.specs.Names.{next}
+use Rattle.file_names.proofs.next.Statement.{statement}
+use Rattle.file_names.proofs.next.Tie as tie
 
 returns : tie.Need-returns
 unfolding next

@@ -9,11 +9,12 @@ use lib.ListN.{length, drop, getD, drop-of-length-le}
 use lib.Seq.{drop-cons}
 use borrow.Author.Tests.{eqb-true, le-leb, lt-leb}
 use Rattle.definition.specs.Lists.{if_then_else_, all, isEmpty, same}
+use Rattle.definition.specs.Limits.{fileNameBytes}
 use Rattle.definition.specs.Bytes.{dot, slash, isDigit, isName}
 use Rattle.definition.specs.Archive.{prefixed, split, isNamePart, isFileName}
-use Rattle.archive.specs.declared.Part.{Part}
-use Rattle.archive.specs.declared.Part.the-variants.{Empty, Dot, DotDot, Good, Bad}
-use Rattle.archive.specs.Names.{ended, dotted, lettered, next, passes, walked}
+use Rattle.file_names.specs.declared.Part.{Part}
+use Rattle.file_names.specs.declared.Part.the-variants.{Empty, Dot, DotDot, Good, Bad}
+use Rattle.file_names.specs.Names.{ended, dotted, lettered, next, passes, walked}
 
 -- ---- One part
 
@@ -124,13 +125,13 @@ walked-parts s (c ∷ t) = at (eqb c slash) refl (walked-parts (next s c) t)
 
 -- ---- A name
 
-pub name-walked : (n : List ℕ) → length n ≤ 96 → isFileName n ≡ walked Empty n
+pub name-walked : (n : List ℕ) → length n ≤ fileNameBytes → isFileName n ≡ walked Empty n
 unfolding isFileName
-name-walked n h = rw (le-leb (length n) 96 h) (sym (walked-parts Empty n ∙ parts-first n))
+name-walked n h = rw (le-leb (length n) fileNameBytes h) (sym (walked-parts Empty n ∙ parts-first n))
 
-pub name-long : (n : List ℕ) → 96 < length n → isFileName n ≡ false
+pub name-long : (n : List ℕ) → fileNameBytes < length n → isFileName n ≡ false
 unfolding isFileName
-name-long n h = rw (lt-leb (length n) 96 h) refl
+name-long n h = rw (lt-leb (length n) fileNameBytes h) refl
 
 pub walked-byte : (s : Part) (n : List ℕ) (i : ℕ) → i < length n → walked s (drop i n) ≡ walked (next s (getD n i 0)) (drop (i + 1) n)
 unfolding walked

@@ -1,4 +1,4 @@
--- `archive::lower` meets its contract. The invariant: from place i on the two compare as they do from the start. Assumes nothing.
+-- `file_names::lower` meets its contract. The invariant: from place i on the two compare as they do from the start. Assumes nothing.
 use mathlib.Core.Path.{_≡_, sym, _∙_}
 use Prim.Native.Nat.{_-_}
 use native.Mathlib.Omega.{arith}
@@ -6,8 +6,8 @@ use lib.ListN.{length, drop}
 use borrow.Author.Needs.{needs}
 use Rattle.definition.specs.Lists.{lower}
 use Rattle.laws.proofs.Lists.{lower-from-below, lower-from-above, lower-from-equal, lower-from-short, lower-from-end}
-use Rattle.archive.proofs.lower.Statement.{statement}
-use Rattle.archive.proofs.lower.Tie as tie
+use Rattle.file_names.proofs.lower.Statement.{statement}
+use Rattle.file_names.proofs.lower.Tie as tie
 
 abbrev Inv-loop : tie.InvT-loop
 Inv-loop a b i₀ i = lower (drop i a) (drop i b) ≡ lower a b

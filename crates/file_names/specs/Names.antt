@@ -5,8 +5,8 @@ use Prim.Native.Nat.{ℕ}
 use lib.Dec.{eqb}
 use Rattle.definition.specs.Lists.{if_then_else_}
 use Rattle.definition.specs.Bytes.{dot, slash, isName}
-use Rattle.archive.specs.declared.Part.{Part}
-use Rattle.archive.specs.declared.Part.the-variants.{Empty, Dot, DotDot, Good, Bad}
+use Rattle.file_names.specs.declared.Part.{Part}
+use Rattle.file_names.specs.declared.Part.the-variants.{Empty, Dot, DotDot, Good, Bad}
 
 -- a `/` ends a part that may stand, and begins another
 abbrev pub ended : Part → Part

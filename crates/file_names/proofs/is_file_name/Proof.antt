@@ -1,16 +1,17 @@
--- `archive::is_file_name` meets its contract. The invariant: the bytes from i on decide, after the part so far, as the whole name does. Assumes nothing.
+-- `file_names::is_file_name` meets its contract. The invariant: the bytes from i on decide, after the part so far, as the whole name does. Assumes nothing.
 use mathlib.Core.Path.{_≡_, sym, ap, _∙_}
 use Prim.Native.Nat.{_+_, _-_, _≤_}
 use lib.ListN.{length, drop}
 use borrow.Author.Needs.{needs}
+use Rattle.definition.specs.Limits.{fileNameBytes}
 use Rattle.definition.specs.Archive.{isFileName}
-use Rattle.archive.specs.Names.{walked, passes}
-use Rattle.archive.proofs.Names.{name-walked, name-long, walked-byte, walked-end}
-use Rattle.archive.proofs.is_file_name.Statement.{statement}
-use Rattle.archive.proofs.is_file_name.Tie as tie
+use Rattle.file_names.specs.Names.{walked, passes}
+use Rattle.file_names.proofs.Names.{name-walked, name-long, walked-byte, walked-end}
+use Rattle.file_names.proofs.is_file_name.Statement.{statement}
+use Rattle.file_names.proofs.is_file_name.Tie as tie
 
 abbrev Inv-loop : tie.InvT-loop
-Inv-loop name part₀ i₀ part i = (length name ≤ 96) × (isFileName name ≡ walked part (drop i name))
+Inv-loop name part₀ i₀ part i = (length name ≤ fileNameBytes) × (isFileName name ≡ walked part (drop i name))
 
 abbrev μ-loop : tie.MeasureT-loop
 μ-loop name part₀ i₀ part i = length name - i
