@@ -1,3 +1,3 @@
 -- Laws of getres.
-pub mod Adding
+pub mod Loading
 pub mod Showing

@@ -1,7 +1,6 @@
 // getres: the value that a query gets from a main text and its files, and whether striking a file off changes it.
 mod answers;
 mod arguments;
-mod files;
 mod reports;
 
 ghost use mathlib.Core.Path.{_≡_};
@@ -13,15 +12,15 @@ ghost use Rattle.definition.specs.Limits.{archiveBytes};
 ghost use Rattle.io.specs.Counts.{Counts};
 ghost use Rattle.getres.specs.Loading.{Holds, within};
 use answers::look_up;
+use archive_edit::Added;
+use archive_edit::add_file;
+use archive_find::number_of;
 use arguments::Plan;
 use arguments::is_whole;
 use arguments::nothing_asked;
 use arguments::with_argument;
 use compare::Compared;
 use compare::compare_without;
-use files::Added;
-use files::add_file;
-use files::number_of;
 use libc::STDERR_FILENO;
 use libc::STDIN_FILENO;
 use libc::STDOUT_FILENO;

@@ -48,13 +48,13 @@ passed true k c b r e = absurd (stopped-went e)
 passed false k c b r e = (refl, e)
 
 -- what `put` stored, and that it fitted
-pub record Stored (w : World) (e : Entry) (v : World) : Type 0 where
+pub record Fitting (w : World) (e : Entry) (v : World) : Type 0 where
   pub is : stored w e ≡ v
   pub few : length (e .parts) ≤ mostParts
   pub entries-less : w .totals .entries < mostEntries
   pub used-fits : w .totals .used + sizeOf e ≤ bodyBytes
 
-pub put-went : (w : World) (e : Entry) (v : World) → put w e ≡ went v → Stored w e v
+pub put-went : (w : World) (e : Entry) (v : World) → put w e ≡ went v → Fitting w e v
 unfolding put
 put-went w e v h =
     let a = passed (ltb mostParts (length (e .parts))) 5 _ _ _ h in

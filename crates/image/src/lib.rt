@@ -5,10 +5,6 @@ ghost use Prim.Native.Nat.{_+_, _-_, _≤_, _<_};
 ghost use lib.ListN.{length, take, getD};
 ghost use Rattle.definition.specs.Lists.{zeroes};
 ghost use Rattle.image.specs.Rows.{rowStart, withRow, rowOf, InWords, RowIs};
-pub use limits::BODY_BYTES;
-pub use limits::CONTENTS_WORDS;
-pub use limits::MOST_ENTRIES;
-pub use limits::MOST_PARTS;
 ghost use Rattle.image.specs.Running.{Room, closedWords, closedBytes};
 use limits::ROW_WORDS;
 

@@ -7,13 +7,13 @@ use borrow.Author.Tests.{not-true, not-false}
 use borrow.Author.Needs.{needs}
 use Rattle.definition.specs.Archive.{pathOf}
 use Rattle.archive.proofs.Walk.{laid-fits, fits-room}
-use Rattle.archive_find.proofs.Folders.{Matching, matching-first, matching-off, matching-on, matching-all, stem-long}
+use Rattle.archive_find.proofs.Folders.{Agreeing, agreeing-first, agreeing-off, agreeing-on, agreeing-all, stem-long}
 use Rattle.archive_find.proofs.Finding.{row-length, row-other, row-elsewhere, row-found, Searching, searching-first, searching-none, searching-next, searching-found, file-in}
 use Rattle.archive_find.proofs.find.Statement.{statement}
 use Rattle.archive_find.proofs.find.Tie as tie
 
 abbrev Inv-bytes : tie.InvT-bytes
-Inv-bytes archive folder name count before long found at j member start own i₀ i = Matching archive name own i
+Inv-bytes archive folder name count before long found at j member start own i₀ i = Agreeing archive name own i
 
 abbrev μ-bytes : tie.MeasureT-bytes
 μ-bytes archive folder name count before long found at j member start own i₀ i = length name - i
@@ -87,7 +87,7 @@ bytes-holds c =
     let member-at-here = c .before .before in
     let m = member-at-here .member-at .result in
     let if1-here = c in
-    matching-first (start-here .args .archive .now) (start-here .args .name .now) (m .start + stem-len-here .stem-len .result) (omega (arith, file-in (rows-here .rows .inv) (rows-test-here .rows-test .taken) (member-at-here .member-at .ensures), if1-here .if1 .left))
+    agreeing-first (start-here .args .archive .now) (start-here .args .name .now) (m .start + stem-len-here .stem-len .result) (omega (arith, file-in (rows-here .rows .inv) (rows-test-here .rows-test .taken) (member-at-here .member-at .ensures), if1-here .if1 .left))
 
 rows-again-2 : tie.Need-rows-again-2 Inv-bytes μ-bytes Inv-rows μ-rows
 rows-again-2 c =
@@ -102,14 +102,14 @@ rows-again-2 c =
     let bytes-test-here = c .before .before .before in
     let if2-here = c in
     searching-next (rows-here .rows .inv) (rows-test-here .rows-test .taken) (member-at-here .member-at .ensures)
-    (row-other (start-here .args .archive .now) (start-here .args .folder .now) (start-here .args .name .now) (m .start) (m .body - m .start) (stem-len-here .stem-len .result) (stem-len-here .stem-len .ensures) (omega (arith, file-in (rows-here .rows .inv) (rows-test-here .rows-test .taken) (member-at-here .member-at .ensures))) (if1-here .if1 .left) (matching-off (bytes-here .bytes .inv) (bytes-test-here .bytes-test .taken) (if2-here .if2 .taken)))
+    (row-other (start-here .args .archive .now) (start-here .args .folder .now) (start-here .args .name .now) (m .start) (m .body - m .start) (stem-len-here .stem-len .result) (stem-len-here .stem-len .ensures) (omega (arith, file-in (rows-here .rows .inv) (rows-test-here .rows-test .taken) (member-at-here .member-at .ensures))) (if1-here .if1 .left) (agreeing-off (bytes-here .bytes .inv) (bytes-test-here .bytes-test .taken) (if2-here .if2 .taken)))
 
 bytes-again : tie.Need-bytes-again Inv-bytes μ-bytes Inv-rows μ-rows
 bytes-again c =
     let bytes-here = c .before .before .before .before in
     let bytes-test-here = c .before .before .before in
     let if2-here = c in
-    matching-on (bytes-here .bytes .inv) (bytes-test-here .bytes-test .taken) (if2-here .if2 .left)
+    agreeing-on (bytes-here .bytes .inv) (bytes-test-here .bytes-test .taken) (if2-here .if2 .left)
 
 in-folder-requires : tie.Need-in-folder-requires Inv-bytes μ-bytes Inv-rows μ-rows
 in-folder-requires c κs =
@@ -154,7 +154,7 @@ returns-2 c =
     let in-folder-here = c .before in
     let if3-here = c in
     searching-found (rows-here .rows .inv) (rows-test-here .rows-test .taken) (member-at-here .member-at .ensures)
-    (row-found (start-here .args .archive .now) (start-here .args .folder .now) (start-here .args .name .now) (m .start) (m .body - m .start) (stem-len-here .stem-len .result) (stem-len-here .stem-len .ensures) (omega (arith, file-in (rows-here .rows .inv) (rows-test-here .rows-test .taken) (member-at-here .member-at .ensures))) (if1-here .if1 .left) (matching-all (bytes-here .bytes .inv) (bytes-test-here .bytes-test .left)) (sym (in-folder-here .in-folder .ensures) ∙ not-false _ (if3-here .if3 .left)))
+    (row-found (start-here .args .archive .now) (start-here .args .folder .now) (start-here .args .name .now) (m .start) (m .body - m .start) (stem-len-here .stem-len .result) (stem-len-here .stem-len .ensures) (omega (arith, file-in (rows-here .rows .inv) (rows-test-here .rows-test .taken) (member-at-here .member-at .ensures))) (if1-here .if1 .left) (agreeing-all (bytes-here .bytes .inv) (bytes-test-here .bytes-test .left)) (sym (in-folder-here .in-folder .ensures) ∙ not-false _ (if3-here .if3 .left)))
 
 pub find-spec : {M : Type 1} → statement M
 find-spec =

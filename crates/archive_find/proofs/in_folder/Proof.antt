@@ -5,12 +5,12 @@ use native.Mathlib.Omega.{arith}
 use lib.ListN.{length}
 use borrow.Author.Needs.{needs}
 use Rattle.archive_find.specs.Finding.{stem}
-use Rattle.archive_find.proofs.Folders.{Matching, matching-first, stem-long, stem-length, folder-off, folder-on, folder-empty, folder-slash}
+use Rattle.archive_find.proofs.Folders.{Agreeing, agreeing-first, stem-long, stem-length, folder-off, folder-on, folder-empty, folder-slash}
 use Rattle.archive_find.proofs.in_folder.Statement.{statement}
 use Rattle.archive_find.proofs.in_folder.Tie as tie
 
 abbrev Inv-loop : tie.InvT-loop
-Inv-loop archive at folder i₀ i = Matching archive (stem folder) at i × (i ≤ length folder)
+Inv-loop archive at folder i₀ i = Agreeing archive (stem folder) at i × (i ≤ length folder)
 
 abbrev μ-loop : tie.MeasureT-loop
 μ-loop archive at folder i₀ i = length folder - i
@@ -18,7 +18,7 @@ abbrev μ-loop : tie.MeasureT-loop
 loop-holds : tie.Need-loop-holds Inv-loop μ-loop
 loop-holds c =
     let start-here = c in
-    (matching-first (start-here .args .archive .now) (stem (start-here .args .folder .now)) (start-here .args .at) (start-here .pre), omega arith)
+    (agreeing-first (start-here .args .archive .now) (stem (start-here .args .folder .now)) (start-here .args .at) (start-here .pre), omega arith)
 
 add-if1 : tie.Need-add-if1 Inv-loop μ-loop
 add-if1 c =

@@ -5,14 +5,15 @@ use mathlib.Core.Bool.{true}
 use lib.ListN.{take}
 use lib.Seq.{length-take-le}
 use Rattle.definition.specs.Archive.{laidOut}
-use Rattle.getres.specs.Adding.{fileOf}
-use Rattle.getres.proofs.Adding.{added-laid, put-front}
+use Rattle.archive_edit.specs.Adding.{fileOf, leaving}
+use Rattle.archive_edit.proofs.Adding.{Holding, added-holds}
+use Rattle.getres.proofs.Loading.{put-front}
 use borrow.Author.Needs.{needs}
 use Rattle.getres.proofs.add.Statement.{statement}
 use Rattle.getres.proofs.add.Tie as tie
 use Rattle.getres.proofs.add.Reads as reads
 use Rattle.getres.proofs.add.Lts as lts
-use Rattle.getres.proofs.files.add_file.Reads as add-file-reads
+use Rattle.archive_edit.proofs.add_file.Reads as add-file-reads
 use Rattle.scan.proofs.put.Reads as put-reads
 use Rattle.getres.proofs.reports.complain.Reads as complain-reads
 
@@ -38,48 +39,55 @@ add-file-requires c κs = search needs
 enum-known-added : tie.Need-enum-known-added
 enum-known-added c = search needs
 
--- src/main.rt:147:17
 array-share-prefix-out : tie.Need-array-share-prefix-out
 array-share-prefix-out c =
-    let add-file-here = c .before .before .before .before in
-    let added-here = c .before in
-    omega (arith, rw (added-here .added .given .1) at (add-file-here .add-file .ensures .inside), add-file-here .add-file .kept .1 .1 .1 .0)
+    let start-here = c in
+    let add-file-here = c in
+    let added-here = c in
+    let a = start-here .args in
+    let out = add-file-here .add-file .last .1 .1 .1 .0 in
+    let n = added-here .added .given .0 .0 in
+    let held = added-holds (fileOf (a .name .now) (a .body .now)) (take (a .size) (a .archive .now)) _ out n (start-here .pre .2) (rw (added-here .added .given .1) at (add-file-here .add-file .ensures)) in
+    omega (arith, held .inside, add-file-here .add-file .kept .1 .1 .1 .0)
 
--- src/main.rt:147:17
 slice-aggregate-put : tie.Need-slice-aggregate-put
 slice-aggregate-put c =
-    let add-file-here = c .before .before .before .before .before in
-    let added-here = c .before .before in
-    sym (length-take-le (added-here .added .given .0 .0) (add-file-here .add-file .last .1 .1 .1 .0) (rw (added-here .added .given .1) at (add-file-here .add-file .ensures .inside)))
+    let start-here = c in
+    let add-file-here = c in
+    let added-here = c in
+    let a = start-here .args in
+    let out = add-file-here .add-file .last .1 .1 .1 .0 in
+    let n = added-here .added .given .0 .0 in
+    let held = added-holds (fileOf (a .name .now) (a .body .now)) (take (a .size) (a .archive .now)) _ out n (start-here .pre .2) (rw (added-here .added .given .1) at (add-file-here .add-file .ensures)) in
+    sym (length-take-le n out (held .inside))
 
--- src/main.rt:147:13
 put-requires : tie.Need-put-requires
 put-requires c κs =
-    let start-here = c .before .before .before .before .before .before .before .before .before .before .before .before in
-    let add-file-here = c .before .before .before .before .before .before in
-    let added-here = c .before .before .before in
-    let i = rw (added-here .added .given .1) at (add-file-here .add-file .ensures .inside) in
-    omega (arith, start-here .pre .0, i, add-file-here .add-file .kept .1 .1 .1 .0, length-take-le (added-here .added .given .0 .0) (add-file-here .add-file .last .1 .1 .1 .0) i)
+    let start-here = c in
+    let add-file-here = c in
+    let added-here = c in
+    let a = start-here .args in
+    let out = add-file-here .add-file .last .1 .1 .1 .0 in
+    let n = added-here .added .given .0 .0 in
+    let held = added-holds (fileOf (a .name .now) (a .body .now)) (take (a .size) (a .archive .now)) _ out n (start-here .pre .2) (rw (added-here .added .given .1) at (add-file-here .add-file .ensures)) in
+    omega (arith, start-here .pre .0, held .inside, add-file-here .add-file .kept .1 .1 .1 .0, length-take-le n out (held .inside))
 
--- src/main.rt:148:13
 same-length : tie.Need-same-length
 same-length c = search needs
 
--- src/main.rt:148:13
 returns : tie.Need-returns
 returns c =
-    let start-here = c .before .before .before .before .before .before .before .before .before .before .before .before .before .before .before in
-    let add-file-here = c .before .before .before .before .before .before .before .before .before in
-    let added-here = c .before .before .before .before .before .before in
-    let put-here = c .before .before in
+    let put-here = c in
+    let start-here = c in
+    let add-file-here = c in
+    let added-here = c in
     let a = start-here .args in
-    let n = added-here .added .given .0 .0 in
     let out = add-file-here .add-file .last .1 .1 .1 .0 in
-    let inside = rw (added-here .added .given .1) at (add-file-here .add-file .ensures .inside) in
-    let laid = rw (added-here .added .given .1) at (add-file-here .add-file .ensures .equals) in
-    let same = put-front (a .archive .now) (put-here .put .last .1 .0) out (put-here .put .result) n inside (put-here .put .ensures .0) (put-here .put .ensures .1) in (
-      omega (arith, start-here .pre .0, inside, add-file-here .add-file .kept .1 .1 .1 .0, put-here .put .kept .1 .0),
-      ap laidOut same ∙ added-laid (take (a .size) (a .archive .now)) (start-here .pre .2) (fileOf (a .name .now) (a .body .now)) (take n out) laid,
+    let n = added-here .added .given .0 .0 in
+    let held = added-holds (fileOf (a .name .now) (a .body .now)) (take (a .size) (a .archive .now)) _ out n (start-here .pre .2) (rw (added-here .added .given .1) at (add-file-here .add-file .ensures)) in
+    let same = put-front (a .archive .now) (put-here .put .last .1 .0) out (put-here .put .result) n (held .inside) (put-here .put .ensures .0) (put-here .put .ensures .1) in (
+      omega (arith, start-here .pre .0, held .inside, add-file-here .add-file .kept .1 .1 .1 .0, put-here .put .kept .1 .0),
+      ap laidOut same ∙ held .laid,
     )
 
 -- src/main.rt:150:43

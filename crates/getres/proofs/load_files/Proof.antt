@@ -7,7 +7,7 @@ use lib.ListN.{length, take}
 use borrow.Author.Needs.{needs}
 use Rattle.definition.specs.Limits.{archiveBytes}
 use Rattle.definition.specs.Archive.{laidOut}
-use Rattle.getres.proofs.Adding.{none-laid}
+use Rattle.archive_edit.proofs.Adding.{none-laid}
 use Rattle.getres.proofs.load_files.Statement.{statement}
 use Rattle.getres.proofs.load_files.Tie as tie
 use Rattle.getres.proofs.load_files.Reads as reads

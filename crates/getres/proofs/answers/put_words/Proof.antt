@@ -3,7 +3,7 @@ use mathlib.Core.Path.{refl, _∙_}
 use Prim.Native.Nat.{_+_}
 use lib.ListN.{take}
 use native.Mathlib.Omega.{arith}
-use Rattle.archive_find.proofs.Striking.{part-size}
+use Rattle.archive.proofs.Walk.{part-size}
 use Rattle.getres.specs.Showing.{wordsOf}
 use Rattle.getres.proofs.Showing.{words-found}
 use borrow.Author.Needs.{needs}
