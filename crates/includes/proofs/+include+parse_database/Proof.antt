@@ -106,7 +106,7 @@ module _ (t : ℕ) where
   include-returns-4 c =
       let call-here = c .before .before .before .before in
       let here = call-here .before .before .before .before .before .before in
-      opened (sought (here .before .before .before .before)) (here .before .before .found .given .1) (here .if2 .left) (call-here .before .before .before .before .folder-of .ensures) _ _ _ (call-here .parse-database .ensures)
+      opened (sought (here .before .before .before .before)) (here .before .before .found .given .1) (here .if2 .left) (call-here .before .before .before .before .folder-of .ensures .0) _ _ _ (call-here .parse-database .ensures)
 
   -- ---- A text
 
