@@ -8,12 +8,12 @@ use native.Mathlib.Omega.{arith}
 use lib.ListN.{length}
 use Rattle.definition.specs.Lists.{if_then_else_}
 use Rattle.definition.specs.Lookup.{Reply, given, noValue, refused, Place, getBytes, bytesAt}
-use Rattle.definition.specs.Value.{isUtf8, replied, readAs, getString}
+use Rattle.definition.specs.Value.{isUtf8, replied, readAs, bytesOr, getString, shown}
 use Rattle.lookup.specs.Replies.{replied as lookedUp}
 use Rattle.lookup.specs.declared.Lookup.{Lookup}
 use Rattle.lookup.specs.declared.Lookup.the-variants.{Found, Nothing, Refused}
 use Rattle.lookup.proofs.Looking.{found-inside}
-use Rattle.readings.specs.Showing.{Within}
+use Rattle.readings.specs.Showing.{Within, shownAt}
 
 abbrev at : ℕ → ℕ → Place
 at p n = record { start = p; length = n }
@@ -37,6 +37,13 @@ module _ (contents bodies name class : List ℕ) where
   bytes-within (Found p n) e = found-inside contents bodies name class p n e
   bytes-within Nothing e = tt
   bytes-within (Refused k) e = tt
+
+  -- what is shown of the answer of a lookup is what the lookup shows
+  pub shows : (r : Lookup) (default bytes : List ℕ) (atBodies atDefault starts : ℕ × ℕ) → lookedUp r ≡ getBytes contents bodies name class
+      → (bytes ≡ bytesOr bodies default (lookedUp r)) × (starts ≡ shownAt (lookedUp r) atBodies atDefault)
+      → (bytes ≡ shown contents bodies name class default) × (starts ≡ shownAt (getBytes contents bodies name class) atBodies atDefault)
+  unfolding shown
+  shows r default bytes atBodies atDefault starts e s = rw e at s
 
   pub string-read : (p : Place) (b : Bool) → given p ≡ getBytes contents bodies name class → isUtf8 (bytesAt bodies p) ≡ b
       → replied (if b then some p else none) ≡ getString contents bodies name class

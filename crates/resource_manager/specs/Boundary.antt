@@ -1,13 +1,16 @@
 -- The answers of the definition as numbers of 64 bits, as the boundary to C gives them.
 use mathlib.Core.Bool.{Bool, true, false}
 use mathlib.Core.List.{List}
+use mathlib.Core.Path.{_≡_}
 use Prim.Native.Nat.{ℕ, _+_, _*_, _≤_}
 use lib.IntN.{ℤ}
+use lib.ListN.{length}
 use Rattle.definition.specs.Limits.{bodyBytes}
 use Rattle.definition.specs.Reading.{Answer, accepted, refused, Outcome}
 use Rattle.definition.specs.Lookup.{Reply, given, noValue, refused as refusedBy, Place}
 use Rattle.definition.specs.Value.{Number, number, notANumber}
-use Rattle.compare.specs.Comparing.{Comparison, both, noFile, refusedBy as refusedAs, Left}
+use Rattle.definition.specs.ThirdTerm.{Case, withFile, withoutFile, lookup, Given, ThirdTerm}
+use Rattle.compare.specs.Comparing.{Comparison, both, noFile, refusedBy as refusedAs, Left, bothRead, comparing}
 use Rattle.lookup.specs.declared.Lookup.{Lookup}
 use Rattle.lookup.specs.declared.Lookup.the-variants.{Found, Nothing, Refused}
 
@@ -84,20 +87,36 @@ compares n w o s c b c′ b′ = record { code = n; withIt = w; without = o; str
 
 -- 0 with both lookups' numbers, 65535 if the archive has no such file, or the refusal; only 0 changes the lent numbers
 abbrev pub compareCode : Comparison → ℕ
-compareCode (both a b) = 0
+compareCode (both a b second) = 0
 compareCode noFile = 65535
 compareCode (refusedAs k) = k
 
 abbrev pub codeWith : Comparison → ℕ → ℕ
-codeWith (both a b) lent = placeCode a
+codeWith (both a b second) lent = placeCode a
 codeWith noFile lent = lent
 codeWith (refusedAs k) lent = lent
 
 abbrev pub codeWithout : Comparison → ℕ → ℕ
-codeWithout (both a b) lent = placeCode b
+codeWithout (both a b second) lent = placeCode b
 codeWithout noFile lent = lent
 codeWithout (refusedAs k) lent = lent
 
 abbrev pub carried : Left → ℕ → ℕ → Compares
 carried l w o =
     compares (compareCode (l .answer)) (codeWith (l .answer) w) (codeWithout (l .answer) o) (l .struck) (l .contents) (l .bodies) (l .contents′) (l .bodies′)
+
+module _ (c : Case) (struck : List ℕ) (withIt without : ℕ) where
+  -- the third term, of a call that gives and leaves these: both readings and both lookups are made, 0 with the numbers of both
+  -- lookups, and they are as the term says
+  pub record CarriesTerm (after : Compares) : Type 0 where
+    pub made : after ≡ carried (bothRead c struck) withIt without
+    pub code : after .code ≡ 0
+    pub first : after .withIt ≡ placeCode (lookup c (withFile c))
+    pub second : after .without ≡ placeCode (lookup c (withoutFile c))
+    pub term : ThirdTerm c
+
+  -- what the call promises: its number and all that is lent, of any arguments; and the term, with nothing given beyond the term's own
+  -- words and room for the archive
+  pub record Crosses (after : Compares) : Type 0 where
+    pub equals : after ≡ carried (comparing c struck) withIt without
+    pub third-term : Given c → length (c .archive) ≤ length struck → CarriesTerm after

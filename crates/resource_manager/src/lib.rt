@@ -2,10 +2,12 @@
 ghost use mathlib.Core.Path.{_≡_};
 ghost use Rattle.definition.specs.Reading.{reading};
 ghost use Rattle.definition.specs.Lookup.{getBytes};
+ghost use Rattle.definition.specs.Value as definition;
 ghost use Rattle.definition.specs.Value.{getString, getBool, getValue};
 ghost use Rattle.lookup.specs.Replies.{replied};
-ghost use Rattle.resource_manager.specs.Boundary.{Crossing, crossed, crossing, placeCode, Small, boolCode, Taking, taking, taken, compares, carried};
-ghost use Rattle.compare.specs.Comparing.{asked, comparing};
+ghost use Rattle.resource_manager.specs.Boundary.{crossed, crossing, placeCode, Small, boolCode, taking, taken, compares, Crosses};
+ghost use Rattle.compare.specs.Comparing.{asked};
+ghost use Rattle.readings.specs.Showing.{shownAt};
 use compare::Compared;
 use lookup::Lookup;
 use reader::Answer;
@@ -52,6 +54,24 @@ pub extern "C" fn resource_manager_get_bytes(
     ensures { λ r. ⌜ r ≡ placeCode (getBytes (now (contents .entry)) (now (bodies .entry)) (now (name .entry)) (now (class .entry))) ⌝ }
 {
     let found = lookup::get_bytes(contents, bodies, name, class);
+    place_code(found)
+}
+
+// The value of a query, or else a default: the answer is that of `resource_manager_get_bytes`. `shown` is lent as the default, and with
+// status 0 it is the value's bytes afterwards, a part of the bodies; with any other it stays the default.
+#[no_mangle]
+pub extern "C" fn resource_manager_show<'a>(
+    contents: &[u16],
+    bodies: &'a [u8],
+    name: &[u8],
+    class: &[u8],
+    shown: &mut &'a [u8],
+) -> u64
+    ensures { λ r. ⌜ (r ≡ placeCode (getBytes (now (contents .entry)) (now (bodies .entry)) (now (name .entry)) (now (class .entry)))) × (now (now (shown .exit)) ≡ definition.shown (now (contents .entry)) (now (bodies .entry)) (now (name .entry)) (now (class .entry)) (now (now (shown .entry)))) × (now (shown .exit) .ptr ≡ shownAt (getBytes (now (contents .entry)) (now (bodies .entry)) (now (name .entry)) (now (class .entry))) (bodies .entry .ptr) (now (shown .entry) .ptr)) ⌝ }
+{
+    let default = *shown;
+    let found = lookup::get_bytes(contents, bodies, name, class);
+    *shown = readings::value_or(found, bodies, default);
     place_code(found)
 }
 
@@ -132,7 +152,7 @@ pub extern "C" fn resource_manager_compare_without(
     with_it: &mut u64,
     without: &mut u64,
 ) -> u64
-    ensures { λ r. ⌜ compares r (now («with_it» .exit)) (now (without .exit)) (now (struck .exit)) (now (contents .exit)) (now (bodies .exit)) (now («contents_without» .exit)) (now («bodies_without» .exit)) ≡ carried (comparing (asked (now (text .entry)) (now (shelf .entry)) file (now (name .entry)) (now (class .entry)) (now (contents .entry)) (now (bodies .entry)) (now («contents_without» .entry)) (now («bodies_without» .entry))) (now (struck .entry))) (now («with_it» .entry)) (now (without .entry)) ⌝ }
+    ensures { λ r. ⌜ Crosses (asked (now (text .entry)) (now (shelf .entry)) file (now (name .entry)) (now (class .entry)) (now (contents .entry)) (now (bodies .entry)) (now («contents_without» .entry)) (now («bodies_without» .entry))) (now (struck .entry)) (now («with_it» .entry)) (now (without .entry)) (compares r (now («with_it» .exit)) (now (without .exit)) (now (struck .exit)) (now (contents .exit)) (now (bodies .exit)) (now («contents_without» .exit)) (now («bodies_without» .exit))) ⌝ }
 {
     let answer = compare::compare_without(
         text,
@@ -147,7 +167,7 @@ pub extern "C" fn resource_manager_compare_without(
         bodies_without,
     );
     match answer {
-        Compared::Both(first, second) => {
+        Compared::Both(first, second, _) => {
             *with_it = place_code(first);
             *without = place_code(second);
             0

@@ -1,5 +1,5 @@
 -- `readings::value_or` meets its contract. Assumes nothing.
-use mathlib.Core.Path.{refl, _∙_}
+use mathlib.Core.Path.{refl}
 use Rattle.definition.specs.Value.{bytesOr}
 use Rattle.readings.specs.Showing.{shownAt}
 use borrow.Author.Needs.{needs}
