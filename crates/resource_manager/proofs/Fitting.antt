@@ -22,7 +22,7 @@ use Rattle.readings.specs.Replies.{truthReplied, valueReplied}
 use Rattle.readings.specs.declared.Truth.{Truth}
 use Rattle.readings.specs.declared.Value.{Value}
 use Rattle.readings.proofs.Readings.{string-found}
-use Rattle.resource_manager.specs.Boundary.{crossed, Small, placeCode, boolCode, taken, compares, compareCode, codeWith, codeWithout, carried, CarriesTerm, Crosses}
+use Rattle.resource_manager.specs.Boundary.{noneCode, crossed, Small, placeCode, boolCode, taken, compares, compareCode, codeWith, codeWithout, carried, CarriesTerm, Crosses}
 
 -- ---- Readings and lookups, once the answer is told
 
@@ -76,7 +76,7 @@ module _ (c : Case) (struck : List ℕ) (r : Compared) (s c₁ b₁ c₂ b₂ : 
         → Crosses c struck w o (compares 0 m n s c₁ b₁ c₂ b₂)
     crosses-both a b second e m n f g = rw (f, g) (rw e at crosses)
 
-    pub crosses-none : r ≡ NoFile → Crosses c struck w o (compares 65535 w o s c₁ b₁ c₂ b₂)
+    pub crosses-none : r ≡ NoFile → Crosses c struck w o (compares noneCode w o s c₁ b₁ c₂ b₂)
     crosses-none e = rw e at crosses
 
     pub crosses-refused : (k : ℕ) → r ≡ RefusedCall k → Crosses c struck w o (compares k w o s c₁ b₁ c₂ b₂)

@@ -14,11 +14,25 @@ use Rattle.compare.specs.Comparing.{Comparison, both, noFile, refusedBy as refu
 use Rattle.lookup.specs.declared.Lookup.{Lookup}
 use Rattle.lookup.specs.declared.Lookup.the-variants.{Found, Nothing, Refused}
 
+-- the parts of an answer above its status, from bit 16 on and from bit 32 on
+abbrev pub from16 : ℕ
+from16 = 65536
+
+abbrev pub from32 : ℕ
+from32 = 4294967296
+
+-- statuses beside document 01's numbers
+abbrev pub noneCode : ℕ
+noneCode = 65535
+
+abbrev pub notANumberCode : ℕ
+notANumberCode = 65534
+
 -- ---- Readings
 
 -- entries in bits 16 to 31 and opens in bits 32 to 47, or the number of the refusal
 abbrev pub readCode : Answer → ℕ
-readCode (accepted entries opens) = 65536 * entries + 4294967296 * opens
+readCode (accepted entries opens) = from16 * entries + from32 * opens
 readCode (refused k) = k
 
 -- a call's number and the two buffers afterwards
@@ -37,8 +51,8 @@ crossed o = crossing (readCode (o .answer)) (o .contents) (o .bodies)
 
 -- the place in bits 16 to 31 and the length from bit 32 on, 65535 for none, or the number of the refusal
 abbrev pub placeCode : Reply Place → ℕ
-placeCode (given p) = 65536 * p .start + 4294967296 * p .length
-placeCode noValue = 65535
+placeCode (given p) = from16 * p .start + from32 * p .length
+placeCode noValue = noneCode
 placeCode (refusedBy k) = k
 
 -- a place in an image's bodies, so that its code fits
@@ -49,9 +63,9 @@ Small (Refused k) = Unit {0}
 
 -- 65536 for true and 0 for false
 abbrev pub boolCode : Reply Bool → ℕ
-boolCode (given true) = 65536
+boolCode (given true) = from16
 boolCode (given false) = 0
-boolCode noValue = 65535
+boolCode noValue = noneCode
 boolCode (refusedBy k) = k
 
 -- a call's number, and the lent number afterwards
@@ -65,8 +79,8 @@ taking n z = record { code = n; out = z }
 -- the number with 0; 65534 if not a number; only a number changes what is lent
 abbrev pub taken : Reply Number → ℤ → Taking
 taken (given (number z)) lent = taking 0 z
-taken (given notANumber) lent = taking 65534 lent
-taken noValue lent = taking 65535 lent
+taken (given notANumber) lent = taking notANumberCode lent
+taken noValue lent = taking noneCode lent
 taken (refusedBy k) lent = taking k lent
 
 -- ---- The comparing call
@@ -88,7 +102,7 @@ compares n w o s c b c′ b′ = record { code = n; withIt = w; without = o; str
 -- 0 with both lookups' numbers, 65535 if the archive has no such file, or the refusal; only 0 changes the lent numbers
 abbrev pub compareCode : Comparison → ℕ
 compareCode (both a b second) = 0
-compareCode noFile = 65535
+compareCode noFile = noneCode
 compareCode (refusedAs k) = k
 
 abbrev pub codeWith : Comparison → ℕ → ℕ

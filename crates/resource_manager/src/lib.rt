@@ -14,6 +14,16 @@ use reader::Answer;
 use readings::Truth;
 use readings::Value;
 
+// The parts of an answer above its status, from bit 16 on and from bit 32 on.
+const FROM_16: u64 = 65536;
+
+const FROM_32: u64 = 4294967296;
+
+// Statuses beside document 01's numbers.
+const NONE: u64 = 65535;
+
+const NOT_A_NUMBER: u64 = 65534;
+
 // Document 01's reading call. The low 16 bits are 0, or the number of the refusal and that alone; entries stand in bits 16 to 31
 // and opens in bits 32 to 47.
 #[no_mangle]
@@ -27,7 +37,7 @@ pub extern "C" fn resource_manager_read(
 {
     let answer = reader::read(text, shelf, contents, bodies);
     match answer {
-        Answer::Accepted(entries, opens) => 65536 * (entries as u64) + 4294967296 * (opens as u64),
+        Answer::Accepted(entries, opens) => FROM_16 * (entries as u64) + FROM_32 * (opens as u64),
         Answer::Refused(number) => number as u64,
     }
 }
@@ -37,8 +47,8 @@ fn place_code(found: Lookup) -> u64
     ensures { λ r. ⌜ r ≡ placeCode (replied found) ⌝ }
 {
     match found {
-        Lookup::Found(place, size) => 65536 * (place as u64) + 4294967296 * (size as u64),
-        Lookup::Nothing => 65535,
+        Lookup::Found(place, size) => FROM_16 * (place as u64) + FROM_32 * (size as u64),
+        Lookup::Nothing => NONE,
         Lookup::Refused(number) => number as u64,
     }
 }
@@ -103,11 +113,11 @@ pub extern "C" fn resource_manager_get_bool(
     match truth {
         Truth::Is(value) => {
             if value {
-                return 65536;
+                return FROM_16;
             }
             0
         }
-        Truth::Nothing => 65535,
+        Truth::Nothing => NONE,
         Truth::Refused(number) => number as u64,
     }
 }
@@ -129,8 +139,8 @@ pub extern "C" fn resource_manager_get_value(
             *out = number;
             0
         }
-        Value::NotANumber => 65534,
-        Value::Nothing => 65535,
+        Value::NotANumber => NOT_A_NUMBER,
+        Value::Nothing => NONE,
         Value::Refused(number) => number as u64,
     }
 }
@@ -172,7 +182,7 @@ pub extern "C" fn resource_manager_compare_without(
             *without = place_code(second);
             0
         }
-        Compared::NoFile => 65535,
+        Compared::NoFile => NONE,
         Compared::Refused(number) => number as u64,
     }
 }
