@@ -10,7 +10,7 @@ use lib.Seq.{paste, take-at, take-length}
 use borrow.Author.Tests.{lt-ltb, le-ltb}
 use Rattle.definition.specs.Lists.{if_then_else_}
 use Rattle.definition.specs.Limits.{contentsWords, bodyBytes}
-use Rattle.definition.specs.Archive.{laidOut, filesOf}
+use Rattle.definition.specs.Archive.{laidOut, filesOf, struckOff}
 use Rattle.definition.specs.Image.{tooShort}
 use Rattle.definition.specs.Reading.{Answer, accepted, refused, Outcome, outcome, reading}
 use Rattle.definition.specs.Lookup.{Reply, given, noValue, refused as refusedLookup, Place, getBytes}
@@ -34,8 +34,16 @@ pub read-laidOut : (text archive contents bodies c b : List ℕ) (n o : ℕ) →
 read-laidOut text archive contents bodies c b n o e = accepted-reads text archive contents bodies (rw (← e) refl) .isLaidOut
 
 -- its front, as what was copied there
-pub front-copied : (d s : List ℕ) → length s ≤ length d → take (length s) (paste d 0 s (length s)) ≡ s
+front-copied : (d s : List ℕ) → length s ≤ length d → take (length s) (paste d 0 s (length s)) ≡ s
 front-copied d s h = rw (take-length s) (take-at s (drop (0 + length s) d) (length s) refl)
+
+-- a reading with what was struck off
+pub second-read : (r : reader.Answer) (text archive : List ℕ) (file n : ℕ) (struck contents bodies struck′ contents′ bodies′ : List ℕ)
+    → length (struckOff file archive) ≤ length struck → n ≡ length (struckOff file archive) → struck′ ≡ paste struck 0 (struckOff file archive) n
+    → outcome (said r) contents′ bodies′ ≡ reading text (take n struck′) contents bodies → SecondOf r text archive file struck contents bodies struck′ contents′ bodies′
+second-read r text archive file n struck contents bodies struck′ contents′ bodies′ h e copied read =
+    let left = rw e at copied in
+    record { struckOff-left = left; read = rw (e, left, front-copied struck (struckOff file archive) h) at read }
 
 module _ (c : Case) (struck : List ℕ) where
   pub short-struck : length struck < length (c .archive) → noRoom c struck ≡ comparing c struck

@@ -6,7 +6,7 @@ use lib.ListN.{length}
 use lib.Seq.{length-take-le}
 use Rattle.definition.specs.Archive.{struckOff}
 use Rattle.laws.proofs.Archive.{struck-shorter}
-use Rattle.compare.proofs.Comparing.{front-copied}
+use Rattle.compare.proofs.Comparing.{second-read}
 use borrow.Author.Needs.{needs}
 use Rattle.compare.proofs.read_without.Statement.{statement}
 use Rattle.compare.proofs.read_without.Tie as tie
@@ -35,10 +35,7 @@ returns : tie.Need-returns
 returns c =
     let read-here = c .before .before .before .before in
     let strike-off-here = read-here .before .before .before .before .before .before in
-    let a = begun strike-off-here .args in
-    let copied = rw (strike-off-here .strike-off .ensures .0) at (strike-off-here .strike-off .ensures .1) in
-    let front = front-copied (a .struck .now) (struckOff (a .file) (a .archive .now)) (fits (begun strike-off-here)) in
-    record { struckOff-left = copied; read = rw (strike-off-here .strike-off .ensures .0, copied, front) at (read-here .read .ensures) }
+    second-read (read-here .read .result) _ _ _ _ _ _ _ _ _ _ (fits (begun strike-off-here)) (strike-off-here .strike-off .ensures .0) (strike-off-here .strike-off .ensures .1) (read-here .read .ensures)
 
 pub read-without-spec : {M : Type 1} → statement M
 read-without-spec =
