@@ -28,6 +28,7 @@ filesLeft s count at j = filesFrom (count - j) (drop (lengthsAt j) s) (drop at s
 unfoldable pub fitsLeft : List ℕ → ℕ → ℕ → ℕ → Bool
 fitsLeft s count at j = fitsFrom (count - j) (drop (lengthsAt j) s) (drop at s)
 
+-- file j of `count` is next, and all their lengths stand in s
 pub record Standing (s : List ℕ) (count at j : ℕ) : Type 0 where
   pub j-most : j ≤ count
   pub few : count < 65536

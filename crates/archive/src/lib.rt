@@ -12,6 +12,9 @@ use file_names::lower;
 use limits::ARCHIVE_BYTES;
 use limits::ARCHIVE_FILES;
 
+// The bytes of a file's two lengths.
+pub const LENGTHS_BYTES: usize = 4;
+
 // A file as it stands in an archive: its number from 0, where its name starts, where its body starts, and where that ends.
 pub struct Member {
     pub number: usize,
@@ -41,7 +44,7 @@ pub fn lengths_at(number: usize) -> usize
     requires { ⌜ number < 65536 ⌝ }
     ensures { λ r. ⌜ r ≡ lengthsAt number ⌝ }
 {
-    2 + 4 * number
+    2 + LENGTHS_BYTES * number
 }
 
 // A step of the walk: the file of that number, whose name starts at `start`, by its two lengths. The next one's starts at its end.

@@ -7,7 +7,7 @@ use native.Mathlib.Omega.{arith}
 use lib.Dec.{leb, ltb}
 use lib.ListN.{length, take, drop, length-append, length-drop}
 use lib.Seq.{paste, length-take-le, length-paste, take-all, take-at}
-use borrow.Author.Tests.{leb-true, le-leb, lt-leb, le-ltb, lt-ltb, ltb-false, leb-false}
+use borrow.Author.Tests.{leb-true, le-leb, lt-leb, le-ltb, lt-ltb, ltb-false, leb-false, not-false}
 use Rattle.definition.specs.Lists.{if_then_else_, all, any, lower}
 use Rattle.definition.specs.Limits.{archiveBytes, archiveFiles, fileNameBytes}
 use Rattle.definition.specs.Archive.{File, bytesOf, lengthsOf, bodiesOf, archiveOf, numberAt, filesOf, split, isNamePart, isFileName, rising, laidOut}
@@ -18,8 +18,9 @@ use Rattle.archive.specs.declared.Member.{Member}
 use Rattle.archive.specs.Walk.{lengthsAt, nameStart, memberAt, fileIn}
 use Rattle.archive.proofs.Walk.{laid-fits, length-files, bodies-append, part-size, Walking, walking-first, walking-turn, walking-next, walking-end}
 use Rattle.archive_edit.specs.declared.Slot.{Slot}
+use Rattle.archive_edit.specs.declared.Added.{Added}
 use Rattle.archive_edit.specs.declared.Added.the-variants.{Size, NotAName, Again, TooMany, TooLarge}
-use Rattle.archive_edit.specs.Adding.{below, onIt, slotFor, inserted, archiveWith, leaving, adding}
+use Rattle.archive_edit.specs.Adding.{below, onIt, slotFor, inserted, archiveWith, Addition, leaving, adding}
 use Rattle.archive_edit.proofs.Stretches.{lengths-append, stretch-sizes, stretch-lengths, stretch-middle, stretch-last, starts-low, written-first, written-on, written-all}
 
 abbrev pub names : List File → List (List ℕ)
@@ -333,42 +334,29 @@ module _ (f : File) (s out o : List ℕ) (n : ℕ) (h : laidOut s ≡ true) wher
         laid = rw t (inserted-laid s h f a b c d);
       }
 
+  abbrev isSize : Added → Bool
+  isSize (Size m) = true
+  isSize NotAName = false
+  isSize Again = false
+  isSize TooMany = false
+  isSize TooLarge = false
+
+  -- a reason that does not hold is passed over
+  passed : (b : Bool) (a : Added) (x : Addition) → isSize a ≡ false → leaving (Size n) o ≡ (if b then leaving a out else x) → (b ≡ false) × (leaving (Size n) o ≡ x)
+  passed true a x r e = absurd (not-both (ap (λ y. isSize (y .answer)) (sym e)) r)
+  passed false a x r e = (refl, e)
+
   -- what was added to an archive is one
   pub added-holds : leaving (Size n) o ≡ adding f s out → Holding f s o n
   unfolding adding
-  added-holds e = at₁ (isFileName (f .name)) refl e
-    where
-      w : List ℕ
-      w = archiveWith f s
-
-      at₅ : (b : Bool) → ltb (length out) (length w) ≡ b → isFileName (f .name) ≡ true → onIt (f .name) (filesOf s) ≡ false → length (filesOf s) < archiveFiles
-          → length w ≤ archiveBytes → leaving (Size n) o ≡ (if b then leaving TooLarge out else leaving (Size (length w)) (paste out 0 w (length w))) → Holding f s o n
-      at₅ true l p q r t g = absurd (let a = ap (λ x. x .answer) g in let z : _≡_ {A = ℕ} 0 1 = cc in omega arith)
-      at₅ false l p q r t g = held p q r t (ltb-false (length out) (length w) l) g
-
-      at₄ : (b : Bool) → ltb archiveBytes (length w) ≡ b → isFileName (f .name) ≡ true → onIt (f .name) (filesOf s) ≡ false → length (filesOf s) < archiveFiles
-          → leaving (Size n) o ≡ (if b then leaving TooLarge out else if ltb (length out) (length w) then leaving TooLarge out else leaving (Size (length w)) (paste out 0 w (length w)))
-          → Holding f s o n
-      at₄ true l p q r g = absurd (let a = ap (λ x. x .answer) g in let z : _≡_ {A = ℕ} 0 1 = cc in omega arith)
-      at₄ false l p q r g = at₅ (ltb (length out) (length w)) refl p q r (ltb-false archiveBytes (length w) l) g
-
-      at₃ : (b : Bool) → leb archiveFiles (length (filesOf s)) ≡ b → isFileName (f .name) ≡ true → onIt (f .name) (filesOf s) ≡ false
-          → leaving (Size n) o ≡ (if b then leaving TooMany out else if ltb archiveBytes (length w) then leaving TooLarge out else if ltb (length out) (length w) then leaving TooLarge out else leaving (Size (length w)) (paste out 0 w (length w)))
-          → Holding f s o n
-      at₃ true l p q g = absurd (let a = ap (λ x. x .answer) g in let z : _≡_ {A = ℕ} 0 1 = cc in omega arith)
-      at₃ false l p q g = at₄ (ltb archiveBytes (length w)) refl p q (leb-false archiveFiles (length (filesOf s)) l) g
-
-      at₂ : (b : Bool) → onIt (f .name) (filesOf s) ≡ b → isFileName (f .name) ≡ true
-          → leaving (Size n) o ≡ (if b then leaving Again out else if leb archiveFiles (length (filesOf s)) then leaving TooMany out else if ltb archiveBytes (length w) then leaving TooLarge out else if ltb (length out) (length w) then leaving TooLarge out else leaving (Size (length w)) (paste out 0 w (length w)))
-          → Holding f s o n
-      at₂ true l p g = absurd (let a = ap (λ x. x .answer) g in let z : _≡_ {A = ℕ} 0 1 = cc in omega arith)
-      at₂ false l p g = at₃ (leb archiveFiles (length (filesOf s))) refl p l g
-
-      at₁ : (b : Bool) → isFileName (f .name) ≡ b
-          → leaving (Size n) o ≡ (if not b then leaving NotAName out else if onIt (f .name) (filesOf s) then leaving Again out else if leb archiveFiles (length (filesOf s)) then leaving TooMany out else if ltb archiveBytes (length w) then leaving TooLarge out else if ltb (length out) (length w) then leaving TooLarge out else leaving (Size (length w)) (paste out 0 w (length w)))
-          → Holding f s o n
-      at₁ true l g = at₂ (onIt (f .name) (filesOf s)) refl l g
-      at₁ false l g = absurd (let a = ap (λ x. x .answer) g in let z : _≡_ {A = ℕ} 0 1 = cc in omega arith)
+  added-holds e =
+      let r₁ = passed (not (isFileName (f .name))) NotAName _ refl e in
+      let r₂ = passed (onIt (f .name) (filesOf s)) Again _ refl (r₁ .1) in
+      let r₃ = passed (leb archiveFiles (length (filesOf s))) TooMany _ refl (r₂ .1) in
+      let r₄ = passed (ltb archiveBytes (length (archiveWith f s))) TooLarge _ refl (r₃ .1) in
+      let r₅ = passed (ltb (length out) (length (archiveWith f s))) TooLarge _ refl (r₄ .1) in
+      held (not-false (isFileName (f .name)) (r₁ .0)) (r₂ .0) (leb-false archiveFiles (length (filesOf s)) (r₃ .0)) (ltb-false archiveBytes (length (archiveWith f s)) (r₄ .0))
+      (ltb-false (length out) (length (archiveWith f s)) (r₅ .0)) (r₅ .1)
 
 -- an archive of no files
 pub none-laid : laidOut (0 ∷ 0 ∷ []) ≡ true

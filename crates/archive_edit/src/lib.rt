@@ -9,6 +9,7 @@ ghost use Rattle.definition.specs.Archive.{bytesOf, filesOf, laidOut, struckOff
 ghost use Rattle.definition.specs.Limits.{archiveBytes};
 ghost use Rattle.archive.specs.Walk.{nameStart};
 ghost use Rattle.archive_edit.specs.Adding.{fileOf, slotFor, archiveWith, leaving, adding};
+use archive::LENGTHS_BYTES;
 use archive::Member;
 use archive::file_count;
 use archive::lengths_at;
@@ -91,7 +92,7 @@ pub fn strike_off(archive: &[u8], file: usize, out: &mut [u8]) -> usize
 {
     let count = file_count(archive);
     let row = lengths_at(file);
-    let next = row + 4;
+    let next = row + LENGTHS_BYTES;
     let member = member_of(archive, file);
     let at = member.start;
     let rest = member.end;
@@ -99,8 +100,8 @@ pub fn strike_off(archive: &[u8], file: usize, out: &mut [u8]) -> usize
     copy_part(archive, 2, row, out, 2);
     // the lengths of the later files, and then the earlier files themselves
     copy_part(archive, next, at, out, row);
-    copy_part(archive, rest, archive.len(), out, at - 4);
-    archive.len() - 4 - (rest - at)
+    copy_part(archive, rest, archive.len(), out, at - LENGTHS_BYTES);
+    archive.len() - LENGTHS_BYTES - (rest - at)
 }
 
 // Where the name stands among the files of the archive.
@@ -142,14 +143,14 @@ fn insert(archive: &[u8], slot: Slot, name: &[u8], body: &[u8], out: &mut [u8])
     let index = slot.index;
     let at = slot.at;
     let row = lengths_at(index);
-    let start = at + 4;
+    let start = at + LENGTHS_BYTES;
     let rest = start + name.len();
     let end = rest + body.len();
     put_word(count + 1, out, 0);
     copy_part(archive, 2, row, out, 2);
     put_lengths(name.len(), body.len(), out, row);
     // the lengths of the later files, and then the earlier files themselves
-    copy_part(archive, row, at, out, row + 4);
+    copy_part(archive, row, at, out, row + LENGTHS_BYTES);
     copy_in(name, out, start);
     copy_in(body, out, rest);
     copy_part(archive, at, archive.len(), out, end);
@@ -170,7 +171,7 @@ pub fn add_file(archive: &[u8], name: &[u8], body: &[u8], out: &mut [u8]) -> Add
     if ARCHIVE_FILES <= file_count(archive) {
         return Added::TooMany;
     }
-    let size = archive.len() + (4 + name.len() + body.len());
+    let size = archive.len() + (LENGTHS_BYTES + name.len() + body.len());
     if ARCHIVE_BYTES < size {
         return Added::TooLarge;
     }

@@ -25,7 +25,10 @@ use Rattle.lookup.specs.declared.Lookup.the-variants.{Found, Nothing, Refused}
 use Rattle.lookup.specs.Replies.{replied}
 use Rattle.lookup.proofs.Looking.{no-image, past, found-inside}
 use Rattle.compare.specs.declared.Compared.the-variants.{Both}
-use Rattle.compare.specs.Comparing.{Comparison, both, noFile, refusedBy as comparedRefused, Left, answering, noRoom, onlyFirst, bothRead, afterFirst, comparing, Promise, leaving}
+use Rattle.compare.specs.Comparing.{Left, comparing, leaving}
+use Rattle.compare.proofs.Comparing.{answered-both}
+use Rattle.reader.specs.Said.{said}
+use Rattle.reader.specs.declared.Answer as reader
 use Rattle.getres.specs.Showing.{Shown, value, noValue, refusedBy, shown, Inside, ofBytes, ofQuery, ofReading, answered, Answers, wordsOf, lineOf, sameShown}
 
 -- ---- A lookup's answer
@@ -126,46 +129,13 @@ module _ (bodies store : List ℕ) (a b : Lookup) where
       (both-ways r (same v w) (λ t. eq-same v w (sym ev ∙ h .0 t ∙ ew)) (λ t. h .1 (ev ∙ same-eq v w t ∙ sym ew)))
 
 -- the call's two lookups lie in what was read
-module _ (c : Case) (struck s c₁ b₁ c₂ b₂ : List ℕ) (x y : Lookup) (e : leaving (Both x y) s c₁ b₁ c₂ b₂ ≡ comparing c struck) where
-  not-both-left : (k : ℕ) → both (replied x) (replied y) ≡ comparedRefused k → ⊥
-  not-both-left k f = let z : _≡_ {A = ℕ} 0 1 = cc in omega arith
-
-  left-is : leaving (Both x y) s c₁ b₁ c₂ b₂ ≡ bothRead c struck
-  unfolding afterFirst comparing
-  left-is = at₁ (ltb (length struck) (length (c .archive))) refl
-    where
-      at₄ : (t : Bool) → leaving (Both x y) s c₁ b₁ c₂ b₂ ≡ (if t then bothRead c struck else onlyFirst c struck noFile) → leaving (Both x y) s c₁ b₁ c₂ b₂ ≡ bothRead c struck
-      at₄ true f = f
-      at₄ false f = absurd (let g : both (replied x) (replied y) ≡ noFile = ap (λ (l : Left). l .answer) f in let z : _≡_ {A = ℕ} 0 1 = cc in omega arith)
-
-      at₃ : (a : Answer) → leaving (Both x y) s c₁ b₁ c₂ b₂ ≡ afterFirst c struck a → leaving (Both x y) s c₁ b₁ c₂ b₂ ≡ bothRead c struck
-      at₃ (accepted n o) f = at₄ (ltb (c .file) (length (filesOf (c .archive)))) f
-      at₃ (refusedReading k) f = absurd (not-both-left k (ap (λ (l : Left). l .answer) f))
-
-      at₂ : (t : Bool) → leaving (Both x y) s c₁ b₁ c₂ b₂ ≡ (if t then noRoom c struck else afterFirst c struck (withFile c .answer)) → leaving (Both x y) s c₁ b₁ c₂ b₂ ≡ bothRead c struck
-      at₂ true f = absurd (not-both-left 1 (ap (λ (l : Left). l .answer) f))
-      at₂ false f = at₃ (withFile c .answer) f
-
-      at₁ : (t : Bool) → ltb (length struck) (length (c .archive)) ≡ t → leaving (Both x y) s c₁ b₁ c₂ b₂ ≡ bothRead c struck
-      at₁ true f =
-          let g : leaving (Both x y) s c₁ b₁ c₂ b₂ ≡ noRoom c struck = e ∙ rw f refl in
-          absurd (not-both-left 1 (ap (λ (l : Left). l .answer) g))
-      at₁ false f = at₂ (tooShort (c .contents′) (c .bodies′)) (e ∙ rw f refl)
-
-  answers-are : (p q : Reply Place) → both (replied x) (replied y) ≡ answering p q → (replied x ≡ p) × (replied y ≡ q)
-  unfolding answering
-  answers-are (given p) q f = (cc, cc)
-  answers-are noReply q f = (cc, cc)
-  answers-are (refused k) q f = absurd (not-both-left k f)
-
-  pub both-inside : Inside b₁ x × Inside b₂ y
-  both-inside =
-      let a = answers-are (lookup c (withFile c)) (lookup c (withoutFile c)) (ap (λ (l : Left). l .answer) left-is) in
-      let e₁ = ap (λ (l : Left). l .bodies) left-is in
-      let e₂ = ap (λ (l : Left). l .bodies′) left-is in (
-        rw e₁ (inside-of (withFile c .contents) (withFile c .bodies) (c .name) (c .class) x (a .0)),
-        rw e₂ (inside-of (withoutFile c .contents) (withoutFile c .bodies) (c .name) (c .class) y (a .1)),
-      )
+pub both-inside : (c : Case) (struck s c₁ b₁ c₂ b₂ : List ℕ) (x y : Lookup) (second : reader.Answer) → leaving (Both x y second) s c₁ b₁ c₂ b₂ ≡ comparing c struck
+    → Inside b₁ x × Inside b₂ y
+both-inside c struck s c₁ b₁ c₂ b₂ x y second e =
+    let m = answered-both c struck (leaving (Both x y second) s c₁ b₁ c₂ b₂) (replied x) (replied y) (said second) refl e in (
+      rw (ap (λ (l : Left). l .bodies) (m .made)) (inside-of (withFile c .contents) (withFile c .bodies) (c .name) (c .class) x (m .first-looked)),
+      rw (ap (λ (l : Left). l .bodies′) (m .made)) (inside-of (withoutFile c .contents) (withoutFile c .bodies) (c .name) (c .class) y (m .second-looked)),
+    )
 
 -- ---- Lines, piece by piece
 

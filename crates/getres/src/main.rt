@@ -281,7 +281,7 @@ fn answer_twice(
         &mut store,
     );
     match compared {
-        Compared::Both(a, b) => print_both(file, a, &bodies, b, &store),
+        Compared::Both(a, b, _) => print_both(file, a, &bodies, b, &store),
         Compared::NoFile => {
             complain(file, b"not among the files");
             2

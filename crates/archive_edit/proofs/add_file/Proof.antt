@@ -30,11 +30,6 @@ returns-2 c =
     let s = a .archive .now in
     adding-again s (start-here .pre) (fileOf (a .name .now) (a .body .now)) (a .out .now) (sym (is-file-name-here .is-file-name .ensures) ∙ not-false _ (if1-here .if1 .left)) (slot-taken (a .name .now) s (slot-for-here .slot-for .ensures) ∙ if2-here .if2 .taken)
 
-file-count-requires : tie.Need-file-count-requires
-file-count-requires c κs =
-    let start-here = c .before .before .before .before .before .before .before .before in
-    omega (arith, rows-room (start-here .args .archive .now) (start-here .pre))
-
 returns-3 : tie.Need-returns-3
 returns-3 c =
     let start-here = c .before .before .before .before .before .before .before .before .before .before in
@@ -116,5 +111,6 @@ pub add-file-spec : {M : Type 1} → statement M
 add-file-spec =
     tie.close
     (tie.spec
-    (λ c κs. search needs) returns (λ c κs. search needs) returns-2 file-count-requires returns-3 (λ c. search needs) add-size-2
-    add-size-3 returns-4 returns-5 (λ c κs. search needs) (λ c. search needs) returns-6)
+    (λ c κs. search needs) returns (λ c κs. search needs) returns-2
+    (λ c κs. omega (arith, rows-room (c .before .before .before .before .before .before .before .before .args .archive .now) (c .before .before .before .before .before .before .before .before .pre)))
+    returns-3 (λ c. search needs) add-size-2 add-size-3 returns-4 returns-5 (λ c κs. search needs) (λ c. search needs) returns-6)

@@ -13,135 +13,93 @@ use Rattle.archive_edit.proofs.Adding.{slot-most, insert-written}
 use Rattle.archive_edit.proofs.insert.Statement.{statement}
 use Rattle.archive_edit.proofs.insert.Tie as tie
 
--- how the numbers lie to each other
-abbrev Facts : tie.Start → ℕ → ℕ → Type 0
-Facts start count row =
-    let a = start .args in
-    (count < 65536) × (a .slot .index ≤ count) × (lengthsAt count ≤ a .slot .at) × (a .slot .at ≤ length (a .archive .now)) × (row ≡ lengthsAt (a .slot .index))
+-- how the numbers lie to each other, once they are known, where `out` has so many bytes
+abbrev Facts : tie.After-lengths-at → ℕ → Type 0
+Facts c long =
+    let a = c .before .before .before .before .before .before .args in
+    let count = c .before .file-count .result in
+    (count < 65536) × (a .slot .index ≤ count) × (lengthsAt count ≤ a .slot .at) × (a .slot .at ≤ length (a .archive .now)) × (c .lengths-at .result ≡ lengthsAt (a .slot .index))
     × (length (a .archive .now) + (4 + length (a .name .now) + length (a .body .now)) ≤ archiveBytes)
-    × (length (a .archive .now) + (4 + length (a .name .now) + length (a .body .now)) ≤ length (a .out .now))
+    × (length (a .archive .now) + (4 + length (a .name .now) + length (a .body .now)) ≤ long)
 
-facts : (c : tie.After-lengths-at) → Facts (c .before .before .before .before .before .before) (c .before .file-count .result) (c .lengths-at .result)
+slot-in : (c : tie.After-file-count) → (c .before .before .before .before .before .args .slot .index ≤ c .file-count .result) × (lengthsAt (c .file-count .result) ≤ c .before .before .before .before .before .args .slot .at)
+    × (c .before .before .before .before .before .args .slot .at ≤ length (c .before .before .before .before .before .args .archive .now))
+slot-in c =
+    let start = c .before .before .before .before .before in
+    let a = start .args in
+    slot-most (a .archive .now) (start .pre .0) (fileOf (a .name .now) (a .body .now)) (a .slot) (start .pre .1) (c .file-count .result) (c .file-count .ensures .0)
+
+facts : (c : tie.After-lengths-at) → Facts c (length (c .before .before .before .before .before .before .args .out .now))
 facts c =
-    let start-here = c .before .before .before .before .before .before in
-    let file-count-here = c .before in
-    let a = start-here .args in
-    let q = slot-most (a .archive .now) (start-here .pre .0) (fileOf (a .name .now) (a .body .now)) (a .slot) (start-here .pre .1) (file-count-here .file-count .result) (file-count-here .file-count .ensures .0) in
-    (file-count-here .file-count .ensures .1, q .0, q .1, q .2, c .lengths-at .ensures, start-here .pre .2, start-here .pre .3)
+    let start = c .before .before .before .before .before .before in
+    let q = slot-in (c .before) in
+    (c .before .file-count .ensures .1, q .0, q .1, q .2, c .lengths-at .ensures, start .pre .2, start .pre .3)
 
-file-count-requires : tie.Need-file-count-requires
-file-count-requires c κs =
-    let start-here = c .before .before .before .before in
-    omega (arith, rows-room (start-here .args .archive .now) (start-here .pre .0))
+-- after each write: where the numbers are known, and that `out` is as long as before
+abbrev at₁ : tie.After-put-word → tie.After-lengths-at
+at₁ c = c .before .before
 
-lengths-at-requires : tie.Need-lengths-at-requires
-lengths-at-requires c κs =
-    let start-here = c .before .before .before .before .before in
-    let file-count-here = c in
-    let a = start-here .args in
-    omega (arith, slot-most (a .archive .now) (start-here .pre .0) (fileOf (a .name .now) (a .body .now)) (a .slot) (start-here .pre .1) (file-count-here .file-count .result) (file-count-here .file-count .ensures .0), file-count-here .file-count .ensures .1)
+facts₁ : (c : tie.After-put-word) → Facts (at₁ c) (length (c .put-word .last .1 .0))
+facts₁ c = rw (c .put-word .kept .1 .0) (facts (c .before .before))
 
-add-start : tie.Need-add-start
-add-start c =
-    let lengths-at-here = c in
-    omega (arith, facts lengths-at-here)
+abbrev at₂ : tie.After-copy-part → tie.After-lengths-at
+at₂ c = at₁ (c .before .before .before .before)
 
-add-rest : tie.Need-add-rest
-add-rest c =
-    let lengths-at-here = c in
-    omega (arith, facts lengths-at-here)
+facts₂ : (c : tie.After-copy-part) → Facts (at₂ c) (length (c .copy-part .last .1 .1 .1 .0))
+facts₂ c = rw (c .copy-part .kept .1 .1 .1 .0) (facts₁ (c .before .before .before .before))
 
-add-end : tie.Need-add-end
-add-end c =
-    let lengths-at-here = c in
-    omega (arith, facts lengths-at-here)
+abbrev at₃ : tie.After-put-lengths → tie.After-lengths-at
+at₃ c = at₂ (c .before .before .before .before)
 
-add-copy-part : tie.Need-add-copy-part
-add-copy-part c =
-    let lengths-at-here = c .before .before .before .before .before .before .before .before .before .before .before .before .before in
-    omega (arith, facts lengths-at-here)
+facts₃ : (c : tie.After-put-lengths) → Facts (at₃ c) (length (c .put-lengths .last .1 .1 .0))
+facts₃ c = rw (c .put-lengths .kept .1 .1 .0) (facts₂ (c .before .before .before .before))
 
-put-word-requires : tie.Need-put-word-requires
-put-word-requires c κs =
-    let lengths-at-here = c .before in
-    omega (arith, facts lengths-at-here)
+abbrev at₄ : tie.After-copy-part2 → tie.After-lengths-at
+at₄ c = at₃ (c .before .before .before .before)
 
-copy-part-requires : tie.Need-copy-part-requires
-copy-part-requires c κs =
-    let lengths-at-here = c .before .before .before .before .before in
-    let put-word-here = c .before .before .before in
-    omega (arith, facts lengths-at-here, put-word-here .put-word .kept .1 .0)
+facts₄ : (c : tie.After-copy-part2) → Facts (at₄ c) (length (c .copy-part2 .last .1 .1 .1 .0))
+facts₄ c = rw (c .copy-part2 .kept .1 .1 .1 .0) (facts₃ (c .before .before .before .before))
 
-put-lengths-requires : tie.Need-put-lengths-requires
-put-lengths-requires c κs =
-    let lengths-at-here = c .before .before .before .before .before .before .before .before .before in
-    let put-word-here = c .before .before .before .before .before .before .before in
-    let copy-part-here = c .before .before .before in
-    omega (arith, facts lengths-at-here, put-word-here .put-word .kept .1 .0, copy-part-here .copy-part .kept .1 .1 .1 .0)
+abbrev at₅ : tie.After-copy-in → tie.After-lengths-at
+at₅ c = at₄ (c .before .before .before .before)
 
-copy-part-requires-2 : tie.Need-copy-part-requires-2
-copy-part-requires-2 c κs =
-    let lengths-at-here = c .before .before .before .before .before .before .before .before .before .before .before .before .before in
-    let put-word-here = c .before .before .before .before .before .before .before .before .before .before .before in
-    let copy-part-here = c .before .before .before .before .before .before .before in
-    let put-lengths-here = c .before .before .before in
-    omega (arith, facts lengths-at-here, put-word-here .put-word .kept .1 .0, copy-part-here .copy-part .kept .1 .1 .1 .0, put-lengths-here .put-lengths .kept .1 .1 .0)
+facts₅ : (c : tie.After-copy-in) → Facts (at₅ c) (length (c .copy-in .last .1 .0))
+facts₅ c = rw (c .copy-in .kept .1 .0) (facts₄ (c .before .before .before .before))
 
-copy-in-requires : tie.Need-copy-in-requires
-copy-in-requires c κs =
-    let lengths-at-here = c .before .before .before .before .before .before .before .before .before .before .before .before .before .before .before .before .before in
-    let put-word-here = c .before .before .before .before .before .before .before .before .before .before .before .before .before .before .before in
-    let copy-part-here = c .before .before .before .before .before .before .before .before .before .before .before in
-    let put-lengths-here = c .before .before .before .before .before .before .before in
-    let copy-part2-here = c .before .before .before in
-    omega (arith, facts lengths-at-here, put-word-here .put-word .kept .1 .0, copy-part-here .copy-part .kept .1 .1 .1 .0, put-lengths-here .put-lengths .kept .1 .1 .0, copy-part2-here .copy-part2 .kept .1 .1 .1 .0)
+abbrev at₆ : tie.After-copy-in2 → tie.After-lengths-at
+at₆ c = at₅ (c .before .before .before .before)
 
-copy-in-requires-2 : tie.Need-copy-in-requires-2
-copy-in-requires-2 c κs =
-    let lengths-at-here = c .before .before .before .before .before .before .before .before .before .before .before .before .before .before .before .before .before .before .before .before .before in
-    let put-word-here = c .before .before .before .before .before .before .before .before .before .before .before .before .before .before .before .before .before .before .before in
-    let copy-part-here = c .before .before .before .before .before .before .before .before .before .before .before .before .before .before .before in
-    let put-lengths-here = c .before .before .before .before .before .before .before .before .before .before .before in
-    let copy-part2-here = c .before .before .before .before .before .before .before in
-    let copy-in-here = c .before .before .before in
-    omega (arith, facts lengths-at-here, put-word-here .put-word .kept .1 .0, copy-part-here .copy-part .kept .1 .1 .1 .0, put-lengths-here .put-lengths .kept .1 .1 .0, copy-part2-here .copy-part2 .kept .1 .1 .1 .0, copy-in-here .copy-in .kept .1 .0)
-
-copy-part-requires-3 : tie.Need-copy-part-requires-3
-copy-part-requires-3 c κs =
-    let lengths-at-here = c .before .before .before .before .before .before .before .before .before .before .before .before .before .before .before .before .before .before .before .before .before .before .before .before .before in
-    let put-word-here = c .before .before .before .before .before .before .before .before .before .before .before .before .before .before .before .before .before .before .before .before .before .before .before in
-    let copy-part-here = c .before .before .before .before .before .before .before .before .before .before .before .before .before .before .before .before .before .before .before in
-    let put-lengths-here = c .before .before .before .before .before .before .before .before .before .before .before .before .before .before .before in
-    let copy-part2-here = c .before .before .before .before .before .before .before .before .before .before .before in
-    let copy-in-here = c .before .before .before .before .before .before .before in
-    let copy-in2-here = c .before .before .before in
-    omega (arith, facts lengths-at-here, put-word-here .put-word .kept .1 .0, copy-part-here .copy-part .kept .1 .1 .1 .0, put-lengths-here .put-lengths .kept .1 .1 .0, copy-part2-here .copy-part2 .kept .1 .1 .1 .0, copy-in-here .copy-in .kept .1 .0, copy-in2-here .copy-in2 .kept .1 .0)
+facts₆ : (c : tie.After-copy-in2) → Facts (at₆ c) (length (c .copy-in2 .last .1 .0))
+facts₆ c = rw (c .copy-in2 .kept .1 .0) (facts₅ (c .before .before .before .before))
 
 returns : tie.Need-returns
 returns c =
-    let start-here = c .before .before .before .before .before .before .before .before .before .before .before .before .before .before .before .before .before .before .before .before .before .before .before .before .before .before .before .before .before .before .before .before .before .before in
-    let file-count-here = c .before .before .before .before .before .before .before .before .before .before .before .before .before .before .before .before .before .before .before .before .before .before .before .before .before .before .before .before .before in
-    let lengths-at-here = c .before .before .before .before .before .before .before .before .before .before .before .before .before .before .before .before .before .before .before .before .before .before .before .before .before .before .before .before in
-    let put-word-here = c .before .before .before .before .before .before .before .before .before .before .before .before .before .before .before .before .before .before .before .before .before .before .before .before .before .before in
-    let copy-part-here = c .before .before .before .before .before .before .before .before .before .before .before .before .before .before .before .before .before .before .before .before .before .before in
-    let put-lengths-here = c .before .before .before .before .before .before .before .before .before .before .before .before .before .before .before .before .before .before in
-    let copy-part2-here = c .before .before .before .before .before .before .before .before .before .before .before .before .before .before in
-    let copy-in-here = c .before .before .before .before .before .before .before .before .before .before in
-    let copy-in2-here = c .before .before .before .before .before .before in
-    let copy-part3-here = c .before .before in
-    let a = start-here .args in
+    let c₇ = c .before .before in
+    let c₆ = c₇ .before .before .before .before in
+    let c₅ = c₆ .before .before .before .before in
+    let c₄ = c₅ .before .before .before .before in
+    let c₃ = c₄ .before .before .before .before in
+    let c₂ = c₃ .before .before .before .before in
+    let c₁ = c₂ .before .before .before .before in
+    let known = c₁ .before .before in
+    let counted = known .before in
+    let start = counted .before .before .before .before .before in
+    let a = start .args in
     let s = a .archive .now in
     let f = fileOf (a .name .now) (a .body .now) in
-    let row = lengths-at-here .lengths-at .ensures in
-    let w = insert-written s (start-here .pre .0) f (a .slot) (start-here .pre .1) (file-count-here .file-count .result) (file-count-here .file-count .ensures .0) (a .out .now) _ _ _ _ _ _ _
-    (put-word-here .put-word .ensures) (rw row at (copy-part-here .copy-part .ensures)) (rw row at (put-lengths-here .put-lengths .ensures)) (rw row at (copy-part2-here .copy-part2 .ensures))
-    (copy-in-here .copy-in .ensures) (copy-in2-here .copy-in2 .ensures) (copy-part3-here .copy-part3 .ensures) in
+    let row = known .lengths-at .ensures in
+    let w = insert-written s (start .pre .0) f (a .slot) (start .pre .1) (counted .file-count .result) (counted .file-count .ensures .0) (a .out .now) _ _ _ _ _ _ _
+    (c₁ .put-word .ensures) (rw row at (c₂ .copy-part .ensures)) (rw row at (c₃ .put-lengths .ensures)) (rw row at (c₄ .copy-part2 .ensures)) (c₅ .copy-in .ensures) (c₆ .copy-in2 .ensures) (c₇ .copy-part3 .ensures) in
     w .1 ∙ ap (paste (a .out .now) 0 (archiveWith f s)) (w .0)
 
 pub insert-spec : {M : Type 1} → statement M
 insert-spec =
     tie.close
     (tie.spec
-    file-count-requires lengths-at-requires add-start add-rest add-end (λ c. search needs) put-word-requires copy-part-requires
-    put-lengths-requires add-copy-part copy-part-requires-2 copy-in-requires copy-in-requires-2 copy-part-requires-3
-    (λ c. search needs) returns)
+    (λ c κs. omega (arith, rows-room (c .before .before .before .before .args .archive .now) (c .before .before .before .before .pre .0)))
+    (λ c κs. omega (arith, slot-in c, c .file-count .ensures .1)) (λ c. omega (arith, facts c)) (λ c. omega (arith, facts c))
+    (λ c. omega (arith, facts c)) (λ c. search needs) (λ c κs. omega (arith, facts (c .before)))
+    (λ c κs. omega (arith, facts₁ (c .before .before .before))) (λ c κs. omega (arith, facts₂ (c .before .before .before)))
+    (λ c. omega (arith, facts₃ (c .before .before .before))) (λ c κs. omega (arith, facts₃ (c .before .before .before)))
+    (λ c κs. omega (arith, facts₄ (c .before .before .before))) (λ c κs. omega (arith, facts₅ (c .before .before .before)))
+    (λ c κs. omega (arith, facts₆ (c .before .before .before))) (λ c. search needs) returns)

@@ -13,11 +13,6 @@ Inv-loop archive file count at₀ j₀ at j = Walking archive count at j × (j �
 abbrev μ-loop : tie.MeasureT-loop
 μ-loop archive file count at₀ j₀ at j = file - j
 
-file-count-requires : tie.Need-file-count-requires Inv-loop μ-loop
-file-count-requires c κs =
-    let start-here = c .before in
-    omega (arith, rows-room (start-here .args .archive .now) (start-here .pre .0))
-
 loop-holds : tie.Need-loop-holds Inv-loop μ-loop
 loop-holds c =
     let start-here = c .before .before .before in
@@ -26,13 +21,6 @@ loop-holds c =
     let s = start-here .args .archive .now in
     rw (lengths-at-here .lengths-at .ensures) (walking-first s (file-count-here .file-count .result) (file-count-here .file-count .ensures) (laid-fits s (start-here .pre .0)), search needs)
 
-member-at-requires : tie.Need-member-at-requires Inv-loop μ-loop
-member-at-requires c κs =
-    let start-here = c .before .before .before .before .before in
-    let loop-here = c .before in
-    let loop-test-here = c in
-    omega (arith, loop-here .loop .inv .0 .standing, loop-here .loop .inv .0 .many, loop-test-here .loop-test .taken, start-here .pre .1)
-
 loop-again : tie.Need-loop-again Inv-loop μ-loop
 loop-again c =
     let start-here = c .before .before .before .before .before .before in
@@ -40,12 +28,6 @@ loop-again c =
     let loop-test-here = c .before in
     let member-at-here = c in
     (walking-next (loop-here .loop .inv .0) (omega (arith, loop-here .loop .inv .0 .many, loop-test-here .loop-test .taken, start-here .pre .1)) (member-at-here .member-at .ensures), search needs)
-
-member-at-requires-2 : tie.Need-member-at-requires-2 Inv-loop μ-loop
-member-at-requires-2 c κs =
-    let start-here = c .before .before .before .before .before in
-    let loop-here = c .before in
-    omega (arith, loop-here .loop .inv .0 .standing, loop-here .loop .inv .0 .many, start-here .pre .1)
 
 returns : tie.Need-returns Inv-loop μ-loop
 returns c =
@@ -59,5 +41,9 @@ pub member-of-spec : {M : Type 1} → statement M
 member-of-spec =
     tie.close
     (tie.spec
-    Inv-loop μ-loop file-count-requires (λ c κs. search needs) loop-holds member-at-requires (λ c. search needs)
-    (λ c. search needs) loop-again member-at-requires-2 returns)
+    Inv-loop μ-loop (λ c κs. omega (arith, rows-room (c .before .args .archive .now) (c .before .pre .0)))
+    (λ c κs. search needs) loop-holds
+    (λ c κs. omega (arith, c .before .loop .inv .0 .standing, c .before .loop .inv .0 .many, c .loop-test .taken, c .before .before .before .before .before .pre .1))
+    (λ c. search needs) (λ c. search needs) loop-again
+    (λ c κs. omega (arith, c .before .loop .inv .0 .standing, c .before .loop .inv .0 .many, c .before .before .before .before .before .pre .1))
+    returns)

@@ -15,38 +15,12 @@ Inv-loop archive name count at₀ j₀ at j = Seeking archive name count at j
 abbrev μ-loop : tie.MeasureT-loop
 μ-loop archive name count at₀ j₀ at j = count - j
 
-file-count-requires : tie.Need-file-count-requires Inv-loop μ-loop
-file-count-requires c κs =
-    let start-here = c .before .before in
-    omega (arith, rows-room (start-here .args .archive .now) (start-here .pre))
-
 loop-holds : tie.Need-loop-holds Inv-loop μ-loop
 loop-holds c =
     let start-here = c .before .before .before .before in
     let file-count-here = c .before in
     let lengths-at-here = c in
     rw (lengths-at-here .lengths-at .ensures) (seeking-first (start-here .args .archive .now) (start-here .args .name .now) (file-count-here .file-count .result) (file-count-here .file-count .ensures) (start-here .pre))
-
-sub-here : tie.Need-sub-here Inv-loop μ-loop
-sub-here c =
-    let loop-here = c .before .before in
-    let loop-test-here = c .before in
-    let member-at-here = c in
-    omega (arith, walking-in (loop-here .loop .inv .walk) (loop-test-here .loop-test .taken) (member-at-here .member-at .ensures))
-
-part-here-start : tie.Need-part-here-start Inv-loop μ-loop
-part-here-start c =
-    let loop-here = c .before .before in
-    let loop-test-here = c .before in
-    let member-at-here = c in
-    omega (arith, walking-in (loop-here .loop .inv .walk) (loop-test-here .loop-test .taken) (member-at-here .member-at .ensures))
-
-part-here-end : tie.Need-part-here-end Inv-loop μ-loop
-part-here-end c =
-    let loop-here = c .before .before in
-    let loop-test-here = c .before in
-    let member-at-here = c in
-    omega (arith, walking-in (loop-here .loop .inv .walk) (loop-test-here .loop-test .taken) (member-at-here .member-at .ensures))
 
 returns : tie.Need-returns Inv-loop μ-loop
 returns c =
@@ -77,6 +51,9 @@ pub slot-for-spec : {M : Type 1} → statement M
 slot-for-spec =
     tie.close
     (tie.spec
-    Inv-loop μ-loop file-count-requires (λ c κs. search needs) loop-holds (λ c κs. search needs) sub-here part-here-start
-    part-here-end (λ c κs. search needs) (λ c κs. search needs) returns (λ c. search needs) (λ c. search needs) loop-again
-    returns-2)
+    Inv-loop μ-loop (λ c κs. omega (arith, rows-room (c .before .before .args .archive .now) (c .before .before .pre)))
+    (λ c κs. search needs) loop-holds (λ c κs. search needs)
+    (λ c. omega (arith, walking-in (c .before .before .loop .inv .walk) (c .before .loop-test .taken) (c .member-at .ensures)))
+    (λ c. omega (arith, walking-in (c .before .before .loop .inv .walk) (c .before .loop-test .taken) (c .member-at .ensures)))
+    (λ c. omega (arith, walking-in (c .before .before .loop .inv .walk) (c .before .loop-test .taken) (c .member-at .ensures)))
+    (λ c κs. search needs) (λ c κs. search needs) returns (λ c. search needs) (λ c. search needs) loop-again returns-2)

@@ -24,17 +24,6 @@ Inv-rows archive folder name count before long found₀ at₀ j₀ found at j = 
 abbrev μ-rows : tie.MeasureT-rows
 μ-rows archive folder name count before long found₀ at₀ j₀ found at j = count - j
 
-file-count-requires : tie.Need-file-count-requires Inv-bytes μ-bytes Inv-rows μ-rows
-file-count-requires c κs =
-    let start-here = c .before .before .before in
-    omega (arith, fits-room (start-here .args .archive .now) (laid-fits (start-here .args .archive .now) (start-here .pre)))
-
-add-long : tie.Need-add-long Inv-bytes μ-bytes Inv-rows μ-rows
-add-long c =
-    let start-here = c .before .before .before .before .before in
-    let stem-len-here = c in
-    omega (arith, stem-len-here .stem-len .ensures, stem-long (start-here .args .folder .now), start-here .good .1 .0 .1, start-here .good .1 .1 .0 .1)
-
 rows-holds : tie.Need-rows-holds Inv-bytes μ-bytes Inv-rows μ-rows
 rows-holds c =
     let start-here = c .before .before .before .before .before .before in
@@ -49,13 +38,6 @@ member-at-requires c κs =
     let rows-test-here = c in
     let w = rows-here .rows .inv .walk .standing in
     omega (arith, w, rows-test-here .rows-test .taken)
-
-sub-if1 : tie.Need-sub-if1 Inv-bytes μ-bytes Inv-rows μ-rows
-sub-if1 c =
-    let rows-here = c .before .before .before in
-    let rows-test-here = c .before .before in
-    let member-at-here = c .before in
-    omega (arith, file-in (rows-here .rows .inv) (rows-test-here .rows-test .taken) (member-at-here .member-at .ensures))
 
 rows-again : tie.Need-rows-again Inv-bytes μ-bytes Inv-rows μ-rows
 rows-again c =
@@ -160,7 +142,12 @@ pub find-spec : {M : Type 1} → statement M
 find-spec =
     tie.close
     (tie.spec
-    Inv-bytes μ-bytes Inv-rows μ-rows file-count-requires (λ c κs. search needs) add-long (λ c κs. search needs) rows-holds
-    member-at-requires (λ c. search needs) sub-if1 (λ c. search needs) rows-again add-own bytes-holds (λ c. search needs)
-    (λ c. search needs) (λ c. search needs) (λ c. search needs) rows-again-2 (λ c. search needs) (λ c. search needs) bytes-again
-    in-folder-requires (λ c. search needs) rows-again-3 returns returns-2)
+    Inv-bytes μ-bytes Inv-rows μ-rows
+    (λ c κs. omega (arith, fits-room (c .before .before .before .args .archive .now) (laid-fits (c .before .before .before .args .archive .now) (c .before .before .before .pre))))
+    (λ c κs. search needs)
+    (λ c. omega (arith, c .stem-len .ensures, stem-long (c .before .before .before .before .before .args .folder .now), c .before .before .before .before .before .good .1 .0 .1, c .before .before .before .before .before .good .1 .1 .0 .1))
+    (λ c κs. search needs) rows-holds member-at-requires (λ c. search needs)
+    (λ c. omega (arith, file-in (c .before .before .before .rows .inv) (c .before .before .rows-test .taken) (c .before .member-at .ensures)))
+    (λ c. search needs) rows-again add-own bytes-holds (λ c. search needs) (λ c. search needs) (λ c. search needs)
+    (λ c. search needs) rows-again-2 (λ c. search needs) (λ c. search needs) bytes-again in-folder-requires
+    (λ c. search needs) rows-again-3 returns returns-2)

@@ -20,16 +20,6 @@ loop-holds c =
     let start-here = c in
     (agreeing-first (start-here .args .archive .now) (stem (start-here .args .folder .now)) (start-here .args .at) (start-here .pre), omega arith)
 
-add-if1 : tie.Need-add-if1 Inv-loop μ-loop
-add-if1 c =
-    let start-here = c .before .before in
-    omega (arith, stem-long (start-here .args .folder .now))
-
-shared-slice-read-if1 : tie.Need-shared-slice-read-if1 Inv-loop μ-loop
-shared-slice-read-if1 c =
-    let start-here = c .before .before .before in
-    omega (arith, stem-long (start-here .args .folder .now))
-
 returns : tie.Need-returns Inv-loop μ-loop
 returns c =
     let start-here = c .before .before .before .before .before in
@@ -54,11 +44,6 @@ returns-2 c =
     let if2-here = c in
     sym (folder-empty (start-here .args .folder .now) (loop-here .loop .inv .0) (omega arith) (if2-here .if2 .taken))
 
-add-result : tie.Need-add-result Inv-loop μ-loop
-add-result c =
-    let start-here = c .before .before .before in
-    omega (arith, stem-long (start-here .args .folder .now))
-
 shared-slice-read-result : tie.Need-shared-slice-read-result Inv-loop μ-loop
 shared-slice-read-result c =
     let start-here = c .before .before .before .before in
@@ -80,5 +65,7 @@ pub in-folder-spec : {M : Type 1} → statement M
 in-folder-spec =
     tie.close
     (tie.spec
-    Inv-loop μ-loop loop-holds add-if1 shared-slice-read-if1 (λ c. search needs) returns (λ c. search needs) (λ c. search needs)
-    loop-again returns-2 add-result shared-slice-read-result returns-3)
+    Inv-loop μ-loop loop-holds (λ c. omega (arith, stem-long (c .before .before .args .folder .now)))
+    (λ c. omega (arith, stem-long (c .before .before .before .args .folder .now)))
+    (λ c. search needs) returns (λ c. search needs) (λ c. search needs) loop-again returns-2
+    (λ c. omega (arith, stem-long (c .before .before .before .args .folder .now))) shared-slice-read-result returns-3)

@@ -7,11 +7,6 @@ use Rattle.archive_find.proofs.Finding.{number-found, number-off}
 use Rattle.archive_find.proofs.number_of.Statement.{statement}
 use Rattle.archive_find.proofs.number_of.Tie as tie
 
-file-count-requires : tie.Need-file-count-requires
-file-count-requires c κs =
-    let start-here = c .before .before .before .before .before .before in
-    omega (arith, rows-room (start-here .args .archive .now) (start-here .pre))
-
 returns : tie.Need-returns
 returns c =
     let start-here = c .before .before .before .before .before .before .before in
@@ -32,4 +27,6 @@ pub number-of-spec : {M : Type 1} → statement M
 number-of-spec =
     tie.close
     (tie.spec
-    (λ c. search needs) (λ c κs. search needs) (λ c. search needs) (λ c. search needs) file-count-requires returns returns-2)
+    (λ c. search needs) (λ c κs. search needs) (λ c. search needs) (λ c. search needs)
+    (λ c κs. omega (arith, rows-room (c .before .before .before .before .before .before .args .archive .now) (c .before .before .before .before .before .before .pre)))
+    returns returns-2)

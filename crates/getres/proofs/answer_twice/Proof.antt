@@ -56,7 +56,7 @@ print-both-requires c κs =
     let compared-here = c .before .before .before in
     let w = compare-without-here .compare-without in
     let e = rw (compared-here .compared .given .1) at (w .ensures .equals) in
-    let i = both-inside _ _ _ _ _ _ _ (compared-here .compared .given .0 .0) (compared-here .compared .given .0 .1 .0) e in
+    let i = both-inside _ _ _ _ _ _ _ (compared-here .compared .given .0 .0) (compared-here .compared .given .0 .1 .0) (compared-here .compared .given .0 .1 .1 .0) e in
     (start-here .pre, i .0, omega (arith, w .kept .1 .1 .1 .1 .1 .1 .1 .0), i .1, omega (arith, w .kept .1 .1 .1 .1 .1 .1 .1 .1 .1 .0))
 
 -- src/main.rt:275:28
