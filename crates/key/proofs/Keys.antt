@@ -16,7 +16,7 @@ use Rattle.definition.specs.Text.{Binding, tight, loose, Component, wildcard, n
 use Rattle.definition.specs.Image.{bindingByte, componentBytes, keyOf, storedPartAt, keyParts, isKey}
 use Rattle.laws.proofs.Lists.{not-both, and-true, takeWhile-dropWhile, takeWhile-append}
 use Rattle.laws.proofs.Keys.{isLegalComponent, isLegal, Finds, if-either, stored-parts-legal}
-use Rattle.matcher.specs.Keys.{notBinding, componentOf, partBetween}
+use Rattle.key.specs.Keys.{notBinding, componentOf, partBetween}
 
 -- ---- A key is what its parts write
 

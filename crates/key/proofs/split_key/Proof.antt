@@ -1,14 +1,14 @@
--- `matcher::split_key` meets its contract. The invariant is `Splitting`. Assumes nothing.
+-- `key::split_key` meets its contract. The invariant is `Splitting`. Assumes nothing.
 use mathlib.Core.Path.{refl}
 use Prim.Native.Nat.{_-_, _≤_, _<_}
 use native.Mathlib.Omega.{arith}
 use lib.ListN.{length}
 use Rattle.definition.specs.Limits.{mostParts}
-use Rattle.matcher.proofs.Keys.{parts-of}
-use Rattle.matcher.proofs.Splitting.{Splitting, begun, room, next-inside, more, ended}
+use Rattle.key.proofs.Keys.{parts-of}
+use Rattle.key.proofs.Splitting.{Splitting, begun, room, next-inside, more, ended}
 use borrow.Author.Needs.{needs}
-use Rattle.matcher.proofs.split_key.Statement.{statement}
-use Rattle.matcher.proofs.split_key.Tie as tie
+use Rattle.key.proofs.split_key.Statement.{statement}
+use Rattle.key.proofs.split_key.Tie as tie
 
 abbrev Inv-loop : tie.InvT-loop
 Inv-loop key bounds₀ count₀ at₀ bounds count at = Splitting key bounds count at
@@ -19,7 +19,7 @@ abbrev μ-loop : tie.MeasureT-loop
 loop-holds : tie.Need-loop-holds Inv-loop μ-loop
 loop-holds c =
     let start-here = c .before in
-    begun (start-here .args .key .now) (parts-of _ (start-here .pre)) _ (search needs) refl
+    begun (start-here .args .key .now) (parts-of _ (start-here .pre))
 
 add-part-end : tie.Need-add-part-end Inv-loop μ-loop
 add-part-end c = search needs

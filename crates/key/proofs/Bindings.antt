@@ -4,7 +4,7 @@ use mathlib.Core.Path.{_≡_, refl}
 use Prim.Native.Nat.{ℕ}
 use borrow.Author.Tests.{ne-eqb}
 use Rattle.definition.specs.Bytes.{dot, star, isBinding}
-use Rattle.matcher.specs.Keys.{notBinding}
+use Rattle.key.specs.Keys.{notBinding}
 
 module _ (c : ℕ) where
   pub dot-binds : c ≡ dot → notBinding c ≡ false

@@ -1,15 +1,15 @@
--- `matcher::part_end` meets its contract: the run from `at` on ends where the run from i on ends. Assumes nothing.
+-- `key::part_end` meets its contract: the run from `at` on ends where the run from i on ends. Assumes nothing.
 use mathlib.Core.Path.{_≡_}
 use Prim.Native.Nat.{_+_, _-_, _≤_, _<_}
 use native.Mathlib.Omega.{arith}
 use lib.ListN.{length, drop}
 use Rattle.definition.specs.Lists.{takeWhile}
-use Rattle.matcher.specs.Keys.{notBinding}
+use Rattle.key.specs.Keys.{notBinding}
 use Rattle.laws.proofs.Lists.{run-more, run-stop, run-end}
-use Rattle.matcher.proofs.Bindings.{dot-binds, star-binds, name-goes-on}
+use Rattle.key.proofs.Bindings.{dot-binds, star-binds, name-goes-on}
 use borrow.Author.Needs.{needs}
-use Rattle.matcher.proofs.part_end.Statement.{statement}
-use Rattle.matcher.proofs.part_end.Tie as tie
+use Rattle.key.proofs.part_end.Statement.{statement}
+use Rattle.key.proofs.part_end.Tie as tie
 
 abbrev Inv-loop : tie.InvT-loop
 Inv-loop key at i₀ i = (at ≤ i) × (i ≤ length key) × (at + length (takeWhile notBinding (drop at key)) ≡ i + length (takeWhile notBinding (drop i key)))
