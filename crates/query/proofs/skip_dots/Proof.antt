@@ -6,7 +6,7 @@ use borrow.Author.Needs.{needs}
 use Rattle.definition.specs.Lists.{dropWhile}
 use Rattle.definition.specs.Bytes.{dot}
 use Rattle.laws.proofs.Lists.{length-part-rest, dropWhile-end}
-use Rattle.query.proofs.Names.{dots-on, dots-here}
+use Rattle.query.proofs.Taken.{dots-on, dots-here}
 use Rattle.query.proofs.skip_dots.Statement.{statement}
 use Rattle.query.proofs.skip_dots.Tie as tie
 
