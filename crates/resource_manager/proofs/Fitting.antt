@@ -11,7 +11,7 @@ use Rattle.lookup.specs.Replies.{replied}
 use Rattle.lookup.specs.declared.Lookup.{Lookup}
 use Rattle.lookup.specs.declared.Lookup.the-variants.{Found, Nothing, Refused}
 use Rattle.lookup.proofs.Looking.{found-placed}
-use Rattle.lookup.proofs.Readings.{string-found}
+use Rattle.readings.proofs.Readings.{string-found}
 use Rattle.resource_manager.specs.Boundary.{Small}
 
 module _ (contents bodies name class : List ℕ) where

@@ -8,9 +8,9 @@ ghost use Rattle.resource_manager.specs.Boundary.{Crossing, crossed, cro
 ghost use Rattle.compare.specs.Comparing.{asked, comparing};
 use compare::Compared;
 use lookup::Lookup;
-use lookup::Truth;
-use lookup::Value;
 use reader::Answer;
+use readings::Truth;
+use readings::Value;
 
 // Document 01's reading call. The low 16 bits are 0, or the number of the refusal and that alone; entries stand in bits 16 to 31
 // and opens in bits 32 to 47.
@@ -65,7 +65,7 @@ pub extern "C" fn resource_manager_get_string(
 ) -> u64
     ensures { λ r. ⌜ r ≡ placeCode (getString (now (contents .entry)) (now (bodies .entry)) (now (name .entry)) (now (class .entry))) ⌝ }
 {
-    let found = lookup::get_string(contents, bodies, name, class);
+    let found = readings::get_string(contents, bodies, name, class);
     place_code(found)
 }
 
@@ -79,7 +79,7 @@ pub extern "C" fn resource_manager_get_bool(
 ) -> u64
     ensures { λ r. ⌜ r ≡ boolCode (getBool (now (contents .entry)) (now (bodies .entry)) (now (name .entry)) (now (class .entry))) ⌝ }
 {
-    let truth = lookup::get_bool(contents, bodies, name, class);
+    let truth = readings::get_bool(contents, bodies, name, class);
     match truth {
         Truth::Is(value) => {
             if value {
@@ -103,7 +103,7 @@ pub extern "C" fn resource_manager_get_value(
 ) -> u64
     ensures { λ r. ⌜ taking r (now (out .exit)) ≡ taken (getValue (now (contents .entry)) (now (bodies .entry)) (now (name .entry)) (now (class .entry))) (now (out .entry)) ⌝ }
 {
-    let value = lookup::get_value(contents, bodies, name, class);
+    let value = readings::get_value(contents, bodies, name, class);
     match value {
         Value::Is(number) => {
             *out = number;

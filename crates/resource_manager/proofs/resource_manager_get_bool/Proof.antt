@@ -6,7 +6,7 @@ use Rattle.resource_manager.proofs.resource_manager_get_bool.Statement.
 use Rattle.resource_manager.proofs.resource_manager_get_bool.Tie as tie
 use Rattle.resource_manager.proofs.resource_manager_get_bool.Reads as reads
 use Rattle.resource_manager.proofs.resource_manager_get_bool.Lts as lts
-use Rattle.lookup.proofs.get_bool.Reads as get-bool-reads
+use Rattle.readings.proofs.get_bool.Reads as get-bool-reads
 
 -- src/lib.rt:80:9
 get-bool-requires : tie.Need-get-bool-requires

@@ -7,7 +7,7 @@ use Rattle.resource_manager.proofs.resource_manager_get_string.Statemen
 use Rattle.resource_manager.proofs.resource_manager_get_string.Tie as tie
 use Rattle.resource_manager.proofs.resource_manager_get_string.Reads as reads
 use Rattle.resource_manager.proofs.resource_manager_get_string.Lts as lts
-use Rattle.lookup.proofs.get_string.Reads as get-string-reads
+use Rattle.readings.proofs.get_string.Reads as get-string-reads
 use Rattle.resource_manager.proofs.place_code.Reads as place-code-reads
 
 -- src/lib.rt:66:9

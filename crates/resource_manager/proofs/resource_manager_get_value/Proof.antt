@@ -12,7 +12,7 @@ use Rattle.resource_manager.proofs.resource_manager_get_value.Statement
 use Rattle.resource_manager.proofs.resource_manager_get_value.Tie as tie
 use Rattle.resource_manager.proofs.resource_manager_get_value.Reads as reads
 use Rattle.resource_manager.proofs.resource_manager_get_value.Lts as lts
-use Rattle.lookup.proofs.get_value.Reads as get-value-reads
+use Rattle.readings.proofs.get_value.Reads as get-value-reads
 
 -- src/lib.rt:104:9
 get-value-requires : tie.Need-get-value-requires

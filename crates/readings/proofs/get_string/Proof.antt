@@ -1,15 +1,15 @@
--- `lookup::get_string` meets its contract. Assumes nothing.
+-- `readings::get_string` meets its contract. Assumes nothing.
 use native.Mathlib.Omega.{arith}
 use mathlib.Core.Path.{sym, _∙_}
 use Rattle.lookup.proofs.Looking.{found-inside}
-use Rattle.lookup.proofs.Readings.{string-refused, string-none, string-is, string-not}
+use Rattle.readings.proofs.Readings.{string-refused, string-none, string-is, string-not}
 use borrow.Author.Needs.{needs}
-use Rattle.lookup.proofs.get_string.Statement.{statement}
-use Rattle.lookup.proofs.get_string.Tie as tie
-use Rattle.lookup.proofs.get_string.Reads as reads
-use Rattle.lookup.proofs.get_string.Lts as lts
+use Rattle.readings.proofs.get_string.Statement.{statement}
+use Rattle.readings.proofs.get_string.Tie as tie
+use Rattle.readings.proofs.get_string.Reads as reads
+use Rattle.readings.proofs.get_string.Lts as lts
 use Rattle.interpret.proofs.is_utf8.Reads as is-utf8-reads
 use Rattle.lookup.proofs.get_bytes.Reads as get-bytes-reads
 
 -- src/lib.rt:195:9
 get-bytes-requires : tie.Need-get-bytes-requires

@@ -1,4 +1,4 @@
--- `lookup::get_value` meets its contract. Assumes nothing.
+-- `readings::get_value` meets its contract. Assumes nothing.
 use native.Mathlib.Omega.{arith}
 use mathlib.Core.Option.{some, none}
 use mir.Val.{SFits}
@@ -6,14 +6,14 @@ use mir.Syntax.{w64}
 use mir.Facts.{toZ-ofZ}
 use Rattle.definition.specs.Value.{numberOf}
 use Rattle.interpret.specs.Readings.{numberIn}
-use Rattle.lookup.proofs.Readings.{string-inside, value-refused, value-none, value-is}
+use Rattle.readings.proofs.Readings.{string-inside, value-refused, value-none, value-is}
 use borrow.Author.Needs.{needs}
-use Rattle.lookup.proofs.get_value.Statement.{statement}
-use Rattle.lookup.proofs.get_value.Tie as tie
-use Rattle.lookup.proofs.get_value.Reads as reads
-use Rattle.lookup.proofs.get_value.Lts as lts
+use Rattle.readings.proofs.get_value.Statement.{statement}
+use Rattle.readings.proofs.get_value.Tie as tie
+use Rattle.readings.proofs.get_value.Reads as reads
+use Rattle.readings.proofs.get_value.Lts as lts
 use Rattle.interpret.proofs.parse_i64.Reads as parse-i64-reads
-use Rattle.lookup.proofs.get_string.Reads as get-string-reads
+use Rattle.readings.proofs.get_string.Reads as get-string-reads
 
 -- src/lib.rt:244:9
 get-string-requires : tie.Need-get-string-requires

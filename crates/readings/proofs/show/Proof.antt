@@ -1,13 +1,13 @@
--- `lookup::show` meets its contract. Assumes nothing.
+-- `readings::show` meets its contract. Assumes nothing.
 use native.Mathlib.Omega.{arith}
 use Rattle.lookup.proofs.Looking.{found-inside}
-use Rattle.lookup.proofs.Readings.{shown-is, default-refused, default-none}
+use Rattle.readings.proofs.Readings.{shown-is, default-refused, default-none}
 use borrow.Author.Needs.{needs}
-use Rattle.lookup.proofs.show.Statement.{statement}
-use Rattle.lookup.proofs.show.Tie as tie
-use Rattle.lookup.proofs.show.Reads as reads
-use Rattle.lookup.proofs.show.Lts as lts
+use Rattle.readings.proofs.show.Statement.{statement}
+use Rattle.readings.proofs.show.Tie as tie
+use Rattle.readings.proofs.show.Reads as reads
+use Rattle.readings.proofs.show.Lts as lts
 use Rattle.lookup.proofs.get_bytes.Reads as get-bytes-reads
 
 -- src/lib.rt:268:9
 get-bytes-requires : tie.Need-get-bytes-requires

@@ -1,17 +1,17 @@
--- `lookup::get_bool` meets its contract. Assumes nothing.
+-- `readings::get_bool` meets its contract. Assumes nothing.
 use native.Mathlib.Omega.{arith}
 use mathlib.Core.Bool.{true, false}
 use mathlib.Core.Option.{some, none}
 use Rattle.definition.specs.Value.{replied}
-use Rattle.interpret.specs.Readings.{truthIn}
-use Rattle.lookup.proofs.Readings.{string-inside, bool-refused, bool-none, bool-is}
+use Rattle.interpret.specs.Readings.{booleanIn}
+use Rattle.readings.proofs.Readings.{string-inside, bool-refused, bool-none, bool-is}
 use borrow.Author.Needs.{needs}
-use Rattle.lookup.proofs.get_bool.Statement.{statement}
-use Rattle.lookup.proofs.get_bool.Tie as tie
-use Rattle.lookup.proofs.get_bool.Reads as reads
-use Rattle.lookup.proofs.get_bool.Lts as lts
+use Rattle.readings.proofs.get_bool.Statement.{statement}
+use Rattle.readings.proofs.get_bool.Tie as tie
+use Rattle.readings.proofs.get_bool.Reads as reads
+use Rattle.readings.proofs.get_bool.Lts as lts
 use Rattle.interpret.proofs.to_bool.Reads as to-bool-reads
-use Rattle.lookup.proofs.get_string.Reads as get-string-reads
+use Rattle.readings.proofs.get_string.Reads as get-string-reads
 
 -- src/lib.rt:218:9
 get-string-requires : tie.Need-get-string-requires
@@ -91,7 +91,7 @@ returns-2 c =
 
 -- src/lib.rt:215:1
 returns-3 : tie.Need-returns-3
-unfolding replied truthIn
+unfolding replied booleanIn
 returns-3 c =
     let start-here = c .before .before .before .before .before .before .before .before .before .before .before .before in
     let a = start-here .args in
@@ -103,7 +103,7 @@ returns-3 c =
 
 -- src/lib.rt:215:1
 returns-4 : tie.Need-returns-4
-unfolding replied truthIn
+unfolding replied booleanIn
 returns-4 c =
     let start-here = c .before .before .before .before .before .before .before .before .before .before .before .before in
     let a = start-here .args in
@@ -115,7 +115,7 @@ returns-4 c =
 
 -- src/lib.rt:215:1
 returns-5 : tie.Need-returns-5
-unfolding replied truthIn
+unfolding replied booleanIn
 returns-5 c =
     let start-here = c .before .before .before .before .before .before .before .before .before .before .before .before in
     let a = start-here .args in

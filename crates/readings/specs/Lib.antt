@@ -1,0 +1,2 @@
+-- What the contracts of the readings cite beside the definition.
+pub mod Replies
