@@ -16,10 +16,10 @@ ghost use Rattle.query.specs.Splits.{Inside};
 ghost use Rattle.key.specs.Keys.{partBetween, Bounded};
 ghost use Rattle.matcher.specs.Rows.{rowIn, bestIn, markIn, skipOf, extended, Clear, Continued};
 ghost use Rattle.matcher.specs.Places.{placeOf, placed, Within, positionIn, queried};
-use image::MOST_PARTS;
 use key::Key;
 use key::split_key;
-use query::QUERY_PARTS;
+use limits::MOST_PARTS;
+use limits::QUERY_PARTS;
 use query::Split;
 
 // A row of marks, one for each position passed, if there is one. The marks after them are 0.
