@@ -25,8 +25,8 @@ use Rattle.laws.proofs.Lists.{part-slice}
 use Rattle.laws.proofs.Ranking.{best-beats}
 use Rattle.matcher.specs.Rows.{rowIn, bestIn}
 use Rattle.matcher.specs.declared.Row.{Row as Marks}
-use Rattle.image_judge.specs.Rows.{rowAt}
-use Rattle.image_judge.proofs.Rows.{rowsLeft, rows-turn, row-is, count-rows}
+use Rattle.image.specs.Rows.{rowAt, rowsLeft}
+use Rattle.image.proofs.Rows.{rows-turn, row-is, count-rows}
 use Rattle.image_judge.proofs.Judged.{Judged, judged}
 use Rattle.lookup.specs.Replies.{Extends}
 use Rattle.lookup.specs.declared.Extent.{Extent}

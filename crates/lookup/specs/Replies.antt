@@ -3,7 +3,7 @@ use mathlib.Core.List.{List}
 use mathlib.Core.Path.{_≡_}
 use Prim.Native.Nat.{ℕ}
 use Rattle.definition.specs.Image.{keyEnd}
-use Rattle.image_judge.specs.Rows.{rowAt}
+use Rattle.image.specs.Rows.{rowAt}
 use Rattle.definition.specs.Lookup.{Reply, given, noValue, refused, Place}
 use Rattle.lookup.specs.declared.Extent.{Extent}
 use Rattle.lookup.specs.declared.Lookup.{Lookup}

@@ -17,9 +17,6 @@ returns-2 c =
     let if2-here = c in
     sym (bodies-short (start-here .args .contents .now) (start-here .args .bodies .now) (omega (arith, if2-here .if2 .taken)))
 
-shared-slice-read-count : tie.Need-shared-slice-read-count
-shared-slice-read-count c = search needs
-
 cast-count : tie.Need-cast-count
 cast-count c =
     let shared-slice-known3-here = c in
@@ -30,9 +27,6 @@ returns-3 c =
     let start-here = c .before .before .before .before .before .before in
     let if3-here = c in
     sym (too-many (start-here .args .contents .now) (start-here .args .bodies .now) (omega (arith, if3-here .if3 .taken)))
-
-shared-slice-read-used : tie.Need-shared-slice-read-used
-shared-slice-read-used c = search needs
 
 cast-used : tie.Need-cast-used
 cast-used c =
@@ -62,13 +56,5 @@ pub is-image-spec : {M : Type 1} → statement M
 is-image-spec =
     tie.close
     (tie.spec
-    returns
-    returns-2
-    shared-slice-read-count
-    cast-count
-    returns-3
-    shared-slice-read-used
-    cast-used
-    returns-4
-    rows-hold-requires
+    returns returns-2 (λ c. search needs) cast-count returns-3 (λ c. search needs) cast-used returns-4 rows-hold-requires
     returns-5)

@@ -1,5 +1,4 @@
 -- `key::split_key` meets its contract. The invariant is `Splitting`. Assumes nothing.
-use mathlib.Core.Path.{refl}
 use Prim.Native.Nat.{_-_, _≤_, _<_}
 use native.Mathlib.Omega.{arith}
 use lib.ListN.{length}
@@ -20,12 +19,6 @@ loop-holds : tie.Need-loop-holds Inv-loop μ-loop
 loop-holds c =
     let start-here = c .before in
     begun (start-here .args .key .now) (parts-of _ (start-here .pre))
-
-add-part-end : tie.Need-add-part-end Inv-loop μ-loop
-add-part-end c = search needs
-
-part-end-requires : tie.Need-part-end-requires Inv-loop μ-loop
-part-end-requires c κs = search needs
 
 -- there is room for one more part, and it ends in the key
 small : (c : tie.After-part-end Inv-loop μ-loop) → (c .before .before .loop .count < mostParts) × (c .part-end .result ≤ length (c .before .before .before .before .args .key .now))
@@ -70,14 +63,5 @@ pub split-key-spec : {M : Type 1} → statement M
 split-key-spec =
     tie.close
     (tie.spec
-    Inv-loop
-    μ-loop
-    loop-holds
-    add-part-end
-    part-end-requires
-    add-count
-    mul-bounds
-    array-write-bounds
-    loop-less
-    loop-again
-    returns)
+    Inv-loop μ-loop loop-holds (λ c. search needs) (λ c κs. search needs) add-count mul-bounds array-write-bounds loop-less
+    loop-again returns)

@@ -121,7 +121,7 @@ name-first (c ∷ t) h = at (isName c) refl
     at true k = k
     at false k = absurd (let z : 0 < 0 = rw k at h in omega arith)
 
-name-not-wild : (c : ℕ) → isName c ≡ true → eqb c question ≡ false
+pub name-not-wild : (c : ℕ) → isName c ≡ true → eqb c question ≡ false
 name-not-wild c k = ne-eqb c question (λ q. not-both k (ap isName q ∙ (unfold isName isDigit in refl)))
 
 pub component-name : (b : Binding) (u : List ℕ) → 0 < length (takeWhile isName u)

@@ -15,8 +15,8 @@ use Rattle.definition.specs.Bytes.{dot, star, question, isDigit, isName, isBind
 use Rattle.definition.specs.Text.{wildcard, name, Part, bindingOf, componentAt, isNamed}
 use Rattle.definition.specs.Image.{storedPartAt, isKey}
 use Rattle.laws.proofs.Lists.{not-both, and-true}
-use Rattle.image_judge.specs.Pairs.{mayFollow, bindingsIn}
-use Rattle.image_judge.proofs.Keys.{endsKey, key-whole, key-ends, key-wild, key-more, stored-part, component-name, component-wild}
+use Rattle.key_judge.specs.Pairs.{mayFollow, bindingsIn}
+use Rattle.key_judge.proofs.Keys.{endsKey, key-whole, key-ends, key-wild, key-more, stored-part, component-name, component-wild, name-not-wild}
 
 -- ---- Kinds of bytes
 
@@ -42,9 +42,6 @@ name-no-binding c e = at (isBinding c) refl
     at : (b : Bool) → isBinding c ≡ b → isBinding c ≡ false
     at true h = absurd (not-both e (binding-no-name c h))
     at false h = h
-
-name-not-wild : (c : ℕ) → isName c ≡ true → eqb c question ≡ false
-name-not-wild c e = ne-eqb c question (λ q. not-both e (ap isName q ∙ (unfold isName isDigit in refl)))
 
 wild-no-binding : isBinding question ≡ false
 unfolding isBinding

@@ -1,4 +1,4 @@
--- `image_judge::walk_key` meets its contract. The invariant: the whole is a key if what is left ends one. Assumes nothing.
+-- `key_judge::walk_key` meets its contract. The invariant: the whole is a key if what is left ends one. Assumes nothing.
 use mathlib.Core.Logic.{⊎-elim}
 use mathlib.Core.Path.{_≡_, sym, _∙_}
 use Prim.Native.Nat.{_≤_}
@@ -8,7 +8,7 @@ use borrow.Author.Tests.{not-true, not-false}
 use borrow.Author.Needs.{needs}
 use Rattle.definition.specs.Image.{isKey}
 use Rattle.laws.proofs.Lists.{length-part-rest}
-use Rattle.image_judge.proofs.Keys.{
+use Rattle.key_judge.proofs.Keys.{
   endsKey,
   key-whole,
   key-short,
@@ -23,8 +23,8 @@ use Rattle.image_judge.proofs.Keys.{
   wild-on,
   name-on,
 }
-use Rattle.image_judge.proofs.walk_key.Statement.{statement}
-use Rattle.image_judge.proofs.walk_key.Tie as tie
+use Rattle.key_judge.proofs.walk_key.Statement.{statement}
+use Rattle.key_judge.proofs.walk_key.Tie as tie
 
 abbrev Inv-loop : tie.InvT-loop
 Inv-loop key rest₀ parts₀ rest parts = isKey key ≡ endsKey parts rest
@@ -41,12 +41,6 @@ returns c =
     let if1-here = c in
     sym (loop-here .loop .inv ∙ key-short (loop-here .loop .parts) (loop-here .loop .rest .now) (if1-here .if1 .taken))
 
-shared-slice-read-is-binding : tie.Need-shared-slice-read-is-binding Inv-loop μ-loop
-shared-slice-read-is-binding c = search needs
-
-is-binding-requires : tie.Need-is-binding-requires Inv-loop μ-loop
-is-binding-requires c κs = search needs
-
 returns-2 : tie.Need-returns-2 Inv-loop μ-loop
 returns-2 c =
     let loop-here = c .before .before .before .before .before in
@@ -54,18 +48,6 @@ returns-2 c =
     sym
     (loop-here .loop .inv
     ∙ key-unbound (loop-here .loop .parts) (loop-here .loop .rest .now) (sym (is-binding-here .is-binding .ensures) ∙ not-true _ (c .if2 .taken)))
-
-sub-component : tie.Need-sub-component Inv-loop μ-loop
-sub-component c = search needs
-
-part-component-start : tie.Need-part-component-start Inv-loop μ-loop
-part-component-start c = search needs
-
-part-component-end : tie.Need-part-component-end Inv-loop μ-loop
-part-component-end c = search needs
-
-next-component-requires : tie.Need-next-component-requires Inv-loop μ-loop
-next-component-requires c κs = search needs
 
 begins : (c : tie.After-next-component Inv-loop μ-loop)
     → Begins (c .before .before .before .before .before .before .before .loop .rest .now) (c .next-component .result)
@@ -75,18 +57,12 @@ begins c = record {
   run = c .next-component .ensures;
 }
 
-shared-slice-read-if4 : tie.Need-shared-slice-read-if4 Inv-loop μ-loop
-shared-slice-read-if4 c = search needs
-
 returns-3 : tie.Need-returns-3 Inv-loop μ-loop
 returns-3 c =
     let loop-here = c .before .before .before .before .before .before .before .before .before .before in
     let next-component-here = c .before .before .before in
     let if3-here = c .before .before in
     sym (loop-here .loop .inv ∙ none-here (begins next-component-here) (loop-here .loop .parts) (if3-here .if3 .taken) (λ e. omega (arith, c .if4 .taken)))
-
-shared-slice-read-result : tie.Need-shared-slice-read-result Inv-loop μ-loop
-shared-slice-read-result c = search needs
 
 returns-4 : tie.Need-returns-4 Inv-loop μ-loop
 returns-4 c =
@@ -120,12 +96,6 @@ part-rest-start c =
     let if3-here = c .before .before in
     inside if3-here
 
-part-rest-end : tie.Need-part-rest-end Inv-loop μ-loop
-part-rest-end c = search needs
-
-add-parts : tie.Need-add-parts Inv-loop μ-loop
-add-parts c = search needs
-
 loop-less : tie.Need-loop-less Inv-loop μ-loop
 loop-less c =
     let loop-here = c .before .before .before .before .before .before .before .before .before .before .before in
@@ -156,25 +126,6 @@ pub walk-key-spec : {M : Type 1} → statement M
 walk-key-spec =
     tie.close
     (tie.spec
-    Inv-loop
-    μ-loop
-    loop-holds
-    returns
-    shared-slice-read-is-binding
-    is-binding-requires
-    returns-2
-    sub-component
-    part-component-start
-    part-component-end
-    next-component-requires
-    shared-slice-read-if4
-    returns-3
-    shared-slice-read-result
-    returns-4
-    sub-rest
-    part-rest-start
-    part-rest-end
-    add-parts
-    loop-less
-    loop-again
-    returns-5)
+    Inv-loop μ-loop loop-holds returns (λ c. search needs) (λ c κs. search needs) returns-2 (λ c. search needs)
+    (λ c. search needs) (λ c. search needs) (λ c κs. search needs) (λ c. search needs) returns-3 (λ c. search needs) returns-4
+    sub-rest part-rest-start (λ c. search needs) (λ c. search needs) loop-less loop-again returns-5)

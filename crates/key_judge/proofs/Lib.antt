@@ -1,0 +1,3 @@
+-- What the proofs of the judging share.
+pub mod Keys
+pub mod Pairs
