@@ -71,29 +71,38 @@ module _ {contents bodies : List ℕ} {count used at i : ℕ} (j : Judging conte
   unfolding rowsFrom
   judging-done h = let e : count - i ≡ 0 = omega arith in j .same ∙ rw e (holds-done at used bodies)
 
-  -- row i, as the code has it
-  module _ (h : i < count) (r : image.Row) (e : rowOf r ≡ rowAt contents i) where
-    turn : holds 0 (rowsFrom count (drop 2 contents)) used bodies ≡ holds at (rowOf r ∷ rowsLeft contents count (i + 1)) used bodies
-    turn = j .same ∙ ap (λ (rows : List Row). holds at rows used bodies) (rows-turn contents count i h ∙ ap (λ (x : Row). x ∷ rowsLeft contents count (i + 1)) (sym e))
+-- row i, as the code has it
+pub record RowHere (contents bodies : List ℕ) (count used at i : ℕ) (r : image.Row) : Type 0 where
+  pub judging : Judging contents bodies count used at i
+  pub more : i < count
+  pub is : rowOf r ≡ rowAt contents i
 
-    pub judging-apart : (r .start ≡ at → ⊥) → holds 0 (rowsFrom count (drop 2 contents)) used bodies ≡ false
-    judging-apart g = turn ∙ holds-apart at (rowOf r) (rowsLeft contents count (i + 1)) used bodies g
+module _ {contents bodies : List ℕ} {count used at i : ℕ} {r : image.Row} (R : RowHere contents bodies count used at i r) where
+  abbrev rest : List Row
+  rest = rowsLeft contents count (i + 1)
 
-    module _ (g : r .start ≡ at) where
-      pub judging-past : used < at + r .key + r .value → holds 0 (rowsFrom count (drop 2 contents)) used bodies ≡ false
-      judging-past f = turn ∙ holds-past at (rowOf r) (rowsLeft contents count (i + 1)) used bodies (omega arith)
+  turn : holds 0 (rowsFrom count (drop 2 contents)) used bodies ≡ holds at (rowOf r ∷ rest) used bodies
+  turn = R .judging .same ∙ ap (λ (rows : List Row). holds at rows used bodies) (rows-turn contents count i (R .more) ∙ ap (λ (x : Row). x ∷ rest) (sym (R .is)))
 
-      -- the key as the borrow checker gives it
-      key-part : take (at + r .key - at) (drop at bodies) ≡ keyAt bodies (rowOf r)
-      key-part = rw g (part-slice bodies at (at + r .key))
+  pub judging-apart : (r .start ≡ at → ⊥) → holds 0 (rowsFrom count (drop 2 contents)) used bodies ≡ false
+  judging-apart g = turn ∙ holds-apart at (rowOf r) rest used bodies g
 
-      pub judging-no-key : isKey (take (at + r .key - at) (drop at bodies)) ≡ false → holds 0 (rowsFrom count (drop 2 contents)) used bodies ≡ false
-      judging-no-key k = turn ∙ holds-no-key at (rowOf r) (rowsLeft contents count (i + 1)) used bodies (rw key-part at k)
+  -- it starts where the one before it ends
+  module _ (g : r .start ≡ at) where
+    pub judging-past : used < at + r .key + r .value → holds 0 (rowsFrom count (drop 2 contents)) used bodies ≡ false
+    judging-past f = turn ∙ holds-past at (rowOf r) rest used bodies (omega arith)
 
-      pub judging-next : isKey (take (at + r .key - at) (drop at bodies)) ≡ true → at + r .key + r .value ≤ used
-          → Judging contents bodies count used (at + r .key + r .value) (i + 1)
-      judging-next k f = record {
-        passed = omega arith;
-        most = f;
-        same = turn ∙ holds-on at (rowOf r) (rowsLeft contents count (i + 1)) used bodies g (rw key-part at k) ∙ rw g refl;
-      }
+    -- the key as the borrow checker gives it
+    key-part : take (at + r .key - at) (drop at bodies) ≡ keyAt bodies (rowOf r)
+    key-part = rw g (part-slice bodies at (at + r .key))
+
+    pub judging-no-key : isKey (take (at + r .key - at) (drop at bodies)) ≡ false → holds 0 (rowsFrom count (drop 2 contents)) used bodies ≡ false
+    judging-no-key k = turn ∙ holds-no-key at (rowOf r) rest used bodies (rw key-part at k)
+
+    pub judging-next : isKey (take (at + r .key - at) (drop at bodies)) ≡ true → at + r .key + r .value ≤ used
+        → Judging contents bodies count used (at + r .key + r .value) (i + 1)
+    judging-next k f = record {
+      passed = omega (arith, R .more);
+      most = f;
+      same = turn ∙ holds-on at (rowOf r) rest used bodies g (rw key-part at k) ∙ rw g refl;
+    }

@@ -10,11 +10,10 @@ use lib.Seq.{drop-cons, drop-drop, drop-set-lt, take-suc-set}
 use Rattle.definition.specs.Lists.{takeWhile, zeroes}
 use Rattle.definition.specs.Limits.{mostParts}
 use Rattle.definition.specs.Text.{Part}
-use Rattle.definition.specs.Image.{componentBytes, keyOf, keyParts}
+use Rattle.definition.specs.Image.{keyOf, keyParts}
 use Rattle.laws.proofs.Lists.{Order, below, equal, above, order, all-getD}
 use Rattle.laws.proofs.Keys.{isLegal}
 use Rattle.key.specs.Keys.{notBinding, noPart, endOf, endsOf, splitKey}
-use Rattle.key.specs.declared.Key.{Key}
 use Rattle.key.proofs.Keys.{Parts, part-run, part-rest, part-inside}
 
 -- `count` parts are found, and end at `at`
@@ -35,7 +34,7 @@ fewer-zeroes : (xs : List ℕ) (k n : ℕ) → drop k xs ≡ zeroes (suc n) → 
 unfolding zeroes
 fewer-zeroes xs k n e = rw (← add-one k, ← drop-drop 1 k xs, e) refl
 
-module _ (key : List ℕ) (K : Parts key (keyParts key)) where
+module _ {key : List ℕ} (K : Parts key (keyParts key)) where
   pub begun : Splitting key (replicate (suc mostParts) 0) 0 0
   unfolding zeroes
   begun = record {
@@ -47,7 +46,7 @@ module _ (key : List ℕ) (K : Parts key (keyParts key)) where
     clear = refl;
   }
 
-  module _ (bounds : List ℕ) (count at : ℕ) (S : Splitting key bounds count at) where
+  module _ {bounds : List ℕ} {count at : ℕ} (S : Splitting key bounds count at) where
     left : length (drop at key) ≡ length (keyOf (drop count (keyParts key)))
     left = ap length (S .rest)
 

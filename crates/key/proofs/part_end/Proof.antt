@@ -20,36 +20,23 @@ abbrev μ-loop : tie.MeasureT-loop
 returns : tie.Need-returns Inv-loop μ-loop
 unfolding notBinding
 returns c =
-    let start-here = c .before .before .before .before .before .before in
-    let loop-here = c .before .before .before .before in
     let loop-test-here = c .before .before .before in
-    let is-binding-here = c .before in
-    let if1-here = c in
-    omega (
-      arith,
-      loop-here .loop .inv .2,
-      run-stop notBinding (start-here .args .key .now) (loop-here .loop .i) 0 (loop-test-here .loop-test .taken) (ap not (sym (is-binding-here .is-binding .ensures) ∙ if1-here .if1 .taken)),
-    )
+    let key = loop-test-here .before .before .before .args .key .now in
+    let binds = ap not (sym (c .before .is-binding .ensures) ∙ c .if1 .taken) in
+    omega (arith, loop-test-here .before .loop .inv .2, run-stop notBinding key (loop-test-here .before .loop .i) 0 (loop-test-here .loop-test .taken) binds)
 
 loop-again : tie.Need-loop-again Inv-loop μ-loop
 unfolding notBinding
 loop-again c =
-    let start-here = c .before .before .before .before .before .before in
-    let loop-here = c .before .before .before .before in
     let loop-test-here = c .before .before .before in
-    let is-binding-here = c .before in
-    let if1-here = c in
-    let e = run-more notBinding (start-here .args .key .now) (loop-here .loop .i) 0 (loop-test-here .loop-test .taken) (ap not (sym (is-binding-here .is-binding .ensures) ∙ if1-here .if1 .left)) in
-    (search needs, search needs, omega (arith, loop-here .loop .inv .2))
-
-returns-2 : tie.Need-returns-2 Inv-loop μ-loop
-returns-2 c =
-    let start-here = c .before .before .before in
-    let loop-here = c .before in
-    let loop-test-here = c in
-    omega (arith, loop-here .loop .inv .2, run-end notBinding (start-here .args .key .now) (loop-here .loop .i) (loop-test-here .loop-test .left))
+    let key = loop-test-here .before .before .before .args .key .now in
+    let goes-on = ap not (sym (c .before .is-binding .ensures) ∙ c .if1 .left) in
+    let e = run-more notBinding key (loop-test-here .before .loop .i) 0 (loop-test-here .loop-test .taken) goes-on in
+    (search needs, search needs, omega (arith, loop-test-here .before .loop .inv .2))
 
 pub part-end-spec : {M : Type 1} → statement M
 part-end-spec =
     tie.close
-    (tie.spec Inv-loop μ-loop (λ c. search needs) (λ c. search needs) (λ c κs. search needs) returns (λ c. search needs) (λ c. search needs) loop-again returns-2)
+    (tie.spec
+    Inv-loop μ-loop (λ c. search needs) (λ c. search needs) (λ c κs. search needs) returns (λ c. search needs) (λ c. search needs) loop-again
+    (λ c. omega (arith, c .before .loop .inv .2, run-end notBinding (c .before .before .before .args .key .now) (c .before .loop .i) (c .loop-test .left))))

@@ -1,5 +1,5 @@
 use mathlib.Core.Path.{sym}
-use Rattle.key_judge.proofs.Keys.{binding, no-binding}
+use Rattle.key_judge.proofs.Bytes.{binding, no-binding}
 use Rattle.key_judge.proofs.is_binding.Statement.{statement}
 use Rattle.key_judge.proofs.is_binding.Tie as tie
 
