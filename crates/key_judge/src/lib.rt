@@ -79,15 +79,19 @@ fn may_follow(p: u8, c: u8) -> bool
     (binding & !bound) | (bound & wildcard) | (name & !wild)
 }
 
-// May each of the 16 bytes after the one at `at` stand after the byte before it? No test leaves the loop, so a machine may compare
-// all 16 at once.
+// A run has as many neighbours to test as a machine tests at once, and one byte more.
+const LINKS: usize = 16;
+
+const RUN: usize = LINKS + 1;
+
+// May each byte of the run that begins at `at` stand after the byte before it? No test leaves the loop, so a machine may test all at once.
 fn run_links(key: &[u8], at: usize) -> bool
     requires { ⌜ at + 17 ≤ length (now key) ⌝ }
     ensures { λ r. ⌜ (r ≡ true → (j : ℕ) → j < 16 → mayFollow (getD (now (key .entry)) (at + j) 0) (getD (now (key .entry)) (at + j + 1) 0) ≡ true) ⌝ }
 {
     let mut links = true;
     let mut i: usize = 0;
-    while i < 16 {
+    while i < LINKS {
         let link = may_follow(key[at + i], key[at + i + 1]);
         links = links & link;
         i += 1;
@@ -95,18 +99,18 @@ fn run_links(key: &[u8], at: usize) -> bool
     links
 }
 
-// The same for every byte, in runs of 17, of which the last ends with the key.
+// The same for every byte, run by run, of which the last ends with the key.
 fn all_links(key: &[u8]) -> bool
     requires { ⌜ 17 ≤ length (now key) ⌝ }
     ensures { λ r. ⌜ (r ≡ true → (j : ℕ) → j + 1 < length (now (key .entry)) → mayFollow (getD (now (key .entry)) j 0) (getD (now (key .entry)) (j + 1) 0) ≡ true) ⌝ }
 {
-    let last = key.len() - 17;
+    let last = key.len() - RUN;
     let mut at: usize = 0;
     while at < last {
         if !run_links(key, at) {
             return false;
         }
-        at += 16;
+        at += LINKS;
     }
     run_links(key, last)
 }
@@ -132,9 +136,10 @@ fn is_plain_key(key: &[u8]) -> bool
     ensures { λ r. ⌜ (r ≡ true → isKey (now (key .entry)) ≡ true) ⌝ }
 {
     let n = key.len();
-    if n < 17 {
+    if n < RUN {
         return false;
     }
+    // a byte holds the count of bindings
     if 255 < n {
         return false;
     }

@@ -1,16 +1,16 @@
--- `key::split_key` meets its contract. The invariant is `Splitting`. Assumes nothing.
+-- `key::split_key` meets its contract. The invariant is `Bounding`. Assumes nothing.
 use Prim.Native.Nat.{_-_, _≤_, _<_}
 use native.Mathlib.Omega.{arith}
 use lib.ListN.{length}
 use Rattle.definition.specs.Limits.{mostParts}
 use Rattle.key.proofs.Keys.{parts-of}
-use Rattle.key.proofs.Splitting.{Splitting, begun, room, next-inside, more, ended}
+use Rattle.key.proofs.Bounding.{Bounding, begun, room, next-inside, more, ended}
 use borrow.Author.Needs.{needs}
 use Rattle.key.proofs.split_key.Statement.{statement}
 use Rattle.key.proofs.split_key.Tie as tie
 
 abbrev Inv-loop : tie.InvT-loop
-Inv-loop key bounds₀ count₀ at₀ bounds count at = Splitting key bounds count at
+Inv-loop key bounds₀ count₀ at₀ bounds count at = Bounding key bounds count at
 
 abbrev μ-loop : tie.MeasureT-loop
 μ-loop key bounds₀ count₀ at₀ bounds count at = length key - at
