@@ -21,12 +21,12 @@ use Rattle.query.proofs.Starts.{startsLeft, starts-more, starts-end}
 -- ---- Parts that are found
 
 -- the parts that begin at `found`, and then those of the rest
-pub record Found (text found rest : List ℕ) : Type 0 where
+pub record PartsFound (text found rest : List ℕ) : Type 0 where
   pub suffix : Suffix rest text
   pub names : namesOf text ≡ before (map (nameFrom text) found) (namesOf rest)
   pub starts : partStarts text ≡ found ++ startsLeft (length text) false rest
 
-pub none-found : (text : List ℕ) → Found text [] text
+pub none-found : (text : List ℕ) → PartsFound text [] text
 none-found text = record {
   suffix = suffix-whole text;
   names = before-none-yet (namesOf text);
@@ -37,8 +37,8 @@ none-found text = record {
 abbrev pub afterPart : List ℕ → List ℕ
 afterPart t = dropWhile (eqb dot) (dropWhile isName t)
 
-module _ {text found rest : List ℕ} (F : Found text found rest) where
-  pub found-more : 0 < length (takeWhile isName rest) → Found text (found ++ ((length text - length rest) ∷ [])) (afterPart rest)
+module _ {text found rest : List ℕ} (F : PartsFound text found rest) where
+  pub found-more : 0 < length (takeWhile isName rest) → PartsFound text (found ++ ((length text - length rest) ∷ [])) (afterPart rest)
   found-more h = record {
     suffix = suffix-run (suffix-run (F .suffix) isName) (eqb dot);
     names =
@@ -75,16 +75,16 @@ part-shorter t =
 pub names-parts : (text : List ℕ) (ns : List (List ℕ)) → namesOf text ≡ some ns → ns ≡ map (nameFrom text) (partStarts text)
 names-parts text ns e = go (suc (length text)) [] text (omega arith) (none-found text)
   where
-    ends : (found rest : List ℕ) → Found text found rest → length (takeWhile isName rest) ≡ 0 → ns ≡ map (nameFrom text) (partStarts text)
+    ends : (found rest : List ℕ) → PartsFound text found rest → length (takeWhile isName rest) ≡ 0 → ns ≡ map (nameFrom text) (partStarts text)
     ends found [] F z = let f = found-names F (omega arith) in cc
     ends found (c ∷ rest) F z = let f = found-stop F (omega arith) z in absurd (let y : _≡_ {A = ℕ} 0 1 = cc in omega arith)
 
-    go : (k : ℕ) (found rest : List ℕ) → length rest < k → Found text found rest → ns ≡ map (nameFrom text) (partStarts text)
+    go : (k : ℕ) (found rest : List ℕ) → length rest < k → PartsFound text found rest → ns ≡ map (nameFrom text) (partStarts text)
     go zero found rest h F = absurd (omega arith)
     go (suc k) found rest h F = by (length (takeWhile isName rest)) refl (go k (found ++ ((length text - length rest) ∷ [])) (afterPart rest))
       where
         by : (n : ℕ) → length (takeWhile isName rest) ≡ n
-            → (length (afterPart rest) < k → Found text (found ++ ((length text - length rest) ∷ [])) (afterPart rest) → ns ≡ map (nameFrom text) (partStarts text))
+            → (length (afterPart rest) < k → PartsFound text (found ++ ((length text - length rest) ∷ [])) (afterPart rest) → ns ≡ map (nameFrom text) (partStarts text))
             → ns ≡ map (nameFrom text) (partStarts text)
         by zero z ih = ends found rest F z
         by (suc n) z ih = ih (omega (arith, part-shorter rest)) (found-more F (omega arith))
@@ -93,7 +93,7 @@ names-parts text ns e = go (suc (length text)) [] text (omega arith) (none-found
 
 pub record Splitting (text : List ℕ) (split : Split) (rest : List ℕ) : Type 0 where
   pub found : List ℕ
-  pub parts : Found text found rest
+  pub parts : PartsFound text found rest
   pub counted : length found ≡ split .count
   pub most : split .count + length rest ≤ length text
   pub starts-room : length (split .starts) ≡ queryParts
@@ -124,8 +124,8 @@ module _ {text : List ℕ} {split : Split} {rest : List ℕ} (S : Splitting text
     abbrev found′ : List ℕ
     found′ = S .found ++ ((length text - length rest) ∷ [])
 
-    parts′ : Found text found′ left
-    parts′ = subst (Found text found′) (sym left-is) (found-more (S .parts) (omega (arith, z)))
+    parts′ : PartsFound text found′ left
+    parts′ = subst (PartsFound text found′) (sym left-is) (found-more (S .parts) (omega (arith, z)))
 
     counted′ : length found′ ≡ split .count + 1
     counted′ = length-append (S .found) ((length text - length rest) ∷ []) ∙ omega (arith, S .counted)
