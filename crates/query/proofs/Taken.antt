@@ -2,27 +2,17 @@
 use mathlib.Core.Bool.{Bool, true, false}
 use mathlib.Core.List.{List, [], _∷_, _++_, append-assoc}
 use mathlib.Core.Option.{Option, some, none}
-use mathlib.Core.Path.{_≡_, refl, sym}
-use Prim.Native.Nat.{ℕ, _-_, _≤_, _<_}
+use mathlib.Core.Path.{_≡_, refl}
+use Prim.Native.Nat.{ℕ, _≤_, _<_}
 use native.Mathlib.Omega.{arith}
 use lib.Dec.{eqb}
-use lib.ListN.{length, getD, take, drop}
-use borrow.Author.Tests.{eq-eqb, ne-eqb}
+use lib.ListN.{length}
 use Rattle.definition.specs.Lists.{if_then_else_, takeWhile, dropWhile, isEmpty}
 use Rattle.definition.specs.Parsing.{many, atMost}
 use Rattle.definition.specs.Bytes.{dot, isName}
 use Rattle.definition.specs.Query.{queryPartAt, namesOf}
-use Rattle.laws.proofs.Lists.{dropWhile-more, dropWhile-stop, part-rest}
 use Rattle.laws.proofs.Parsing.{many-stop, many-more}
 use Rattle.laws.proofs.Keys.{query-part-shrinks}
-
--- ---- Dots
-
-pub dots-on : (t : List ℕ) → 0 < length t → getD t 0 0 ≡ dot → dropWhile (eqb dot) t ≡ dropWhile (eqb dot) (take (length t - 1) (drop 1 t))
-dots-on t h e = rw (part-rest t 1) (dropWhile-more (eqb dot) t 0 h (eq-eqb _ _ (sym e)))
-
-pub dots-here : (t : List ℕ) → (getD t 0 0 ≡ dot → ⊥) → dropWhile (eqb dot) t ≡ t
-dots-here t e = dropWhile-stop (eqb dot) t 0 (ne-eqb _ _ (λ k. e (sym k)))
 
 -- ---- Names before others
 

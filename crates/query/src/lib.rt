@@ -1,13 +1,11 @@
 // A query's text split into its names: the Rust's `parse_query`.
 ghost use mathlib.Core.Path.{_≡_};
-ghost use lib.Dec.{eqb};
-ghost use Rattle.definition.specs.Lists.{dropWhile};
-ghost use Rattle.definition.specs.Bytes.{dot};
 ghost use Rattle.query.specs.Splits.{noParts};
 ghost use Rattle.query.specs.Shapes.{parsedNames, bothShapes};
 use limits::QUERY_BYTES;
 use limits::QUERY_PARTS;
 use scan::next_component;
+use scan::skip_byte;
 
 // A text's parts: where each starts and how long it is. Past them all is 0.
 pub struct Split {
@@ -28,19 +26,6 @@ pub enum Shape {
 pub struct Names {
     pub shape: Shape,
     pub split: Split,
-}
-
-fn skip_dots(text: &[u8]) -> &[u8]
-    ensures { λ r. ⌜ now r ≡ dropWhile (eqb dot) (now (text .entry)) ⌝ }
-{
-    let mut rest = text;
-    while rest.len() > 0 {
-        if rest[0] != b'.' {
-            return rest;
-        }
-        rest = &rest[1..];
-    }
-    rest
 }
 
 fn no_parts() -> Split
@@ -80,7 +65,7 @@ pub fn parse_query(text: &[u8]) -> Names
             split.lengths[count] = n as u16;
         }
         split.count = count + 1;
-        rest = skip_dots(&rest[n..]);
+        rest = skip_byte(&rest[n..], b'.');
     }
     if rest.len() > 0 {
         return no_names(Shape::Malformed);

@@ -32,15 +32,15 @@ loop-less : tie.Need-loop-less Inv-loop μ-loop
 loop-less c =
     let if2-here = c .before .before .before in
     let n = if2-here .before .next-component in
-    omega (arith, if2-here .if2 .left, shorter (if2-here .before .before .loop .inv) (n .ensures) (if2-here .if2 .left) (c .skip-dots .ensures))
+    omega (arith, if2-here .if2 .left, shorter (if2-here .before .before .loop .inv) (n .ensures) (if2-here .if2 .left) (c .skip-byte .ensures .0))
 
 loop-again : tie.Need-loop-again Inv-loop μ-loop
 loop-again c =
     let if2-here = c .before .before .before in
     let n = if2-here .before .next-component in
     let S = if2-here .before .before .loop .inv in
-    ⊎-elim (λ o. rw (o .1) (kept S (n .ensures) (if2-here .if2 .left) (c .skip-dots .ensures) (o .0 .taken)))
-    (λ o. rw (o .1) (past S (n .ensures) (if2-here .if2 .left) (c .skip-dots .ensures) (o .0 .left)))
+    ⊎-elim (λ o. rw (o .1) (kept S (n .ensures) (if2-here .if2 .left) (c .skip-byte .ensures .0) (o .0 .taken)))
+    (λ o. rw (o .1) (past S (n .ensures) (if2-here .if2 .left) (c .skip-byte .ensures .0) (o .0 .left)))
     (c .before .before .if3 .came)
 
 returns-2 : tie.Need-returns-2 Inv-loop μ-loop
