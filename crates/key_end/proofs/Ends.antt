@@ -9,7 +9,7 @@ use native.Mathlib.Decide.{decLt}
 use lib.Dec.{eqb}
 use lib.ListN.{length, getD, take, drop, length-append, length-drop}
 use lib.Seq.{getD-append-seam, drop-append-add, getD-drop}
-use borrow.Author.Tests.{lt-ltb, le-ltb, eq-eqb, ne-eqb}
+use borrow.Author.Tests.{lt-ltb, le-ltb, ne-eqb}
 use Rattle.definition.specs.Lists.{same}
 use Rattle.definition.specs.Bytes.{dot, star, isBinding}
 use Rattle.definition.specs.Text.{Binding, tight, loose, Component, wildcard, name, Part, isNamed, endsInName}

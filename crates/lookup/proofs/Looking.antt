@@ -1,19 +1,18 @@
 -- The loop over the entries, and the tests before it. Assumes nothing.
 use mathlib.Core.Bool.{Bool, true, false, not}
-use mathlib.Core.List.{List, [], _∷_, map}
-use mathlib.Core.Option.{Option, some, none}
+use mathlib.Core.List.{List, [], _∷_}
+use mathlib.Core.Option.{Option, none}
 use mathlib.Core.Path.{_≡_, refl, sym, ap, _∙_}
-use Prim.Native.Nat.{ℕ, zero, suc, _+_, _-_, _*_, _≤_, _<_, max}
+use Prim.Native.Nat.{ℕ, suc, _+_, _-_, _≤_, _<_, max}
 use native.Mathlib.Numerals.{add-one}
 use native.Mathlib.Nat.{sub-zero}
 use native.Mathlib.Omega.{arith}
 use lib.ListN.{length, getD, take, drop}
-use lib.Seq.{slice}
 use Rattle.definition.specs.Lists.{if_then_else_}
 use Rattle.definition.specs.Limits.{bodyBytes}
-use Rattle.definition.specs.Text.{Part, Entry}
+use Rattle.definition.specs.Text.{Part}
 use Rattle.definition.specs.Image as image
-use Rattle.definition.specs.Image.{rowsFrom, rowsIn, countOf, usedOf, keyEnd, valueEnd, keyAt, keyParts, entriesIn, isKey, isImage}
+use Rattle.definition.specs.Image.{rowsFrom, rowsIn, countOf, keyEnd, valueEnd, keyAt, keyParts, entriesIn, isKey, isImage}
 use Rattle.definition.specs.Query.{Position, Query, positions, malformed, pastLimit, positionsOf, queryOf}
 use Rattle.definition.specs.Ranking.{Best, noEntry, best, rankOf, better, bestFrom, bestOf}
 use Rattle.definition.specs.Lookup.{keysOf, Reply, given, noValue, refused, Place, placeOf, lookup, getBytes}
@@ -31,7 +30,7 @@ use Rattle.marks.specs.declared.Marks.{Marks}
 use Rattle.marks.proofs.Rows.{Long, stands-row, wins-better}
 use Rattle.marks.proofs.Ranks.{rank-long}
 use Rattle.marks.proofs.Positions.{length-queried}
-use Rattle.image.specs.Rows.{rowStart, rowAt, rowsLeft, rowOf, RowIs}
+use Rattle.image.specs.Rows.{rowStart, rowAt, rowsLeft, RowIs}
 use Rattle.image.specs.declared.Row.{Row}
 use Rattle.image.proofs.Rows.{rows-turn, row-is, count-rows}
 use Rattle.image_judge.proofs.Judged.{judged}

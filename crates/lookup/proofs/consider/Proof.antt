@@ -1,5 +1,4 @@
 -- `lookup::consider` meets its contract. Assumes nothing.
-use mathlib.Core.Path.{_≡_}
 use borrow.Author.Needs.{needs}
 use Rattle.lookup.proofs.Looking.{queried-long, takes-over, stays}
 use Rattle.lookup.proofs.consider.Statement.{statement}

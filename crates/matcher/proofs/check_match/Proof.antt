@@ -1,9 +1,7 @@
 -- `matcher::check_match` meets its contract. The outer invariant is `Passing`, the inner one `Turning`. Assumes nothing.
-use mathlib.Core.List.{[], _∷_}
 use mathlib.Core.Path.{_≡_}
-use Prim.Native.Nat.{_+_, _-_, _≤_, _<_}
+use Prim.Native.Nat.{_-_, _≤_, _<_}
 use native.Mathlib.Omega.{arith}
-use lib.ListN.{drop}
 use borrow.Author.Needs.{needs}
 use Rattle.definition.specs.Limits.{mostParts, queryParts}
 use Rattle.definition.specs.Image.{keyParts}

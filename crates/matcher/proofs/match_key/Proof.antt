@@ -1,5 +1,5 @@
 -- `matcher::match_key` meets its contract: more parts than positions, or what `check_match` gives. Assumes nothing.
-use mathlib.Core.Path.{_≡_, sym, ap, _∙_}
+use mathlib.Core.Path.{sym, ap, _∙_}
 use native.Mathlib.Omega.{arith}
 use borrow.Author.Needs.{needs}
 use Rattle.key.specs.Keys.{Bounded}
