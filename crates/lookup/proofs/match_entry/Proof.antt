@@ -102,10 +102,10 @@ match-entry-spec =
     (λ c. omega (arith, c .before .before .before .before .shared-slice-known .given 0)) (λ c κs. search needs) (λ c κs. search needs) (λ c κs. search needs) (λ c κs. search needs)
     (λ c. searching-first _ _ _ _ 0 (c .no-row .result) (c .no-row .ensures))
     (λ c κs. let s = start (c .before) in rows-inside (s .args .contents .now) (s .args .bodies .now) (c .before .loop .i) (s .pre .0) (c .loop-test .taken))
-    (λ c. omega (arith, c .before .row-at .ensures .small .start-word, c .before .row-at .ensures .small .key-word))
+    (λ c. omega (arith, c .before .row-at .ensures .small))
     (λ c. search needs) (λ c. search needs) part-key-end (λ c κs. spans (c .before .before .before .before))
     (λ c κs. let r = c .before .before .before .before in let p = start (r .before .before) .pre in (key-in r, p .1, p .2))
     (λ c. let s = start (c .before .before .before .before .before .before) in omega (arith, c .before .before .before .before .before .loop-test .taken, judged (s .args .contents .now) (s .args .bodies .now) (s .pre .0) .count-most))
     (λ c. search needs) loop-again returns
     (λ c κs. let l = c .before .before .before .before in rows-inside (start l .args .contents .now) (start l .args .bodies .now) (l .loop .best .entry) (start l .pre .0) (best-in c))
-    (λ c. omega (arith, c .before .row-at2 .ensures .small .start-word, c .before .row-at2 .ensures .small .key-word)) returns-2)
+    (λ c. omega (arith, c .before .row-at2 .ensures .small)) returns-2)
