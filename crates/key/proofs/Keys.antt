@@ -1,33 +1,30 @@
 -- A key is what its parts write, and how a loop finds them in it. Assumes nothing.
-use mathlib.Core.Bool.{Bool, true, false, _&&_, not}
+use mathlib.Core.Bool.{true, _&&_, not}
 use mathlib.Core.List.{List, [], _∷_, _++_}
+use mathlib.Core.Logic.{⊎-elim}
 use mathlib.Core.Path.{_≡_, refl, sym, ap, _∙_}
 use Prim.Native.Nat.{ℕ, zero, suc, _+_, _-_, _≤_, _<_}
 use native.Mathlib.Omega.{arith}
 use lib.Dec.{eqb, leb}
 use lib.ListN.{length, getD, drop, length-drop, length-append}
 use lib.Seq.{drop-drop, take-append-seam, drop-append-seam, getD-drop}
-use borrow.Author.Tests.{eqb-true, leb-true, ne-eqb}
+use borrow.Author.Tests.{eqb-true, leb-true}
 use Rattle.definition.specs.Lists.{all, any, takeWhile, isEmpty}
 use Rattle.definition.specs.Parsing.{Parse, nothing, found, continued, atMost, many}
 use Rattle.definition.specs.Limits.{mostParts}
-use Rattle.definition.specs.Bytes.{dot, star, question, isDigit, isName, isBinding}
+use Rattle.definition.specs.Bytes.{question, isName, isBinding}
 use Rattle.definition.specs.Text.{Binding, tight, loose, Component, wildcard, name, Part, bindingOf, componentAt, endsInName}
 use Rattle.definition.specs.Image.{bindingByte, componentBytes, keyOf, storedPartAt, keyParts, isKey}
 use Rattle.laws.proofs.Lists.{not-both, and-true, takeWhile-dropWhile, takeWhile-append}
 use Rattle.laws.proofs.Keys.{isLegalComponent, isLegal, Finds, if-either, stored-parts-legal}
+use Rattle.key_judge.proofs.Bytes.{binding-either, name-no-binding, name-not-wild}
 use Rattle.key.specs.Keys.{notBinding, componentOf, partBetween}
 
 -- ---- A key is what its parts write
 
 binding-byte : (c : ℕ) → isBinding c ≡ true → bindingByte (bindingOf (c ∷ [])) ≡ c
-unfolding isBinding bindingOf any
-binding-byte c h = at (eqb c dot) refl (eqb c star) refl
-  where
-    at : (d : Bool) → eqb c dot ≡ d → (s : Bool) → eqb c star ≡ s → bindingByte (bindingOf (c ∷ [])) ≡ c
-    at true e s f = rw (eqb-true c dot e) refl
-    at false e true f = rw (eqb-true c star f) refl
-    at false e false f = absurd (not-both h (rw (e, f) refl))
+unfolding bindingOf any
+binding-byte c h = ⊎-elim (λ e. rw e refl) (λ e. rw e refl) (binding-either c h)
 
 abbrev Writes : List ℕ → Part → List ℕ → Type 0
 Writes t p u = bindingByte (p .binding) ∷ componentBytes (p .component) ++ u ≡ t
@@ -95,8 +92,8 @@ first : (t : List ℕ) (n : ℕ) → getD (drop n t) 0 0 ≡ getD t n 0
 first t n = let z : n + 0 ≡ n = omega arith in getD-drop n t 0 0 ∙ ap (λ (k : ℕ). getD t k 0) z
 
 no-binding : (c : ℕ) → isName c ≡ true → notBinding c ≡ true
-unfolding notBinding isBinding isName isDigit
-no-binding c h = rw (ne-eqb c dot (λ e. not-both h (rw e refl)), ne-eqb c star (λ e. not-both h (rw e refl))) refl
+unfolding notBinding
+no-binding c h = rw (name-no-binding c h) refl
 
 all-names : (n : List ℕ) → all isName n ≡ true → all notBinding n ≡ true
 unfolding all
@@ -122,7 +119,7 @@ component-is wildcard h = refl
 component-is (name []) h = absurd (not-both h refl)
 component-is (name (c ∷ n)) h =
     let a = and-true (isName c) (all isName n) h in
-    rw (ne-eqb c question (λ e. not-both (a .0) (unfold isName isDigit in rw e refl))) refl
+    rw (name-not-wild c (a .0)) refl
 
 binding-is : (b : Binding) → bindingOf (bindingByte b ∷ []) ≡ b
 unfolding bindingOf any

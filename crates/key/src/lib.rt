@@ -6,6 +6,7 @@ ghost use lib.ListN.{length, drop};
 ghost use Rattle.definition.specs.Lists.{takeWhile};
 ghost use Rattle.definition.specs.Image.{isKey};
 ghost use Rattle.key.specs.Keys.{notBinding, splitKey};
+use key_judge::is_binding;
 use limits::MOST_PARTS;
 
 // A key's parts in its bytes: part i stands from bound i, where its binding is, up to bound i + 1. The bounds past them are 0.
@@ -21,11 +22,7 @@ fn part_end(key: &[u8], at: usize) -> usize
 {
     let mut i = at;
     while i < key.len() {
-        let c = key[i];
-        if c == b'.' {
-            return i;
-        }
-        if c == b'*' {
+        if is_binding(key[i]) {
             return i;
         }
         i += 1;

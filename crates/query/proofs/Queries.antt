@@ -1,6 +1,6 @@
 -- What `parse_query` answers for name and class says what the query is. Assumes nothing.
 use mathlib.Core.Bool.{Bool, true, false, _||_}
-use mathlib.Core.List.{List}
+use mathlib.Core.List.{List, map}
 use mathlib.Core.Option.{Option, some, none}
 use mathlib.Core.Path.{_≡_, refl, sym, ap, subst, _∙_}
 use Prim.Native.Nat.{ℕ, _≤_, _<_}
@@ -8,8 +8,9 @@ use native.Mathlib.Omega.{arith}
 use lib.Dec.{ltb}
 use lib.ListN.{length, length-map}
 use borrow.Author.Tests.{lt-ltb, le-ltb, ltb-false}
-use Rattle.definition.specs.Lists.{if_then_else_}
+use Rattle.definition.specs.Lists.{if_then_else_, takeWhile}
 use Rattle.definition.specs.Limits.{queryBytes, queryParts}
+use Rattle.definition.specs.Bytes.{isName}
 use Rattle.definition.specs.Query.{Query, positions, malformed, pastLimit, positionsOf, namesOf, countedQuery, queryOf}
 use Rattle.query.specs.Splits.{partStarts, nameFrom, splitAt, noParts, namesIn, Inside}
 use Rattle.query.specs.Shapes.{countedShape, shapeWithin, shapeOf, splitOf, parsedNames, bothShapes, shaped}
@@ -19,7 +20,7 @@ use Rattle.query.specs.declared.Shape.the-variants.{Good, Malformed, Man
 use Rattle.query.specs.declared.Names.{Names}
 use Rattle.query.proofs.Splits.{names-from, part-ends}
 use Rattle.query.proofs.Starts.{starts-inside}
-use Rattle.query.proofs.Splitting.{names-parts}
+use Rattle.query.proofs.Splitting.{found-stop, found-all, found-names, names-parts, Splitting}
 
 -- ---- The shape of a text, at any bounds
 
@@ -48,9 +49,34 @@ module _ (bytes parts : ℕ) (t : List ℕ) where
 
 -- ---- A text's parse
 
-pub parsed-is : (t : List ℕ) (s : Shape) → shapeOf t ≡ s → record { shape = s; split = splitOf s t } ≡ parsedNames t
+parsed-is : (t : List ℕ) (s : Shape) → shapeOf t ≡ s → record { shape = s; split = splitOf s t } ≡ parsedNames t
 unfolding parsedNames
 parsed-is t s e = λ i. record { shape = sym e i; split = splitOf (sym e i) t }
+
+pub parsed-long : (t : List ℕ) → queryBytes < length t → record { shape = Long; split = noParts } ≡ parsedNames t
+unfolding splitOf
+parsed-long t h = parsed-is t Long (shape-long queryBytes queryParts t h)
+
+-- where the loop of `parse_query` ends
+module _ {t : List ℕ} {split : Split} {rest : List ℕ} (S : Splitting t split rest) (h : length t ≤ queryBytes) where
+  pub parsed-malformed : 0 < length rest → length (takeWhile isName rest) ≡ 0 → record { shape = Malformed; split = noParts } ≡ parsedNames t
+  unfolding splitOf
+  parsed-malformed k e = parsed-is t Malformed (shape-malformed queryBytes queryParts t h (found-stop (S .parts) k e))
+
+  module _ (k : length rest ≤ 0) where
+    count : length (map (nameFrom t) (partStarts t)) ≡ split .count
+    count = length-map (partStarts t) (nameFrom t) ∙ ap length (found-all (S .parts) k) ∙ S .counted
+
+    pub parsed-many : queryParts < split .count → record { shape = Many; split = noParts } ≡ parsedNames t
+    unfolding splitOf
+    parsed-many m = parsed-is t Many (shape-many queryBytes queryParts t h _ (found-names (S .parts) k) (omega (arith, count)))
+
+    pub parsed-good : split .count ≤ queryParts → record { shape = Good; split = split } ≡ parsedNames t
+    unfolding splitOf
+    parsed-good m =
+        let s = S .held m ∙ ap (splitAt t) (sym (found-all (S .parts) k)) in
+        (λ i. record { shape = Good; split = s i })
+        ∙ parsed-is t Good (shape-good queryBytes queryParts t h _ (found-names (S .parts) k) (omega (arith, count)))
 
 -- a good text: its names, and where they stand
 record GoodSplit (t : List ℕ) (split : Split) : Type 0 where

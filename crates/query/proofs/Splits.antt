@@ -3,9 +3,9 @@ use mathlib.Core.List.{List, [], _∷_, _++_, map, append-assoc}
 use mathlib.Core.Path.{_≡_, refl, sym, ap, _∙_}
 use Prim.Native.Nat.{ℕ, zero, suc, _+_, _-_, _≤_, _<_}
 use native.Mathlib.Omega.{arith}
-use lib.ListN.{length, getD, take, drop, set, length-append, length-drop, length-map, length-replicate, List·getD-append}
+use lib.ListN.{length, getD, drop, set, length-append, length-drop, length-map, List·getD-append}
 use lib.Seq.{ext-getD, set-append-seam}
-use Rattle.definition.specs.Lists.{takeWhile, zeroes}
+use Rattle.definition.specs.Lists.{zeroes}
 use Rattle.definition.specs.Limits.{queryParts}
 use Rattle.definition.specs.Bytes.{isName}
 use Rattle.laws.proofs.Lists.{take-run, getD-map, length-takeWhile-le}
@@ -13,12 +13,12 @@ use Rattle.query.specs.Splits.{nameFrom, padded, splitAt, each, partIn, 
 use Rattle.query.specs.declared.Split.{Split}
 
 module _ {A : Type 0} where
-  pub length-each : (n : ℕ) (f : ℕ → A) → length (each n f) ≡ n
+  length-each : (n : ℕ) (f : ℕ → A) → length (each n f) ≡ n
   unfolding each
   length-each zero f = refl
   length-each (suc n) f = ap suc (length-each n (λ i. f (suc i)))
 
-  pub getD-each : (n : ℕ) (f : ℕ → A) (i : ℕ) (d : A) → i < n → getD (each n f) i d ≡ f i
+  getD-each : (n : ℕ) (f : ℕ → A) (i : ℕ) (d : A) → i < n → getD (each n f) i d ≡ f i
   unfolding each
   getD-each zero f i d h = absurd (omega arith)
   getD-each (suc n) f zero d h = refl
@@ -29,17 +29,13 @@ module _ (text : List ℕ) (split : Split) where
   unfolding namesIn
   length-names = length-each (split .count) (partIn text split)
 
-  pub name-at : (i : ℕ) (d : List ℕ) → i < split .count → getD (namesIn text split) i d ≡ partIn text split i
+  name-at : (i : ℕ) (d : List ℕ) → i < split .count → getD (namesIn text split) i d ≡ partIn text split i
   unfolding namesIn
   name-at i d h = getD-each (split .count) (partIn text split) i d h
 
 -- ---- Padded lists
 
-pub length-padded : (xs : List ℕ) → length xs ≤ queryParts → length (padded xs) ≡ queryParts
-unfolding padded zeroes
-length-padded xs h = length-append xs (zeroes (queryParts - length xs)) ∙ omega (arith, length-replicate {A = ℕ} (queryParts - length xs) 0)
-
-pub getD-padded : (xs : List ℕ) (i : ℕ) → i < length xs → getD (padded xs) i 0 ≡ getD xs i 0
+getD-padded : (xs : List ℕ) (i : ℕ) → i < length xs → getD (padded xs) i 0 ≡ getD xs i 0
 unfolding padded
 getD-padded xs i h = List·getD-append xs (zeroes (queryParts - length xs)) 0 i h
 
@@ -59,11 +55,11 @@ module _ (t starts : List ℕ) where
       getD-padded (map (λ at. length (nameFrom t at)) starts) i (omega (arith, length-map starts (λ at. length (nameFrom t at))))
       ∙ getD-map (λ at. length (nameFrom t at)) starts i 0 0 h
 
-  pub part-start : (i : ℕ) → i < length starts → getD (splitAt t starts .starts) i 0 ≡ getD starts i 0
+  part-start : (i : ℕ) → i < length starts → getD (splitAt t starts .starts) i 0 ≡ getD starts i 0
   unfolding splitAt
   part-start i h = getD-padded starts i h
 
-  pub part-from : (i : ℕ) → i < length starts → partIn t (splitAt t starts) i ≡ nameFrom t (getD starts i 0)
+  part-from : (i : ℕ) → i < length starts → partIn t (splitAt t starts) i ≡ nameFrom t (getD starts i 0)
   part-from i h = rw (part-length i h, part-start i h) (take-run isName (drop (getD starts i 0) t))
 
   pub names-from : namesIn t (splitAt t starts) ≡ map (nameFrom t) starts

@@ -14,7 +14,7 @@ use Rattle.definition.specs.Query.{namesOf}
 use Rattle.laws.proofs.Lists.{dropWhile-le, length-takeWhile-le, drop-run, part-rest, Suffix, suffix-whole, suffix-run}
 use Rattle.query.specs.Splits.{partStarts, nameFrom, padded, splitAt, noParts}
 use Rattle.query.specs.declared.Split.{Split}
-use Rattle.query.proofs.Splits.{length-padded, padded-more}
+use Rattle.query.proofs.Splits.{padded-more}
 use Rattle.query.proofs.Taken.{before, before-none-yet, before-one-more, names-end, names-stop, names-more}
 use Rattle.query.proofs.Starts.{startsLeft, starts-more, starts-end}
 
@@ -112,80 +112,65 @@ begun text split e = rw e record {
   held = λ h. refl;
 }
 
-module _ (text : List ℕ) (split : Split) (rest : List ℕ) (S : Splitting text split rest) where
-  pub malformed : 0 < length rest → length (takeWhile isName rest) ≡ 0 → namesOf text ≡ none
-  malformed h e = found-stop (S .parts) h e
-
-  pub ended : length rest ≤ 0 → namesOf text ≡ some (map (nameFrom text) (partStarts text))
-  ended h = found-names (S .parts) h
-
-  pub count-all : length rest ≤ 0 → length (map (nameFrom text) (partStarts text)) ≡ split .count
-  count-all h = length-map (partStarts text) (nameFrom text) ∙ ap length (found-all (S .parts) h) ∙ S .counted
-
-  pub split-all : length rest ≤ 0 → split .count ≤ queryParts → split ≡ splitAt text (partStarts text)
-  split-all h k = S .held k ∙ ap (splitAt text) (sym (found-all (S .parts) h))
-
+module _ {text : List ℕ} {split : Split} {rest : List ℕ} (S : Splitting text split rest) where
   -- a turn: n bytes of a name, and what is left after its dots
-  module _
-      (n : ℕ) (e : n ≡ length (takeWhile isName rest)) (z : (n ≡ 0 → ⊥))
-      (left : List ℕ) (d : left ≡ dropWhile (eqb dot) (take (length rest - n) (drop n rest)))
-    where
-      left-is : left ≡ afterPart rest
-      left-is = d ∙ rw (part-rest rest n, e, drop-run isName rest) refl
+  module _ {n : ℕ} (e : n ≡ length (takeWhile isName rest)) (z : (n ≡ 0 → ⊥)) {left : List ℕ} (d : left ≡ dropWhile (eqb dot) (take (length rest - n) (drop n rest))) where
+    left-is : left ≡ afterPart rest
+    left-is = d ∙ rw (part-rest rest n, e, drop-run isName rest) refl
 
-      pub shorter : length left + n ≤ length rest
-      shorter = omega (arith, ap length left-is, part-shorter rest)
+    pub shorter : length left + n ≤ length rest
+    shorter = omega (arith, ap length left-is, part-shorter rest)
 
-      abbrev found′ : List ℕ
-      found′ = S .found ++ ((length text - length rest) ∷ [])
+    abbrev found′ : List ℕ
+    found′ = S .found ++ ((length text - length rest) ∷ [])
 
-      parts′ : Found text found′ left
-      parts′ = subst (Found text found′) (sym left-is) (found-more (S .parts) (omega (arith, z)))
+    parts′ : Found text found′ left
+    parts′ = subst (Found text found′) (sym left-is) (found-more (S .parts) (omega (arith, z)))
 
-      counted′ : length found′ ≡ split .count + 1
-      counted′ = length-append (S .found) ((length text - length rest) ∷ []) ∙ omega (arith, S .counted)
+    counted′ : length found′ ≡ split .count + 1
+    counted′ = length-append (S .found) ((length text - length rest) ∷ []) ∙ omega (arith, S .counted)
 
-      pub past : queryParts ≤ split .count → Splitting text (record { starts = split .starts; lengths = split .lengths; count = split .count + 1 }) left
-      past h = record {
+    pub past : queryParts ≤ split .count → Splitting text (record { starts = split .starts; lengths = split .lengths; count = split .count + 1 }) left
+    past h = record {
+      found = found′;
+      parts = parts′;
+      counted = counted′;
+      most = omega (arith, S .most, shorter);
+      starts-room = S .starts-room;
+      lengths-room = S .lengths-room;
+      held = λ k. absurd (omega arith);
+    }
+
+    abbrev kept-split : Split
+    kept-split = record {
+      starts = set (split .starts) (split .count) (length text - length rest);
+      lengths = set (split .lengths) (split .count) n;
+      count = split .count + 1;
+    }
+
+    module _ (h : split .count < queryParts) where
+      held′ : kept-split ≡ splitAt text found′
+      unfolding splitAt
+      held′ =
+          let f : ℕ → ℕ = λ at. length (nameFrom text at) in
+          let s = S .held (omega arith) in
+          let k : length (S .found) < queryParts = omega (arith, S .counted) in
+          let c : split .count ≡ length (map f (S .found)) = sym (length-map (S .found) f ∙ S .counted) in
+          let starts : set (split .starts) (split .count) (length text - length rest) ≡ padded found′ =
+          rw (← S .counted, ap (λ (x : Split). x .starts) s) (padded-more (S .found) (length text - length rest) k) in
+          let new : f (length text - length rest) ≡ n = ap (λ (u : List ℕ). length (takeWhile isName u)) (S .parts .suffix .same) ∙ sym e in
+          let lengths : set (split .lengths) (split .count) n ≡ padded (map f found′) =
+          let more : map f found′ ≡ map f (S .found) ++ (n ∷ []) = rw (map-append f (S .found) ((length text - length rest) ∷ []), new) refl in
+          rw (ap (λ (x : Split). x .lengths) s, c, more) (padded-more (map f (S .found)) n (omega arith)) in
+          λ i. record { starts = starts i; lengths = lengths i; count = sym counted′ i }
+
+      pub kept : Splitting text kept-split left
+      kept = record {
         found = found′;
         parts = parts′;
         counted = counted′;
         most = omega (arith, S .most, shorter);
-        starts-room = S .starts-room;
-        lengths-room = S .lengths-room;
-        held = λ k. absurd (omega arith);
+        starts-room = length-set (split .starts) (split .count) _ ∙ S .starts-room;
+        lengths-room = length-set (split .lengths) (split .count) _ ∙ S .lengths-room;
+        held = λ k. held′;
       }
-
-      abbrev kept-split : Split
-      kept-split = record {
-        starts = set (split .starts) (split .count) (length text - length rest);
-        lengths = set (split .lengths) (split .count) n;
-        count = split .count + 1;
-      }
-
-      module _ (h : split .count < queryParts) where
-        held′ : kept-split ≡ splitAt text found′
-        unfolding splitAt
-        held′ =
-            let f : ℕ → ℕ = λ at. length (nameFrom text at) in
-            let s = S .held (omega arith) in
-            let k : length (S .found) < queryParts = omega (arith, S .counted) in
-            let c : split .count ≡ length (map f (S .found)) = sym (length-map (S .found) f ∙ S .counted) in
-            let starts : set (split .starts) (split .count) (length text - length rest) ≡ padded found′ =
-            rw (← S .counted, ap (λ (x : Split). x .starts) s) (padded-more (S .found) (length text - length rest) k) in
-            let new : f (length text - length rest) ≡ n = ap (λ (u : List ℕ). length (takeWhile isName u)) (S .parts .suffix .same) ∙ sym e in
-            let lengths : set (split .lengths) (split .count) n ≡ padded (map f found′) =
-            let more : map f found′ ≡ map f (S .found) ++ (n ∷ []) = rw (map-append f (S .found) ((length text - length rest) ∷ []), new) refl in
-            rw (ap (λ (x : Split). x .lengths) s, c, more) (padded-more (map f (S .found)) n (omega arith)) in
-            λ i. record { starts = starts i; lengths = lengths i; count = sym counted′ i }
-
-        pub kept : Splitting text kept-split left
-        kept = record {
-          found = found′;
-          parts = parts′;
-          counted = counted′;
-          most = omega (arith, S .most, shorter);
-          starts-room = length-set (split .starts) (split .count) _ ∙ S .starts-room;
-          lengths-room = length-set (split .lengths) (split .count) _ ∙ S .lengths-room;
-          held = λ k. held′;
-        }

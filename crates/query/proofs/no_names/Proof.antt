@@ -2,7 +2,6 @@
 use mathlib.Core.Path.{ap}
 use borrow.Author.Needs.{needs}
 use Rattle.query.specs.declared.Split.{Split}
-use Rattle.query.specs.declared.Names.{Names}
 use Rattle.query.proofs.no_names.Statement.{statement}
 use Rattle.query.proofs.no_names.Tie as tie
 

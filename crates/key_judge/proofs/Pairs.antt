@@ -3,52 +3,20 @@ use mathlib.Core.Bool.{Bool, true, false, _&&_, _||_, not}
 use mathlib.Core.List.{List, [], _∷_}
 use mathlib.Core.Logic.{_⊎_, inl, inr, ⊎-elim}
 use mathlib.Core.Path.{_≡_, refl, sym, ap, _∙_}
-use Prim.Native.Nat.{ℕ, zero, suc, _+_, _-_, _*_, _≤_, _<_}
+use Prim.Native.Nat.{ℕ, zero, suc, _+_, _-_, _≤_, _<_}
 use native.Mathlib.Omega.{arith}
 use lib.Dec.{eqb, ltb}
 use lib.ListN.{length, getD, drop, drop-of-length-le}
-use borrow.Author.Tests.{eqb-true, eq-eqb, ne-eqb, ltb-true, ltb-false}
+use borrow.Author.Tests.{eqb-true, eq-eqb, ltb-true, ltb-false}
 use Rattle.definition.specs.Lists.{if_then_else_, takeWhile, dropWhile}
-use Rattle.definition.specs.Parsing.{found}
 use Rattle.definition.specs.Limits.{mostParts}
-use Rattle.definition.specs.Bytes.{dot, star, question, isDigit, isName, isBinding}
+use Rattle.definition.specs.Bytes.{question, isDigit, isName, isBinding}
 use Rattle.definition.specs.Text.{wildcard, name, Part, bindingOf, componentAt, isNamed}
 use Rattle.definition.specs.Image.{storedPartAt, isKey}
 use Rattle.laws.proofs.Lists.{not-both, and-true}
-use Rattle.image_judge.specs.Pairs.{mayFollow, bindingsIn}
-use Rattle.image_judge.proofs.Keys.{endsKey, key-whole, key-ends, key-wild, key-more, stored-part, component-name, component-wild}
-
--- ---- Kinds of bytes
-
-binding-is : (c : ℕ) → isBinding c ≡ true → (c ≡ dot) ⊎ (c ≡ star)
-unfolding isBinding
-binding-is c e = at (eqb c dot) (eqb c star) refl refl e
-  where
-    at : (a b : Bool) → eqb c dot ≡ a → eqb c star ≡ b → (a || b) ≡ true → (c ≡ dot) ⊎ (c ≡ star)
-    at true b d s h = inl (eqb-true c dot d)
-    at false true d s h = inr (eqb-true c star s)
-    at false false d s h = absurd (not-both h refl)
-
-binding-no-name : (c : ℕ) → isBinding c ≡ true → isName c ≡ false
-unfolding isName isDigit
-binding-no-name c e = ⊎-elim (λ d. rw d refl) (λ d. rw d refl) (binding-is c e)
-
-binding-not-wild : (c : ℕ) → isBinding c ≡ true → eqb c question ≡ false
-binding-not-wild c e = ⊎-elim (λ d. rw d refl) (λ d. rw d refl) (binding-is c e)
-
-name-no-binding : (c : ℕ) → isName c ≡ true → isBinding c ≡ false
-name-no-binding c e = at (isBinding c) refl
-  where
-    at : (b : Bool) → isBinding c ≡ b → isBinding c ≡ false
-    at true h = absurd (not-both e (binding-no-name c h))
-    at false h = h
-
-name-not-wild : (c : ℕ) → isName c ≡ true → eqb c question ≡ false
-name-not-wild c e = ne-eqb c question (λ q. not-both e (ap isName q ∙ (unfold isName isDigit in refl)))
-
-wild-no-binding : isBinding question ≡ false
-unfolding isBinding
-wild-no-binding = refl
+use Rattle.key_judge.specs.Pairs.{mayFollow, bindingsIn}
+use Rattle.key_judge.proofs.Bytes.{binding-no-name, binding-not-wild, name-no-binding, wild-no-binding, name-not-wild}
+use Rattle.key_judge.proofs.Keys.{endsKey, key-whole, key-ends, key-wild, key-more, stored-part, component-name, component-wild}
 
 -- ---- Pairs
 

@@ -1,7 +1,6 @@
 -- How `walk_key` goes through a key. Assumes nothing.
 use mathlib.Core.Bool.{Bool, true, false, _&&_, not, and-false}
 use mathlib.Core.List.{List, [], _∷_}
-use mathlib.Core.Logic.{_⊎_, inl, inr, ⊎-elim}
 use mathlib.Core.Path.{_≡_, refl, sym, ap, _∙_}
 use Prim.Native.Nat.{ℕ, suc, _+_, _-_, _≤_, _<_}
 use native.Mathlib.Omega.{arith}
@@ -11,23 +10,13 @@ use borrow.Author.Tests.{eq-eqb, ne-eqb, le-leb, lt-leb}
 use Rattle.definition.specs.Lists.{if_then_else_, takeWhile, dropWhile, isEmpty}
 use Rattle.definition.specs.Parsing.{Parse, nothing, found, Parsed, parsed, many}
 use Rattle.definition.specs.Limits.{mostParts}
-use Rattle.definition.specs.Bytes.{dot, star, question, isDigit, isName, isBinding}
+use Rattle.definition.specs.Bytes.{question, isName, isBinding}
 use Rattle.definition.specs.Text.{Binding, wildcard, name, Part, bindingOf, componentAt, isNamed, endsInName}
 use Rattle.definition.specs.Image.{storedPartAt, keyParts, isKey}
-use Rattle.laws.proofs.Lists.{not-both, part-rest, length-part-rest, drop-run, length-takeWhile-le}
+use Rattle.laws.proofs.Lists.{part-rest, length-part-rest, drop-run, length-takeWhile-le}
 use Rattle.laws.proofs.Parsing.{many-stop, many-more}
 use Rattle.laws.proofs.Keys.{stored-part-shrinks}
-
--- ---- A binding
-
-module _ (c : ℕ) where
-  pub binding : (c ≡ star) ⊎ (c ≡ dot) → isBinding c ≡ true
-  unfolding isBinding
-  binding h = ⊎-elim (λ e. rw e refl) (λ e. rw e refl) h
-
-  pub no-binding : ((c ≡ star) ⊎ (c ≡ dot) → ⊥) → isBinding c ≡ false
-  unfolding isBinding
-  no-binding h = rw (ne-eqb c dot (λ e. h (inr e)), ne-eqb c star (λ e. h (inl e))) refl
+use Rattle.key_judge.proofs.Bytes.{name-not-wild}
 
 -- ---- What is left of a key after n parts
 
@@ -120,9 +109,6 @@ name-first (c ∷ t) h = at (isName c) refl
     at : (k : Bool) → isName c ≡ k → isName c ≡ true
     at true k = k
     at false k = absurd (let z : 0 < 0 = rw k at h in omega arith)
-
-name-not-wild : (c : ℕ) → isName c ≡ true → eqb c question ≡ false
-name-not-wild c k = ne-eqb c question (λ q. not-both k (ap isName q ∙ (unfold isName isDigit in refl)))
 
 pub component-name : (b : Binding) (u : List ℕ) → 0 < length (takeWhile isName u)
     → componentAt b u ≡ found (record { binding = b; component = name (takeWhile isName u) }) (dropWhile isName u)

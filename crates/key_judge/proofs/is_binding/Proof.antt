@@ -1,7 +1,7 @@
 use mathlib.Core.Path.{sym}
-use Rattle.image_judge.proofs.Keys.{binding, no-binding}
-use Rattle.image_judge.proofs.is_binding.Statement.{statement}
-use Rattle.image_judge.proofs.is_binding.Tie as tie
+use Rattle.key_judge.proofs.Bytes.{binding, no-binding}
+use Rattle.key_judge.proofs.is_binding.Statement.{statement}
+use Rattle.key_judge.proofs.is_binding.Tie as tie
 
 returns : tie.Need-returns
 returns c = sym (binding (c .before .args .c) (c .match .keys1))

@@ -1,7 +1,7 @@
 use mathlib.Core.Path.{refl}
 use Rattle.definition.specs.Bytes.{isName, isDigit}
-use Rattle.image_judge.proofs.is_name_byte.Statement.{statement}
-use Rattle.image_judge.proofs.is_name_byte.Tie as tie
+use Rattle.key_judge.proofs.is_name_byte.Statement.{statement}
+use Rattle.key_judge.proofs.is_name_byte.Tie as tie
 
 returns : tie.Need-returns
 unfolding isName isDigit

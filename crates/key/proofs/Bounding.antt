@@ -10,15 +10,14 @@ use lib.Seq.{drop-cons, drop-drop, drop-set-lt, take-suc-set}
 use Rattle.definition.specs.Lists.{takeWhile, zeroes}
 use Rattle.definition.specs.Limits.{mostParts}
 use Rattle.definition.specs.Text.{Part}
-use Rattle.definition.specs.Image.{componentBytes, keyOf, keyParts}
+use Rattle.definition.specs.Image.{keyOf, keyParts}
 use Rattle.laws.proofs.Lists.{Order, below, equal, above, order, all-getD}
 use Rattle.laws.proofs.Keys.{isLegal}
 use Rattle.key.specs.Keys.{notBinding, noPart, endOf, endsOf, splitKey}
-use Rattle.key.specs.declared.Key.{Key}
 use Rattle.key.proofs.Keys.{Parts, part-run, part-rest, part-inside}
 
 -- `count` parts are found, and end at `at`
-pub record Splitting (key bounds : List ℕ) (count at : ℕ) : Type 0 where
+pub record Bounding (key bounds : List ℕ) (count at : ℕ) : Type 0 where
   pub upto : at ≤ length key
   pub few : count ≤ length (keyParts key)
   pub size : length bounds ≡ suc mostParts
@@ -35,8 +34,8 @@ fewer-zeroes : (xs : List ℕ) (k n : ℕ) → drop k xs ≡ zeroes (suc n) → 
 unfolding zeroes
 fewer-zeroes xs k n e = rw (← add-one k, ← drop-drop 1 k xs, e) refl
 
-module _ (key : List ℕ) (K : Parts key (keyParts key)) where
-  pub begun : Splitting key (replicate (suc mostParts) 0) 0 0
+module _ {key : List ℕ} (K : Parts key (keyParts key)) where
+  pub begun : Bounding key (replicate (suc mostParts) 0) 0 0
   unfolding zeroes
   begun = record {
     upto = omega arith;
@@ -47,7 +46,7 @@ module _ (key : List ℕ) (K : Parts key (keyParts key)) where
     clear = refl;
   }
 
-  module _ (bounds : List ℕ) (count at : ℕ) (S : Splitting key bounds count at) where
+  module _ {bounds : List ℕ} {count at : ℕ} (S : Bounding key bounds count at) where
     left : length (drop at key) ≡ length (keyOf (drop count (keyParts key)))
     left = ap length (S .rest)
 
@@ -93,7 +92,7 @@ module _ (key : List ℕ) (K : Parts key (keyParts key)) where
       next-inside = rw (part-run key at p ps legal rest) (part-inside key at p ps legal rest)
 
       -- one more part, up to e
-      more-at : (e : ℕ) → e ≡ endOf at p → Splitting key (set bounds (count + 1) e) (count + 1) e
+      more-at : (e : ℕ) → e ≡ endOf at p → Bounding key (set bounds (count + 1) e) (count + 1) e
       unfolding endsOf
       more-at e z =
           let long : suc count < length bounds = omega (arith, room, K .few, S .size) in
@@ -108,5 +107,5 @@ module _ (key : List ℕ) (K : Parts key (keyParts key)) where
                 ∙ fewer-zeroes bounds (suc count) (mostParts - suc count) (S .clear ∙ ap zeroes f);
           }
 
-      pub more : (e : ℕ) → e ≡ at + 1 + length (takeWhile notBinding (drop (at + 1) key)) → Splitting key (set bounds (count + 1) e) (count + 1) e
+      pub more : (e : ℕ) → e ≡ at + 1 + length (takeWhile notBinding (drop (at + 1) key)) → Bounding key (set bounds (count + 1) e) (count + 1) e
       more e z = more-at e (z ∙ ap (λ (t : List ℕ). at + 1 + length t) (part-run key at p ps legal rest))

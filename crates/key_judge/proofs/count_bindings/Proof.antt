@@ -1,19 +1,15 @@
--- `image_judge::count_bindings` meets its contract. The invariant: those counted and those left are all. Assumes nothing.
+-- `key_judge::count_bindings` meets its contract. The invariant: those counted and those left are all. Assumes nothing.
 use mathlib.Core.Path.{_≡_}
-use Prim.Native.Nat.{ℕ, _+_, _-_, _≤_, _<_}
+use Prim.Native.Nat.{_+_, _-_, _≤_}
 use native.Mathlib.Omega.{arith}
 use lib.ListN.{length, getD, drop}
 use borrow.Author.Needs.{needs}
 use Rattle.definition.specs.Lists.{if_then_else_}
 use Rattle.definition.specs.Bytes.{isBinding}
-use Rattle.image_judge.specs.Pairs.{bindingsIn}
-use Rattle.image_judge.proofs.Pairs.{bindings-more, bindings-end, bit-most}
-use Rattle.image_judge.proofs.count_bindings.Statement.{statement}
-use Rattle.image_judge.proofs.count_bindings.Tie as tie
-use Rattle.image_judge.proofs.count_bindings.Reads as reads
-use Rattle.image_judge.proofs.count_bindings.Lts as lts
-use Rattle.image_judge.proofs.bit.Reads as bit-reads
-use Rattle.image_judge.proofs.is_binding.Reads as is-binding-reads
+use Rattle.key_judge.specs.Pairs.{bindingsIn}
+use Rattle.key_judge.proofs.Pairs.{bindings-more, bindings-end, bit-most}
+use Rattle.key_judge.proofs.count_bindings.Statement.{statement}
+use Rattle.key_judge.proofs.count_bindings.Tie as tie
 
 abbrev Inv-loop : tie.InvT-loop
 Inv-loop key n₀ i₀ n i = (i ≤ length key) × (n ≤ i) × (n + bindingsIn (drop i key) ≡ bindingsIn key)
@@ -21,23 +17,9 @@ Inv-loop key n₀ i₀ n i = (i ≤ length key) × (n ≤ i) × (n + bindingsIn 
 abbrev μ-loop : tie.MeasureT-loop
 μ-loop key n₀ i₀ n i = length key - i
 
--- src/lib.rt:121:5
 loop-holds : tie.Need-loop-holds Inv-loop μ-loop
 loop-holds c = (omega arith, omega arith, omega arith)
 
--- src/lib.rt:122:29
-shared-slice-read-is-binding : tie.Need-shared-slice-read-is-binding Inv-loop μ-loop
-shared-slice-read-is-binding c = search needs
-
--- src/lib.rt:122:18
-is-binding-requires : tie.Need-is-binding-requires Inv-loop μ-loop
-is-binding-requires c κs = search needs
-
--- src/lib.rt:122:14
-bit-requires : tie.Need-bit-requires Inv-loop μ-loop
-bit-requires c κs = search needs
-
--- src/lib.rt:122:9
 add-n : tie.Need-add-n Inv-loop μ-loop
 add-n c =
     let start-here = c .before .before .before .before .before .before in
@@ -47,15 +29,6 @@ add-n c =
     let bit-here = c in
     omega (arith, start-here .pre, loop-here .loop .inv .1, loop-test-here .loop-test .taken, bit-here .bit .ensures, bit-most (is-binding-here .is-binding .result))
 
--- src/lib.rt:123:9
-add-i : tie.Need-add-i Inv-loop μ-loop
-add-i c = search needs
-
--- src/lib.rt:121:5
-loop-less : tie.Need-loop-less Inv-loop μ-loop
-loop-less c = search needs
-
--- src/lib.rt:121:5
 loop-again : tie.Need-loop-again Inv-loop μ-loop
 loop-again c =
     let start-here = c .before .before .before .before .before .before in
@@ -70,7 +43,6 @@ loop-again c =
     let m = bindings-more key i (loop-test-here .loop-test .taken) in
     (omega (arith, loop-test-here .loop-test .taken), omega (arith, loop-here .loop .inv .1, b, w), omega (arith, loop-here .loop .inv .2, b, m))
 
--- src/lib.rt:115:1
 returns : tie.Need-returns Inv-loop μ-loop
 returns c =
     let start-here = c .before .before .before in
@@ -82,14 +54,5 @@ pub count-bindings-spec : {M : Type 1} → statement M
 count-bindings-spec =
     tie.close
     (tie.spec
-    Inv-loop
-    μ-loop
-    loop-holds
-    shared-slice-read-is-binding
-    is-binding-requires
-    bit-requires
-    add-n
-    add-i
-    loop-less
-    loop-again
-    returns)
+    Inv-loop μ-loop loop-holds (λ c. search needs) (λ c κs. search needs) (λ c κs. search needs) add-n (λ c. search needs)
+    (λ c. search needs) loop-again returns)

@@ -1,4 +1,4 @@
--- `image_judge::all_links` meets its contract. The invariant: the pairs before `at` may stand. Assumes nothing.
+-- `key_judge::all_links` meets its contract. The invariant: the pairs before `at` may stand. Assumes nothing.
 use mathlib.Core.Bool.{true}
 use mathlib.Core.Path.{_≡_, refl}
 use Prim.Native.Nat.{ℕ, _+_, _-_, _<_}
@@ -7,13 +7,10 @@ use lib.ListN.{length, getD}
 use borrow.Author.Tests.{not-false}
 use borrow.Author.Needs.{needs}
 use Rattle.laws.proofs.Lists.{not-both}
-use Rattle.image_judge.specs.Pairs.{mayFollow}
-use Rattle.image_judge.proofs.Pairs.{run-next}
-use Rattle.image_judge.proofs.all_links.Statement.{statement}
-use Rattle.image_judge.proofs.all_links.Tie as tie
-use Rattle.image_judge.proofs.all_links.Reads as reads
-use Rattle.image_judge.proofs.all_links.Lts as lts
-use Rattle.image_judge.proofs.run_links.Reads as run-links-reads
+use Rattle.key_judge.specs.Pairs.{mayFollow}
+use Rattle.key_judge.proofs.Pairs.{run-next}
+use Rattle.key_judge.proofs.all_links.Statement.{statement}
+use Rattle.key_judge.proofs.all_links.Tie as tie
 
 abbrev Inv-loop : tie.InvT-loop
 Inv-loop key last at₀ at = (j : ℕ) → j < at → mayFollow (getD key j 0) (getD key (j + 1) 0) ≡ true
@@ -21,31 +18,12 @@ Inv-loop key last at₀ at = (j : ℕ) → j < at → mayFollow (getD key j 0) (
 abbrev μ-loop : tie.MeasureT-loop
 μ-loop key last at₀ at = last - at
 
--- src/lib.rt:104:16
-sub-last : tie.Need-sub-last Inv-loop μ-loop
-sub-last c = search needs
-
--- src/lib.rt:106:5
 loop-holds : tie.Need-loop-holds Inv-loop μ-loop
 loop-holds c = λ j h. absurd (omega arith)
 
--- src/lib.rt:107:13
-run-links-requires : tie.Need-run-links-requires Inv-loop μ-loop
-run-links-requires c κs = search needs
-
--- src/lib.rt:108:13
 returns : tie.Need-returns Inv-loop μ-loop
 returns c = λ e. absurd (not-both e refl)
 
--- src/lib.rt:110:9
-add-at : tie.Need-add-at Inv-loop μ-loop
-add-at c = search needs
-
--- src/lib.rt:106:5
-loop-less : tie.Need-loop-less Inv-loop μ-loop
-loop-less c = search needs
-
--- src/lib.rt:106:5
 loop-again : tie.Need-loop-again Inv-loop μ-loop
 loop-again c =
     let start-here = c .before .before .before .before .before in
@@ -57,11 +35,6 @@ loop-again c =
     run-next (λ (j : ℕ). mayFollow (getD key j 0) (getD key (j + 1) 0)) at at 16 (omega arith) (loop-here .loop .inv)
     (run-links-here .run-links .ensures (not-false _ (if1-here .if1 .left)))
 
--- src/lib.rt:112:5
-run-links-requires-2 : tie.Need-run-links-requires-2 Inv-loop μ-loop
-run-links-requires-2 c κs = search needs
-
--- src/lib.rt:100:1
 returns-2 : tie.Need-returns-2 Inv-loop μ-loop
 returns-2 c =
     let start-here = c .before .before .before .before in
@@ -77,14 +50,5 @@ pub all-links-spec : {M : Type 1} → statement M
 all-links-spec =
     tie.close
     (tie.spec
-    Inv-loop
-    μ-loop
-    sub-last
-    loop-holds
-    run-links-requires
-    returns
-    add-at
-    loop-less
-    loop-again
-    run-links-requires-2
-    returns-2)
+    Inv-loop μ-loop (λ c. search needs) loop-holds (λ c κs. search needs) returns (λ c. search needs) (λ c. search needs)
+    loop-again (λ c κs. search needs) returns-2)
