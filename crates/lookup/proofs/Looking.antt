@@ -120,6 +120,10 @@ module _ (contents bodies name class : List ℕ) where
   unfolding getBytes
   no-image e = rw e refl
 
+  pub past : isImage contents bodies ≡ true → (k : ℕ) → queryOf name class ≡ pastLimit k → refused k ≡ getBytes contents bodies name class
+  unfolding getBytes lookup
+  past e k f = rw (e, f) refl
+
   module _ (e : isImage contents bodies ≡ true) (n c : Names) (p : n ≡ parsedNames name) (q : c ≡ parsedNames class) where
     -- what the shape of both decides
     pub by-shape : (s : Shape) → s ≡ bothShapes (n .shape) (c .shape)
