@@ -20,10 +20,10 @@ use Rattle.definition.specs.Image.{bindingByte, keyOf, keyParts, isKey}
 use Rattle.query.specs.declared.Split.{Split}
 use Rattle.laws.proofs.Lists.{not-both, same-eq, same-refl, same-from-equal, same-from-end}
 use Rattle.key.proofs.Keys.{parts-of, some-part}
-use Rattle.marks.specs.Spans.{spanOf, positionIn, queried}
-use Rattle.marks.specs.declared.Span.{Span}
-use Rattle.marks.proofs.Ranks.{rank-last, rank-short}
-use Rattle.marks.proofs.Positions.{length-queried, queried-ends}
+use Rattle.positions.specs.Spans.{spanOf, positionIn, queried}
+use Rattle.positions.specs.declared.Span.{Span}
+use Rattle.positions.proofs.Ranks.{rank-last, rank-short}
+use Rattle.positions.proofs.Positions.{length-queried, queried-ends}
 use Rattle.key_end.specs.Ends.{endsIn, endsAt, mayMatch}
 
 -- ---- What the code compares, from the last byte on

@@ -1,8 +1,8 @@
 // Whether a key may match a query at all, told from its end.
 ghost use mathlib.Core.Path.{_≡_};
-ghost use Rattle.marks.specs.Spans.{spanned, Within, positionIn};
+ghost use Rattle.positions.specs.Spans.{spanned, Within, positionIn};
 ghost use Rattle.key_end.specs.Ends.{endsIn, endsAt, mayMatch};
-use marks::Span;
+use positions::Span;
 
 // Does the key end in a binding and the name, from the last byte on?
 fn ends_in(key: &[u8], name: &[u8]) -> bool

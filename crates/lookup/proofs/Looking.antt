@@ -25,11 +25,10 @@ use Rattle.query.proofs.Queries.{query-is}
 use Rattle.laws.proofs.Lists.{part-slice}
 use Rattle.laws.proofs.Ranking.{best-beats}
 use Rattle.marks.specs.Rows.{marksOf, bestIn, winsOver}
-use Rattle.marks.specs.Spans.{queried}
+use Rattle.positions.specs.Spans.{queried}
 use Rattle.marks.specs.declared.Marks.{Marks}
-use Rattle.marks.proofs.Rows.{Long, stands-row, wins-better}
-use Rattle.marks.proofs.Ranks.{rank-long}
-use Rattle.marks.proofs.Positions.{length-queried}
+use Rattle.marks.proofs.Rows.{Long, rank-long, stands-row, wins-better}
+use Rattle.positions.proofs.Positions.{length-queried}
 use Rattle.image.specs.Rows.{rowStart, rowAt, rowsLeft, RowIs}
 use Rattle.image.specs.declared.Row.{Row}
 use Rattle.image.proofs.Rows.{rows-turn, row-is, count-rows}

@@ -8,14 +8,16 @@ use native.Mathlib.Omega.{arith}
 use lib.Dec.{eqb, ltb}
 use lib.ListN.{length, getD, take, drop, set, length-take, length-append}
 use lib.Seq.{getD-take, take-append-seam, append-snoc, set-at}
-use borrow.Author.Tests.{eq-eqb, ne-eqb, eqb-true, eqb-false, le-ltb, lt-ltb}
-use Rattle.definition.specs.Lists.{if_then_else_, any, orElse, lower, zeroes}
+use borrow.Author.Tests.{eqb-true, eqb-false, le-ltb, lt-ltb}
+use Rattle.definition.specs.Lists.{if_then_else_, orElse, lower, zeroes}
 use Rattle.definition.specs.Limits.{queryParts}
 use Rattle.definition.specs.Bytes.{star}
-use Rattle.definition.specs.Text.{Binding, tight, loose, bindingOf}
-use Rattle.definition.specs.Matching.{skipMark}
-use Rattle.definition.specs.Ranking.{Best, noEntry, best, better}
+use Rattle.definition.specs.Text.{Binding, tight, loose, Part, bindingOf}
+use Rattle.definition.specs.Query.{Position}
+use Rattle.definition.specs.Matching.{skipMark, markAt}
+use Rattle.definition.specs.Ranking.{meetRow, skipRow, rankOf, Best, noEntry, best, better}
 use Rattle.laws.proofs.Lists.{lower-from-below, lower-from-above, lower-from-equal, lower-from-end}
+use Rattle.positions.proofs.Marking.{markIn, binding-loose, binding-tight}
 use Rattle.marks.specs.Rows.{marksOf, rowIn, bestIn, skipped, stepped, nextOf, winsOver}
 use Rattle.marks.specs.declared.Marks.{Marks}
 
@@ -63,11 +65,6 @@ none-best n at r e = rw e refl
 
 -- ---- A row with a mark after it
 
--- 0 stands for no mark
-unfoldable pub markIn : ℕ → Option ℕ
-markIn zero = none
-markIn (suc m) = some (suc m)
-
 -- the mark of a skip
 unfoldable pub skipOf : Binding → Option ℕ
 skipOf tight = none
@@ -77,14 +74,6 @@ unfoldable pub extended : Option (List ℕ) → Option ℕ → Option (List ℕ)
 extended none m = none
 extended (some r) none = none
 extended (some r) (some m) = some (r ++ (m ∷ []))
-
-pub binding-loose : (b : ℕ) → b ≡ star → bindingOf (b ∷ []) ≡ loose
-unfolding bindingOf any
-binding-loose b e = rw (eq-eqb star b (sym e)) refl
-
-pub binding-tight : (b : ℕ) → (b ≡ star → ⊥) → bindingOf (b ∷ []) ≡ tight
-unfolding bindingOf any
-binding-tight b h = rw (ne-eqb star b (λ e. h (sym e))) refl
 
 -- ---- What the code holds over p positions
 
@@ -113,6 +102,32 @@ stands-row p r o s = ap (rowIn p) (s .is) ∙ row-of p o (s .long)
 
 pub stands-own : (p : ℕ) (r : Marks) (o : Option (List ℕ)) → Stands p r o → Stands p r (rowIn p r)
 stands-own p r o s = rw (stands-row p r o s) s
+
+long-meet : (n : ℕ) (m : Option ℕ) (r : Option (List ℕ)) → Long n r → Long (suc n) (meetRow m r)
+unfolding meetRow
+long-meet n none r l = tt
+long-meet n (some m) none l = tt
+long-meet n (some m) (some r) l = ap suc l
+
+long-skip : (n : ℕ) (b : Binding) (r : Option (List ℕ)) → Long n r → Long (suc n) (skipRow b r)
+unfolding skipRow
+long-skip n tight r l = tt
+long-skip n loose none l = tt
+long-skip n loose (some r) l = ap suc l
+
+long-or : (n : ℕ) (a b : Option (List ℕ)) → Long n a → Long n b → Long n (orElse a b)
+unfolding orElse
+long-or n none b l k = k
+long-or n (some a) b l k = l
+
+-- a mark for each position
+pub rank-long : (ks : List Part) (qs : List Position) → Long (length qs) (rankOf ks qs)
+unfolding rankOf
+rank-long [] [] = refl
+rank-long [] (q ∷ qs) = tt
+rank-long (k ∷ ks) [] = tt
+rank-long (k ∷ ks) (q ∷ qs) =
+    long-or (suc (length qs)) _ _ (long-meet (length qs) (markAt k q) (rankOf ks qs) (rank-long ks qs)) (long-skip (length qs) (k .binding) (rankOf (k ∷ ks) qs) (rank-long (k ∷ ks) qs))
 
 -- of the zeroes after a row one goes to its end
 zeroes-more : (row : List ℕ) → length row < queryParts → zeroes (queryParts - length row) ≡ 0 ∷ zeroes (queryParts - (length row + 1))

@@ -1,3 +1,2 @@
--- What the code's structs and bytes stand for.
+-- What the code's rows of marks stand for.
 pub mod Rows
-pub mod Spans

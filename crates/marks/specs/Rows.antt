@@ -24,11 +24,6 @@ rowIn n r = if r .live then some (take n (r .marks)) else none
 unfoldable pub bestIn : ℕ → ℕ → Marks → Best
 bestIn n i r = if r .live then best i (take n (r .marks)) else noEntry
 
--- a mark in a byte: 0 stands for none
-unfoldable pub markByte : Option ℕ → ℕ
-markByte none = 0
-markByte (some m) = m
-
 -- ---- Over position p
 
 -- the row skips it, if the next part, which that byte binds, is loose

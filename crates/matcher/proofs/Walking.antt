@@ -18,10 +18,11 @@ use Rattle.definition.specs.Image.{keyParts}
 use Rattle.laws.proofs.Lists.{Order, below, equal, above, order}
 use Rattle.key.specs.Keys.{partBetween, Bounded}
 use Rattle.key.specs.declared.Key.{Key}
-use Rattle.marks.specs.Rows.{marksOf, rowIn, markByte, skipped, stepped, nextOf}
+use Rattle.positions.specs.Spans.{markByte}
+use Rattle.positions.proofs.Marking.{markIn, mark-in}
+use Rattle.marks.specs.Rows.{marksOf, rowIn, skipped, stepped, nextOf}
 use Rattle.marks.specs.declared.Marks.{Marks}
-use Rattle.marks.proofs.Rows.{markIn, skipOf, extended, Stands, none-stands, first-stands, stands-row, stands-own, skipped-stands, stepped-stands, next-stands}
-use Rattle.marks.proofs.Marking.{mark-in}
+use Rattle.marks.proofs.Rows.{skipOf, extended, Stands, none-stands, first-stands, stands-row, stands-own, skipped-stands, stepped-stands, next-stands}
 use Rattle.matcher.proofs.Reached.{part, reached, reached-first, reached-turned, reached-last}
 
 -- what an index past the rows has

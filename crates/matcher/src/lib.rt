@@ -7,19 +7,19 @@ ghost use Rattle.definition.specs.Ranking.{rankOf};
 ghost use Rattle.query.specs.Splits.{Inside};
 ghost use Rattle.key.specs.Keys.{Bounded};
 ghost use Rattle.marks.specs.Rows.{marksOf};
-ghost use Rattle.marks.specs.Spans.{queried};
+ghost use Rattle.positions.specs.Spans.{queried};
 use key::Key;
 use key::split_key;
 use limits::MOST_PARTS;
 use marks::Marks;
 use marks::first_row;
-use marks::longer;
-use marks::mark;
 use marks::next_row;
 use marks::no_row;
 use marks::skip_loose;
-use marks::span_of;
 use marks::step;
+use positions::longer;
+use positions::mark;
+use positions::span_of;
 use query::Split;
 
 // For each part of the key the best row that reaches it, position by position; what the last part, which must meet the last position, gives there.

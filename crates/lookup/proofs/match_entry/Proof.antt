@@ -9,8 +9,8 @@ use borrow.Author.Tests.{not-true, not-false}
 use borrow.Author.Needs.{needs}
 use Rattle.definition.specs.Image.{countOf, isKey}
 use Rattle.marks.specs.Rows.{bestIn}
-use Rattle.marks.specs.Spans.{Within, queried}
-use Rattle.marks.proofs.Positions.{span-within}
+use Rattle.positions.specs.Spans.{Within, queried}
+use Rattle.positions.proofs.Positions.{span-within}
 use Rattle.key_end.proofs.Ends.{refused}
 use Rattle.image_judge.proofs.Judged.{judged}
 use Rattle.lookup.proofs.Looking.{Searching, searching-first, searching-more, passed-over, finds-none, finds, best-inside, key-part, key-within, key-is, found-is, rows-inside}

@@ -5,8 +5,8 @@ use native.Mathlib.Omega.{arith}
 use borrow.Author.Needs.{needs}
 use Rattle.definition.specs.Limits.{mostParts, queryParts}
 use Rattle.definition.specs.Image.{keyParts}
-use Rattle.marks.specs.Spans.{Within, positionIn, queried}
-use Rattle.marks.proofs.Positions.{length-queried, queried-at, queried-last, span-within}
+use Rattle.positions.specs.Spans.{Within, positionIn, queried}
+use Rattle.positions.proofs.Positions.{length-queried, queried-at, queried-last, span-within}
 use Rattle.matcher.proofs.Walking.{Passing, Turning, passing-first, turning-first, bounds-at, turning-next, passing-next, last-bounds, passing-last}
 use Rattle.matcher.proofs.check_match.Statement.{statement}
 use Rattle.matcher.proofs.check_match.Tie as tie

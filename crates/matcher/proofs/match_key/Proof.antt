@@ -5,8 +5,8 @@ use borrow.Author.Needs.{needs}
 use Rattle.key.specs.Keys.{Bounded}
 use Rattle.key.proofs.Bounds.{bounded}
 use Rattle.marks.specs.Rows.{marksOf}
-use Rattle.marks.proofs.Positions.{length-queried}
-use Rattle.marks.proofs.Ranks.{rank-short}
+use Rattle.positions.proofs.Positions.{length-queried}
+use Rattle.positions.proofs.Ranks.{rank-short}
 use Rattle.matcher.proofs.match_key.Statement.{statement}
 use Rattle.matcher.proofs.match_key.Tie as tie
 

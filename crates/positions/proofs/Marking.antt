@@ -2,21 +2,33 @@
 use mathlib.Core.Bool.{Bool, true, false}
 use mathlib.Core.List.{List, [], _∷_}
 use mathlib.Core.Option.{Option, some, none, Option·map}
-use mathlib.Core.Path.{_≡_, refl, ap, _∙_}
-use Prim.Native.Nat.{ℕ, _+_, _-_, _<_}
+use mathlib.Core.Path.{_≡_, refl, sym, ap, _∙_}
+use Prim.Native.Nat.{ℕ, zero, suc, _+_, _-_, _<_}
 use native.Mathlib.Omega.{arith}
 use lib.Dec.{eqb}
 use lib.ListN.{getD, take, drop}
 use lib.Seq.{getD-take, getD-drop}
 use borrow.Author.Tests.{eqb-true, eqb-false, eq-eqb, ne-eqb}
-use Rattle.definition.specs.Lists.{if_then_else_}
+use Rattle.definition.specs.Lists.{if_then_else_, any}
 use Rattle.definition.specs.Bytes.{star, question}
 use Rattle.definition.specs.Text.{Binding, tight, loose, Part, bindingOf}
 use Rattle.definition.specs.Query.{Position}
 use Rattle.definition.specs.Matching.{Match, byWildcard, byClass, byInstance, equals, matchAt, markOf, markAt}
-use Rattle.marks.specs.Rows.{markByte}
+use Rattle.positions.specs.Spans.{markByte}
 use Rattle.key.specs.Keys.{componentOf, partBetween}
-use Rattle.marks.proofs.Rows.{markIn, binding-loose, binding-tight}
+
+-- 0 stands for no mark
+unfoldable pub markIn : ℕ → Option ℕ
+markIn zero = none
+markIn (suc m) = some (suc m)
+
+pub binding-loose : (b : ℕ) → b ≡ star → bindingOf (b ∷ []) ≡ loose
+unfolding bindingOf any
+binding-loose b e = rw (eq-eqb star b (sym e)) refl
+
+pub binding-tight : (b : ℕ) → (b ≡ star → ⊥) → bindingOf (b ∷ []) ≡ tight
+unfolding bindingOf any
+binding-tight b h = rw (ne-eqb star b (λ e. h (sym e))) refl
 
 -- a mark is never 0
 pub mark-in : (p : Part) (q : Position) → markIn (markByte (markAt p q)) ≡ markAt p q

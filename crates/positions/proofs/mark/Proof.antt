@@ -1,10 +1,10 @@
--- `marks::mark` meets its contract: each way out is one law of marks. Assumes nothing.
+-- `positions::mark` meets its contract: each way out is one law of marks. Assumes nothing.
 use mathlib.Core.Path.{sym, _∙_}
-use Rattle.marks.specs.Spans.{positionIn}
-use Rattle.marks.proofs.Marking.{by-wildcard, by-instance, by-class, by-none}
+use Rattle.positions.specs.Spans.{positionIn}
+use Rattle.positions.proofs.Marking.{by-wildcard, by-instance, by-class, by-none}
 use borrow.Author.Needs.{needs}
-use Rattle.marks.proofs.mark.Statement.{statement}
-use Rattle.marks.proofs.mark.Tie as tie
+use Rattle.positions.proofs.mark.Statement.{statement}
+use Rattle.positions.proofs.mark.Tie as tie
 
 returns : tie.Need-returns
 returns c =

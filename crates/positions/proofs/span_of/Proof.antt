@@ -1,8 +1,8 @@
--- `marks::span_of` meets its contract. Assumes nothing.
+-- `positions::span_of` meets its contract. Assumes nothing.
 use borrow.Author.Tests.{lt-ltb, le-ltb}
 use borrow.Author.Needs.{needs}
-use Rattle.marks.proofs.span_of.Statement.{statement}
-use Rattle.marks.proofs.span_of.Tie as tie
+use Rattle.positions.proofs.span_of.Statement.{statement}
+use Rattle.positions.proofs.span_of.Tie as tie
 
 returns : tie.Need-returns
 returns c = simp (lt-ltb _ _ (c .if1 .taken))

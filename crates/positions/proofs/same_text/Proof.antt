@@ -1,4 +1,4 @@
--- `marks::same_text` meets its contract: from byte i on the two are the same just where they are from the start. Assumes nothing.
+-- `positions::same_text` meets its contract: from byte i on the two are the same just where they are from the start. Assumes nothing.
 use mathlib.Core.Path.{_≡_, sym, _∙_}
 use Prim.Native.Nat.{_-_, _≤_, _<_}
 use native.Mathlib.Omega.{arith}
@@ -6,8 +6,8 @@ use lib.ListN.{length, drop}
 use Rattle.definition.specs.Lists.{same}
 use Rattle.laws.proofs.Lists.{same-from-equal, same-from-other, same-from-end, same-lengths}
 use borrow.Author.Needs.{needs}
-use Rattle.marks.proofs.same_text.Statement.{statement}
-use Rattle.marks.proofs.same_text.Tie as tie
+use Rattle.positions.proofs.same_text.Statement.{statement}
+use Rattle.positions.proofs.same_text.Tie as tie
 
 abbrev Inv-loop : tie.InvT-loop
 Inv-loop a b i₀ i = (i ≤ length a) × (length a ≡ length b) × (same (drop i a) (drop i b) ≡ same a b)

@@ -1,4 +1,4 @@
--- What name and class have at a position of a query, as the code holds it.
+-- What name and class have at a position of a query, and a mark there, as the code holds them.
 use mathlib.Core.Bool.{true, false}
 use mathlib.Core.List.{List}
 use mathlib.Core.Option.{Option, some, none}
@@ -9,7 +9,7 @@ use Rattle.definition.specs.Lists.{if_then_else_}
 use Rattle.definition.specs.Query.{Position, positionsOf}
 use Rattle.query.specs.Splits.{namesIn}
 use Rattle.query.specs.declared.Split.{Split}
-use Rattle.marks.specs.declared.Span.{Span}
+use Rattle.positions.specs.declared.Span.{Span}
 
 -- the i-th part, if there is one
 abbrev pub spanOf : Split → ℕ → Span
@@ -33,3 +33,8 @@ positionIn name n class c = record { instance = spanned name n; class = spanned 
 -- the positions of a split query
 abbrev pub queried : List ℕ → Split → List ℕ → Split → List Position
 queried name names class classes = positionsOf (namesIn name names) (namesIn class classes)
+
+-- a mark in a byte: 0 stands for none
+unfoldable pub markByte : Option ℕ → ℕ
+markByte none = 0
+markByte (some m) = m

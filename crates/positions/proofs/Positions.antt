@@ -13,8 +13,8 @@ use Rattle.definition.specs.Query.{Position, positionsOf}
 use Rattle.query.specs.Splits.{each, partIn, namesIn, Inside}
 use Rattle.query.specs.declared.Split.{Split}
 use Rattle.query.proofs.Splits.{length-names}
-use Rattle.marks.specs.declared.Span.{Span}
-use Rattle.marks.specs.Spans.{spanOf, spanned, Within, positionIn, queried}
+use Rattle.positions.specs.declared.Span.{Span}
+use Rattle.positions.specs.Spans.{spanOf, spanned, Within, positionIn, queried}
 
 -- the i-th, if there is one
 unfoldable nth : {A : Type 0} → List A → ℕ → Option A

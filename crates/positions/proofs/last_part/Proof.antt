@@ -1,11 +1,11 @@
--- `marks::last_part` meets its contract. Assumes nothing.
+-- `positions::last_part` meets its contract. Assumes nothing.
 use mathlib.Core.Path.{_≡_, ap, _∙_}
 use Prim.Native.Nat.{_-_}
 use native.Mathlib.Omega.{arith}
-use Rattle.marks.specs.Spans.{spanOf}
+use Rattle.positions.specs.Spans.{spanOf}
 use borrow.Author.Needs.{needs}
-use Rattle.marks.proofs.last_part.Statement.{statement}
-use Rattle.marks.proofs.last_part.Tie as tie
+use Rattle.positions.proofs.last_part.Statement.{statement}
+use Rattle.positions.proofs.last_part.Tie as tie
 
 returns : tie.Need-returns
 returns c =

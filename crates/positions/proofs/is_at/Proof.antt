@@ -1,9 +1,9 @@
--- `marks::is_at` meets its contract. Assumes nothing.
+-- `positions::is_at` meets its contract. Assumes nothing.
 use mathlib.Core.Path.{refl}
 use Rattle.definition.specs.Matching.{equals}
 use borrow.Author.Needs.{needs}
-use Rattle.marks.proofs.is_at.Statement.{statement}
-use Rattle.marks.proofs.is_at.Tie as tie
+use Rattle.positions.proofs.is_at.Statement.{statement}
+use Rattle.positions.proofs.is_at.Tie as tie
 
 returns : tie.Need-returns
 unfolding equals
