@@ -59,10 +59,6 @@ wins-better n i at r top = by (r .live) (top .live) (take n (r .marks)) (take n 
     by true false x y = refl
     by true true x y = if-not (lower x y) (best at y) (best i x)
 
-pub none-best : (n at : ℕ) (r : Marks) → r .live ≡ false → bestIn n at r ≡ noEntry
-unfolding bestIn
-none-best n at r e = rw e refl
-
 -- ---- A row with a mark after it
 
 -- the mark of a skip
@@ -102,32 +98,6 @@ stands-row p r o s = ap (rowIn p) (s .is) ∙ row-of p o (s .long)
 
 pub stands-own : (p : ℕ) (r : Marks) (o : Option (List ℕ)) → Stands p r o → Stands p r (rowIn p r)
 stands-own p r o s = rw (stands-row p r o s) s
-
-long-meet : (n : ℕ) (m : Option ℕ) (r : Option (List ℕ)) → Long n r → Long (suc n) (meetRow m r)
-unfolding meetRow
-long-meet n none r l = tt
-long-meet n (some m) none l = tt
-long-meet n (some m) (some r) l = ap suc l
-
-long-skip : (n : ℕ) (b : Binding) (r : Option (List ℕ)) → Long n r → Long (suc n) (skipRow b r)
-unfolding skipRow
-long-skip n tight r l = tt
-long-skip n loose none l = tt
-long-skip n loose (some r) l = ap suc l
-
-long-or : (n : ℕ) (a b : Option (List ℕ)) → Long n a → Long n b → Long n (orElse a b)
-unfolding orElse
-long-or n none b l k = k
-long-or n (some a) b l k = l
-
--- a mark for each position
-pub rank-long : (ks : List Part) (qs : List Position) → Long (length qs) (rankOf ks qs)
-unfolding rankOf
-rank-long [] [] = refl
-rank-long [] (q ∷ qs) = tt
-rank-long (k ∷ ks) [] = tt
-rank-long (k ∷ ks) (q ∷ qs) =
-    long-or (suc (length qs)) _ _ (long-meet (length qs) (markAt k q) (rankOf ks qs) (rank-long ks qs)) (long-skip (length qs) (k .binding) (rankOf (k ∷ ks) qs) (rank-long (k ∷ ks) qs))
 
 -- of the zeroes after a row one goes to its end
 zeroes-more : (row : List ℕ) → length row < queryParts → zeroes (queryParts - length row) ≡ 0 ∷ zeroes (queryParts - (length row + 1))
@@ -189,3 +159,31 @@ module _ (p : ℕ) (h : p < queryParts) where
           → Stands (p + 1) (if v && l then row else stepped before m p) (orElse (extended (some r) (skipOf (bindingOf (b ∷ [])))) (extended u (markIn m)))
       at v h true e = rw (h, binding-loose b (eqb-true b star e)) (skip-stands row (some r) s)
       at v h false e = rw (h, binding-tight b (eqb-false b star e)) (stepped-stands before u m t)
+
+-- ---- How long a key's row is
+
+long-meet : (n : ℕ) (m : Option ℕ) (r : Option (List ℕ)) → Long n r → Long (suc n) (meetRow m r)
+unfolding meetRow
+long-meet n none r l = tt
+long-meet n (some m) none l = tt
+long-meet n (some m) (some r) l = ap suc l
+
+long-skip : (n : ℕ) (b : Binding) (r : Option (List ℕ)) → Long n r → Long (suc n) (skipRow b r)
+unfolding skipRow
+long-skip n tight r l = tt
+long-skip n loose none l = tt
+long-skip n loose (some r) l = ap suc l
+
+long-or : (n : ℕ) (a b : Option (List ℕ)) → Long n a → Long n b → Long n (orElse a b)
+unfolding orElse
+long-or n none b l k = k
+long-or n (some a) b l k = l
+
+-- a mark for each position
+pub rank-long : (ks : List Part) (qs : List Position) → Long (length qs) (rankOf ks qs)
+unfolding rankOf
+rank-long [] [] = refl
+rank-long [] (q ∷ qs) = tt
+rank-long (k ∷ ks) [] = tt
+rank-long (k ∷ ks) (q ∷ qs) =
+    long-or (suc (length qs)) _ _ (long-meet (length qs) (markAt k q) (rankOf ks qs) (rank-long ks qs)) (long-skip (length qs) (k .binding) (rankOf (k ∷ ks) qs) (rank-long (k ∷ ks) qs))
