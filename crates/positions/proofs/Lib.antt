@@ -1,0 +1,4 @@
+-- The mathematics behind the proofs of the code.
+pub mod Positions
+pub mod Marking
+pub mod Ranks
