@@ -1,3 +1,4 @@
+-- `interpret::character_length` meets its contract. Assumes nothing.
 use mathlib.Core.Bool.{true, false}
 use borrow.Author.Needs.{needs}
 use mathlib.Core.List.{List, _∷_}
@@ -24,16 +25,19 @@ returns-2 c =
     let lead-of-here = c .before .before in
     taken-none (start-here .args .text .now) (start-here .pre) (rw (c .enum-told .given .1) at (lead-of-here .lead-of .ensures))
 
+abbrev begun : tie.After-row → tie.Start
+begun c = c .before .before .before .before .before .before
+
 -- what the row says of the first byte
 told : (c : tie.After-row) (u : List ℕ)
-    → firstRow table (getD (c .before .before .before .before .before .before .args .text .now) 0 0 ∷ u)
+    → firstRow table (getD (begun c .args .text .now) 0 0 ∷ u)
     ≡ rowOf (Row (c .row .given .0 .0) (c .row .given .0 .1 .0) (c .row .given .0 .1 .1 .0)) u
 told c = rw (c .row .given .1) at (c .before .before .lead-of .ensures)
 
 returns-3 : tie.Need-returns-3
 returns-3 c =
-    let start-here = c .before .before .before .before .before .before .before .before in
     let row-here = c .before .before in
+    let start-here = begun row-here in
     let v = row-here .row .given .0 in
     let text = start-here .args .text .now in
     let h : 0 < length text = start-here .pre in
@@ -41,8 +45,8 @@ returns-3 c =
 
 returns-4 : tie.Need-returns-4
 returns-4 c =
-    let start-here = c .before .before .before .before .before .before .before .before .before .before .before in
     let row-here = c .before .before .before .before .before in
+    let start-here = begun row-here in
     let if2-here = c .before .before .before in
     let v = row-here .row .given .0 in
     let text = start-here .args .text .now in
@@ -52,8 +56,8 @@ returns-4 c =
 
 returns-5 : tie.Need-returns-5
 returns-5 c =
-    let start-here = c .before .before .before .before .before .before .before .before .before .before .before .before .before .before in
     let row-here = c .before .before .before .before .before .before .before .before in
+    let start-here = begun row-here in
     let if2-here = c .before .before .before .before .before .before in
     let in-range-here = c .before .before .before .before in
     let if3-here = c .before .before .before in
@@ -67,8 +71,8 @@ returns-5 c =
 
 returns-6 : tie.Need-returns-6
 returns-6 c =
-    let start-here = c .before .before .before .before .before .before .before .before .before .before .before .before .before .before in
     let row-here = c .before .before .before .before .before .before .before .before in
+    let start-here = begun row-here in
     let if2-here = c .before .before .before .before .before .before in
     let in-range-here = c .before .before .before .before in
     let if3-here = c .before .before .before in

@@ -10,13 +10,16 @@ use borrow.Author.Needs.{needs}
 use Rattle.readings.proofs.get_bool.Statement.{statement}
 use Rattle.readings.proofs.get_bool.Tie as tie
 
+abbrev begun : tie.After-found2 → tie.Start
+begun c = c .before .before .before .before .before .before .before
+
 abbrev value : tie.After-found2 → Place
 value c = record { start = c .found2 .given .0 .0; length = c .found2 .given .0 .1 .0 }
 
-found : (c : tie.After-found2) → (let a = c .before .before .before .before .before .before .before .args in given (value c) ≡ getString (a .contents .now) (a .bodies .now) (a .name .now) (a .class .now))
+found : (c : tie.After-found2) → (let a = begun c .args in given (value c) ≡ getString (a .contents .now) (a .bodies .now) (a .name .now) (a .class .now))
 found c = rw (c .found2 .given .1) at (c .before .before .get-string .ensures)
 
-read : (c : tie.After-to-bool) (o : Option Bool) → booleanIn (c .to-bool .result) ≡ o → (let a = c .before .before .before .before .before .before .before .before .before .before .args in
+read : (c : tie.After-to-bool) (o : Option Bool) → booleanIn (c .to-bool .result) ≡ o → (let a = begun (c .before .before .before) .args in
     replied o ≡ getBool (a .contents .now) (a .bodies .now) (a .name .now) (a .class .now))
 unfolding getBool
 read c o e = read-given _ _ _ o (found (c .before .before .before)) (sym e ∙ c .to-bool .ensures ∙ ap toBool (c .before .bytes-at .ensures .0))

@@ -11,13 +11,16 @@ use borrow.Author.Needs.{needs}
 use Rattle.readings.proofs.get_string.Statement.{statement}
 use Rattle.readings.proofs.get_string.Tie as tie
 
+abbrev begun : tie.After-found2 → tie.Start
+begun c = c .before .before .before .before .before .before .before
+
 abbrev value : tie.After-found2 → Place
 value c = record { start = c .found2 .given .0 .0; length = c .found2 .given .0 .1 .0 }
 
-found : (c : tie.After-found2) → (let a = c .before .before .before .before .before .before .before .args in given (value c) ≡ getBytes (a .contents .now) (a .bodies .now) (a .name .now) (a .class .now))
+found : (c : tie.After-found2) → (let a = begun c .args in given (value c) ≡ getBytes (a .contents .now) (a .bodies .now) (a .name .now) (a .class .now))
 found c = rw (c .found2 .given .1) at (c .before .before .get-bytes .ensures)
 
-read : (c : tie.After-is-utf8) (b : Bool) → c .is-utf8 .result ≡ b → (let a = c .before .before .before .before .before .before .before .before .before .before .args in
+read : (c : tie.After-is-utf8) (b : Bool) → c .is-utf8 .result ≡ b → (let a = begun (c .before .before .before) .args in
     replied (if b then some (value (c .before .before .before)) else none) ≡ getString (a .contents .now) (a .bodies .now) (a .name .now) (a .class .now))
 read c b t = string-read _ _ _ _ _ b (found (c .before .before .before)) (ap isUtf8 (sym (c .before .bytes-at .ensures .0)) ∙ sym (c .is-utf8 .ensures) ∙ t)
 

@@ -13,13 +13,16 @@ use borrow.Author.Needs.{needs}
 use Rattle.readings.proofs.get_value.Statement.{statement}
 use Rattle.readings.proofs.get_value.Tie as tie
 
+abbrev begun : tie.After-found2 → tie.Start
+begun c = c .before .before .before .before .before .before .before
+
 abbrev value : tie.After-found2 → Place
 value c = record { start = c .found2 .given .0 .0; length = c .found2 .given .0 .1 .0 }
 
-found : (c : tie.After-found2) → (let a = c .before .before .before .before .before .before .before .args in given (value c) ≡ getString (a .contents .now) (a .bodies .now) (a .name .now) (a .class .now))
+found : (c : tie.After-found2) → (let a = begun c .args in given (value c) ≡ getString (a .contents .now) (a .bodies .now) (a .name .now) (a .class .now))
 found c = rw (c .found2 .given .1) at (c .before .before .get-string .ensures)
 
-read : (c : tie.After-parse-i64) (o : Option ℤ) → numberIn (c .parse-i64 .result) ≡ o → (let a = c .before .before .before .before .before .before .before .before .before .before .args in
+read : (c : tie.After-parse-i64) (o : Option ℤ) → numberIn (c .parse-i64 .result) ≡ o → (let a = begun (c .before .before .before) .args in
     given (numberOf o) ≡ getValue (a .contents .now) (a .bodies .now) (a .name .now) (a .class .now))
 unfolding getValue replied
 read c o e =
