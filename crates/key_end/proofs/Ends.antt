@@ -22,7 +22,7 @@ use Rattle.laws.proofs.Lists.{not-both, same-eq, same-refl, same-from-equal, sa
 use Rattle.key.proofs.Keys.{parts-of, some-part}
 use Rattle.positions.specs.Spans.{spanOf, positionIn, queried}
 use Rattle.positions.specs.declared.Span.{Span}
-use Rattle.positions.proofs.Ranks.{rank-last, rank-short}
+use Rattle.laws.proofs.Ranks.{rank-last, rank-short}
 use Rattle.positions.proofs.Positions.{length-queried, queried-ends}
 use Rattle.key_end.specs.Ends.{endsIn, endsAt, mayMatch}
 

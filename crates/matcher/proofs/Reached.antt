@@ -13,7 +13,7 @@ use Rattle.definition.specs.Matching.{markAt}
 use Rattle.definition.specs.Ranking.{meetRow, skipRow, rankOf}
 use Rattle.key.specs.Keys.{noPart}
 use Rattle.marks.proofs.Rows.{skipOf, extended}
-use Rattle.positions.proofs.Ranks.{rank-short, rank-past}
+use Rattle.laws.proofs.Ranks.{rank-short, rank-past}
 
 -- ---- Rows and what follows them
 

@@ -6,7 +6,7 @@ use Rattle.key.specs.Keys.{Bounded}
 use Rattle.key.proofs.Bounds.{bounded}
 use Rattle.marks.specs.Rows.{marksOf}
 use Rattle.positions.proofs.Positions.{length-queried}
-use Rattle.positions.proofs.Ranks.{rank-short}
+use Rattle.laws.proofs.Ranks.{rank-short}
 use Rattle.matcher.proofs.match_key.Statement.{statement}
 use Rattle.matcher.proofs.match_key.Tie as tie
 
