@@ -9,11 +9,11 @@ ghost use Rattle.readings.specs.Replies.{truthReplied, valueReplied};
 ghost use Rattle.readings.specs.Showing.{Within, shownAt};
 use interpret::Boolean;
 use interpret::Number;
-use interpret::is_utf8;
 use interpret::parse_i64;
 use interpret::to_bool;
 use lookup::Lookup;
 use lookup::get_bytes;
+use utf8::is_utf8;
 
 // The bytes that stand at a value's place.
 fn bytes_at(bodies: &[u8], place: usize, size: usize) -> &[u8]

@@ -4,10 +4,10 @@ use Prim.Native.Nat.{_-_, _≤_, _<_}
 use lib.ListN.{length, drop, replicate}
 use borrow.Author.Tests.{not-true, not-false}
 use Rattle.definition.specs.Value.{afterRow}
-use Rattle.interpret.specs.Characters.{trail}
-use Rattle.interpret.proofs.Characters.{trails-first, trails-more, trails-stop, trails-end}
-use Rattle.interpret.proofs.trails.Statement.{statement}
-use Rattle.interpret.proofs.trails.Tie as tie
+use Rattle.utf8.specs.Characters.{trail}
+use Rattle.utf8.proofs.Characters.{trails-first, trails-more, trails-stop, trails-end}
+use Rattle.utf8.proofs.trails.Statement.{statement}
+use Rattle.utf8.proofs.trails.Tie as tie
 
 abbrev Inv-loop : tie.InvT-loop
 Inv-loop text n i₀ i = (i ≤ n) × (afterRow (replicate n trail) text ≡ afterRow (replicate (n - i) trail) (drop i text))

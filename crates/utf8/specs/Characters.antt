@@ -6,8 +6,8 @@ use Prim.Native.Nat.{ℕ, zero, suc, _≤_}
 use lib.ListN.{length, drop, replicate}
 use Rattle.definition.specs.Parsing.{Parse, nothing, found}
 use Rattle.definition.specs.Value.{Range, afterRow, characterAt}
-use Rattle.interpret.specs.declared.Lead.{Lead}
-use Rattle.interpret.specs.declared.Lead.the-variants.{Row, Nothing}
+use Rattle.utf8.specs.declared.Lead.{Lead}
+use Rattle.utf8.specs.declared.Lead.the-variants.{Second, Nothing}
 
 -- the last columns of the table
 abbrev pub trail : Range
@@ -15,7 +15,7 @@ trail = record { low = 0x80; high = 0xBF }
 
 -- the text after the bytes that a first byte asks for
 unfoldable pub rowOf : Lead → List ℕ → Option (List ℕ)
-rowOf (Row low high more) t = afterRow (record { low = low; high = high } ∷ replicate more trail) t
+rowOf (Second low high more) t = afterRow (record { low = low; high = high } ∷ replicate more trail) t
 rowOf Nothing t = none
 
 unfoldable pub takenBy : ℕ → List ℕ → Parse (Unit {0})

@@ -1,7 +1,7 @@
 use native.Mathlib.Omega.{arith}
-use Rattle.interpret.proofs.Characters.{lead-C2, lead-E0, lead-E1, lead-ED, lead-EE, lead-F0, lead-F1, lead-F4, lead-before, lead-after}
-use Rattle.interpret.proofs.lead_of.Statement.{statement}
-use Rattle.interpret.proofs.lead_of.Tie as tie
+use Rattle.utf8.proofs.Characters.{lead-C2, lead-E0, lead-E1, lead-ED, lead-EE, lead-F0, lead-F1, lead-F4, lead-before, lead-after}
+use Rattle.utf8.proofs.lead_of.Statement.{statement}
+use Rattle.utf8.proofs.lead_of.Tie as tie
 
 returns : tie.Need-returns
 returns c = lead-E0 _ (omega arith) (omega arith)

@@ -5,9 +5,9 @@ use native.Mathlib.Omega.{arith}
 use lib.ListN.{length}
 use Rattle.definition.specs.Value.{isUtf8}
 use Rattle.laws.proofs.Lists.{length-part-rest}
-use Rattle.interpret.proofs.Characters.{utf8-more, utf8-stop, utf8-end}
-use Rattle.interpret.proofs.is_utf8.Statement.{statement}
-use Rattle.interpret.proofs.is_utf8.Tie as tie
+use Rattle.utf8.proofs.Characters.{utf8-more, utf8-stop, utf8-end}
+use Rattle.utf8.proofs.is_utf8.Statement.{statement}
+use Rattle.utf8.proofs.is_utf8.Tie as tie
 
 abbrev Inv-loop : tie.InvT-loop
 Inv-loop text rest₀ rest = isUtf8 text ≡ isUtf8 rest

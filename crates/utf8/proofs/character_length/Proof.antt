@@ -1,4 +1,4 @@
--- `interpret::character_length` meets its contract. Assumes nothing.
+-- `utf8::character_length` meets its contract. Assumes nothing.
 use mathlib.Core.Bool.{true, false}
 use borrow.Author.Needs.{needs}
 use mathlib.Core.List.{List, _∷_}
@@ -8,11 +8,11 @@ use native.Mathlib.Omega.{arith}
 use lib.ListN.{length, getD}
 use borrow.Author.Tests.{not-true, not-false}
 use Rattle.definition.specs.Value.{table, firstRow}
-use Rattle.interpret.specs.Characters.{rowOf}
-use Rattle.interpret.specs.declared.Lead.the-variants.{Row}
-use Rattle.interpret.proofs.Characters.{taken-ascii, taken-none, taken-short, taken-second, taken-trail, taken-whole, followed}
-use Rattle.interpret.proofs.character_length.Statement.{statement}
-use Rattle.interpret.proofs.character_length.Tie as tie
+use Rattle.utf8.specs.Characters.{rowOf}
+use Rattle.utf8.specs.declared.Lead.the-variants.{Second}
+use Rattle.utf8.proofs.Characters.{taken-ascii, taken-none, taken-short, taken-second, taken-trail, taken-whole, followed}
+use Rattle.utf8.proofs.character_length.Statement.{statement}
+use Rattle.utf8.proofs.character_length.Tie as tie
 
 returns : tie.Need-returns
 returns c =
@@ -31,7 +31,7 @@ begun c = c .before .before .before .before .before .before
 -- what the row says of the first byte
 told : (c : tie.After-row) (u : List ℕ)
     → firstRow table (getD (begun c .args .text .now) 0 0 ∷ u)
-    ≡ rowOf (Row (c .row .given .0 .0) (c .row .given .0 .1 .0) (c .row .given .0 .1 .1 .0)) u
+    ≡ rowOf (Second (c .row .given .0 .0) (c .row .given .0 .1 .0) (c .row .given .0 .1 .1 .0)) u
 told c = rw (c .row .given .1) at (c .before .before .lead-of .ensures)
 
 returns-3 : tie.Need-returns-3

@@ -1,7 +1,7 @@
 use mathlib.Core.Path.{refl}
 use borrow.Author.Tests.{le-leb, lt-leb}
-use Rattle.interpret.proofs.in_range.Statement.{statement}
-use Rattle.interpret.proofs.in_range.Tie as tie
+use Rattle.utf8.proofs.in_range.Statement.{statement}
+use Rattle.utf8.proofs.in_range.Tie as tie
 
 returns : tie.Need-returns
 returns c = rw (le-leb _ _ (c .if1 .taken)) refl
