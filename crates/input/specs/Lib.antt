@@ -1,0 +1,2 @@
+-- What the contract of reading cites.
+pub mod Within
