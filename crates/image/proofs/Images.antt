@@ -16,7 +16,8 @@ use Rattle.definition.specs.Image.{keyOf, rowsOf, storeOf, contentsOf, writtenO
 use Rattle.definition.specs.Reading as definition
 use Rattle.definition.specs.Reading.{Verdict, within, past, sizeOf, judge, plain, start, accepted, refused, outcome, left}
 use Rattle.laws.proofs.Image.{length-rows}
-use Rattle.image.specs.Running.{World, world, Ran, went, stopped, rowOf, stored, put, counted, openOne, andThen, run}
+use Rattle.image.specs.Running.{World, world, Ran, went, stopped, stored, put, counted, openOne, andThen, run}
+use Rattle.image.specs.Rows.{rowStart}
 use Rattle.image.specs.declared.Totals.{Totals}
 use Rattle.image.proofs.Runs.{RoomIn, then-went, put-went, open-went, step-room, run-room, size-is}
 
@@ -67,7 +68,7 @@ one-paste q rest b u n e f = rw (← e, ← f, take-append-seam q rest, take-len
 pub record Laid (w : World) (p q restWords restBytes : List ℕ) : Type 0 where
   pub words-are : w .words ≡ p ++ restWords
   pub bytes-are : w .bytes ≡ q ++ restBytes
-  pub p-long : length p ≡ rowOf (w .totals .entries)
+  pub p-long : length p ≡ rowStart (w .totals .entries)
   pub q-long : length q ≡ w .totals .used
 
 laid-is : {w : World} {p p′ q q′ r r′ s s′ : List ℕ} → p ≡ p′ → q ≡ q′ → r ≡ r′ → s ≡ s′ → Laid w p q r s → Laid w p′ q′ r′ s′
@@ -80,7 +81,7 @@ laid-put w e p q r s room few l =
     record {
       words-are =
           rw (l .words-are)
-          (three-sets p r (rowOf (w .totals .entries)) (w .totals .used) (length (keyOf (e .parts))) (length (e .value)) (l .p-long)
+          (three-sets p r (rowStart (w .totals .entries)) (w .totals .used) (length (keyOf (e .parts))) (length (e .value)) (l .p-long)
           (omega (arith, room .words-long, long, length-append p r, l .p-long)));
       bytes-are = rw (l .bytes-are) (one-paste q s (keyOf (e .parts) ++ e .value) (w .totals .used) (sizeOf e) (l .q-long) (size-is e));
       p-long = simp length-append (omega (arith, l .p-long));
@@ -176,12 +177,12 @@ module _ (c b : List ℕ) (hc : length c ≡ contentsWords) (hb : length b ≡ b
     pub used-is : length (storeOf xs) ≡ v .totals .used
     used-is = laid .q-long
 
-    contents-long : length (contentsOf xs) ≡ rowOf (v .totals .entries)
+    contents-long : length (contentsOf xs) ≡ rowStart (v .totals .entries)
     unfolding contentsOf
     contents-long = omega (arith, length-rows 0 xs, entries-are)
 
     -- the count, the use and the rows, with zeroes behind
-    pub words-finished : take (rowOf (v .totals .entries)) (set (set (v .words) 0 (v .totals .entries)) 1 (v .totals .used)) ++ zeroes (contentsWords - rowOf (v .totals .entries))
+    pub words-finished : take (rowStart (v .totals .entries)) (set (set (v .words) 0 (v .totals .entries)) 1 (v .totals .used)) ++ zeroes (contentsWords - rowStart (v .totals .entries))
         ≡ imageContents xs c
     unfolding contentsOf
     words-finished =

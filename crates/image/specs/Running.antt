@@ -1,16 +1,17 @@
 -- What an event does to the totals and the two buffers. proofs/Images.antt shows that a run leaves what the definition says.
 use mathlib.Core.List.{List, [], _∷_, _++_}
 use mathlib.Core.Path.{_≡_}
-use Prim.Native.Nat.{ℕ, _+_, _*_, _≤_}
+use Prim.Native.Nat.{ℕ, _+_, _≤_}
 use lib.Dec.{leb, ltb}
-use lib.ListN.{length, set}
+use lib.ListN.{length}
 use lib.Seq.{paste}
 use Rattle.definition.specs.Lists.{if_then_else_}
-use Rattle.definition.specs.Limits.{mostOpens, mostEntries, mostParts, bodyBytes, contentsWords, rowWords}
+use Rattle.definition.specs.Limits.{mostOpens, mostEntries, mostParts, bodyBytes, contentsWords}
 use Rattle.definition.specs.Text.{Entry}
 use Rattle.definition.specs.Including.{Event, opened, entered}
-use Rattle.definition.specs.Image.{keyOf}
+use Rattle.definition.specs.Image.{Row, keyOf}
 use Rattle.definition.specs.Reading.{sizeOf}
+use Rattle.image.specs.Rows.{withRow}
 use Rattle.image.specs.declared.Totals.{Totals}
 use Rattle.image.specs.declared.Step.{Step}
 use Rattle.image.specs.declared.Step.the-variants.{Go, Stop}
@@ -36,17 +37,15 @@ pub data Ran : Type 0 where
   went : World → Ran
   stopped : ℕ → Ran
 
--- where entry n's row stands
-abbrev pub rowOf : ℕ → ℕ
-rowOf n = 2 + rowWords * n
+-- the row of an entry whose key starts at `at`
+abbrev pub rowFor : ℕ → Entry → Row
+rowFor at e = record { start = at; keyLength = length (keyOf (e .parts)); valueLength = length (e .value) }
 
 -- an entry, stored
 abbrev pub stored : World → Entry → World
 stored w e = record {
   totals = record { opens = w .totals .opens; entries = w .totals .entries + 1; used = w .totals .used + sizeOf e };
-  words =
-      set (set (set (w .words) (rowOf (w .totals .entries)) (w .totals .used)) (rowOf (w .totals .entries) + 1) (length (keyOf (e .parts))))
-      (rowOf (w .totals .entries) + 2) (length (e .value));
+  words = withRow (w .words) (w .totals .entries) (rowFor (w .totals .used) e);
   bytes = paste (w .bytes) (w .totals .used) (keyOf (e .parts) ++ e .value) (sizeOf e);
 }
 

@@ -5,7 +5,7 @@ use mathlib.Core.Path.{_≡_, refl, sym, ap, _∙_}
 use Prim.Native.Nat.{ℕ, suc, _+_, _-_, _≤_, _<_}
 use native.Mathlib.Omega.{arith}
 use lib.Dec.{eqb}
-use lib.ListN.{length, take, drop, set, length-append, length-drop, drop-of-length-le}
+use lib.ListN.{length, take, drop, length-append, length-drop, drop-of-length-le}
 use lib.Seq.{paste, drop-drop}
 use borrow.Author.Tests.{lt-ltb, le-ltb, le-leb, lt-leb}
 use Rattle.definition.specs.Lists.{if_then_else_}
@@ -16,11 +16,12 @@ use Rattle.definition.specs.Text.{Entry, pieceAt, afterBlanks, pieces}
 use Rattle.definition.specs.Image.{keyOf}
 use Rattle.definition.specs.Reading.{sizeOf}
 use Rattle.laws.proofs.Lists.{part-rest, paste-append, Suffix, suffix-whole}
-use Rattle.image.specs.Running.{world, Room, went, stopped, rowOf, stored, put}
+use Rattle.image.specs.Running.{world, Room, went, stopped, rowFor, stored, put}
+use Rattle.image.specs.Rows.{withRow}
 use Rattle.image.specs.declared.Totals.{Totals}
 use Rattle.values.specs.Decoded.{valueAt, Stored}
-use Rattle.parser.specs.Lined.{partsOf}
-use Rattle.parser.specs.Putting.{entryFrom, Puts}
+use Rattle.lines.specs.Lined.{partsOf}
+use Rattle.parser.specs.Putting.{entryFrom, Asked, Puts}
 
 -- ---- Blanks after `:`
 
@@ -115,66 +116,79 @@ module _ (t : List ℕ) (v : ℕ) (inside : v ≤ length t) (u : List ℕ) (is :
 
 -- ---- The answers of parse_entry
 
-module _ (t : List ℕ) (v count size : ℕ) (s : Totals) (c b : List ℕ)
-    (inside : v ≤ length t) (parts : count ≡ length (partsOf t)) (key : size ≡ length (keyOf (partsOf t))) (room : Room s c b) where
+module _ {t : List ℕ} {v count size : ℕ} {s : Totals} {c b : List ℕ} (a : Asked t v count size s c b) where
+  pub many-parts : mostParts < count → put (world s c b) (entryFrom t v) ≡ stopped 5
+  many-parts h = put-parts s c b (entryFrom t v) (omega (arith, a .parts))
+
+  module _ (few : count ≤ mostParts) where
+    pub many-entries : mostEntries ≤ s .entries → put (world s c b) (entryFrom t v) ≡ stopped 6
+    many-entries h = put-count s c b (entryFrom t v) (omega (arith, a .parts)) h
+
+    pub long-key : s .entries < mostEntries → length b - s .used < size → put (world s c b) (entryFrom t v) ≡ stopped 7
+    long-key less h = put-full s c b (entryFrom t v) (omega (arith, a .parts)) less (omega (arith, a .key, a .room .used-most, a .room .bytes-long))
+
+-- the entry keeps the limits so far, its key is written, and u is the value's text
+pub record Keyed (t : List ℕ) (v count size : ℕ) (s : Totals) (c b b₁ u : List ℕ) : Type 0 where
+  pub asked : Asked t v count size s c b
+  pub few : count ≤ mostParts
+  pub less : s .entries < mostEntries
+  pub fits : size ≤ length b - s .used
+  pub written : b₁ ≡ paste b (s .used) (keyOf (partsOf t)) (length (keyOf (partsOf t)))
+  pub long : length b₁ ≡ length b
+  pub is : u ≡ afterBlanks (take (length t - v) (drop v t))
+
+module _ {t : List ℕ} {v count size : ℕ} {s : Totals} {c b b₁ u : List ℕ} (k : Keyed t v count size s c b b₁ u) where
   abbrev e : Entry
   e = entryFrom t v
 
-  pub many-parts : mostParts < count → put (world s c b) e ≡ stopped 5
-  many-parts h = put-parts s c b e (omega arith)
+  few-parts : length (partsOf t) ≤ mostParts
+  few-parts = omega (arith, k .few, k .asked .parts)
 
-  module _ (few : count ≤ mostParts) where
-    pub many-entries : mostEntries ≤ s .entries → put (world s c b) e ≡ stopped 6
-    many-entries h = put-count s c b e (omega arith) h
+  value-long : length (valueAt u) ≡ length (e .value)
+  value-long = ap length (value-is t v (k .asked .inside) u (k .is))
 
-    module _ (less : s .entries < mostEntries) where
-      pub long-key : length b - s .used < size → put (world s c b) e ≡ stopped 7
-      long-key h = put-full s c b e (omega arith) less (omega (arith, room .used-most, room .bytes-long))
+  pub text-inside : length u ≤ length t
+  text-inside = value-inside t v (k .asked .inside) u (k .is)
 
-      module _ (fits : size ≤ length b - s .used) (b₁ : List ℕ) (keyed : b₁ ≡ paste b (s .used) (keyOf (partsOf t)) (length (keyOf (partsOf t)))) (long : length b₁ ≡ length b)
-          (u : List ℕ) (is : u ≡ afterBlanks (take (length t - v) (drop v t))) where
-        value-long : length (valueAt u) ≡ length (e .value)
-        value-long = ap length (value-is t v inside u is)
+  pub long-value : length b₁ < s .used + size + length (valueAt u) → put (world s c b) e ≡ stopped 7
+  long-value h = put-full s c b e few-parts (k .less) (omega (arith, value-long, k .asked .key, k .long, k .asked .room .bytes-long))
 
-        pub long-value : length b₁ < s .used + size + length (valueAt u) → put (world s c b) e ≡ stopped 7
-        long-value h = put-full s c b e (omega arith) less (omega (arith, value-long, room .bytes-long))
+  module _ {b₂ : List ℕ} {end taken : ℕ} (st : Stored u b₁ (s .used + size) b₂ end taken) where
+    pub value-after : s .used + size ≤ end
+    value-after = omega (arith, st .ends)
 
-        module _ (b₂ : List ℕ) (end taken : ℕ) (st : Stored u b₁ (s .used + size) b₂ end taken) where
-          pub value-after : s .used + size ≤ end
-          value-after = omega (arith, st .ends)
+    pub ends-inside : end ≤ bodyBytes
+    ends-inside = omega (arith, st .ends, st .room, k .long, k .asked .room .bytes-long)
 
-          pub ends-inside : end ≤ bodyBytes
-          ends-inside = omega (arith, st .ends, st .room, room .bytes-long)
+    pub passed-inside : length t - length u + taken ≤ length t
+    passed-inside = omega (arith, st .inside, text-inside)
 
-          pub passed-inside : length t - length u + taken ≤ length t
-          passed-inside = omega (arith, st .inside, value-inside t v inside u is)
+    bytes-are : paste b (s .used) (keyOf (partsOf t) ++ e .value) (sizeOf e) ≡ b₂
+    bytes-are =
+        sym (both-stored b (keyOf (partsOf t)) (e .value) (s .used) (omega (arith, st .room, value-long, k .asked .key, k .long)))
+        ∙ sym (st .stored ∙ rw (k .written, k .asked .key, value-is t v (k .asked .inside) u (k .is)) refl)
 
-          bytes-are : paste b (s .used) (keyOf (partsOf t) ++ e .value) (sizeOf e) ≡ b₂
-          bytes-are =
-              sym (both-stored b (keyOf (partsOf t)) (e .value) (s .used) (omega (arith, st .room, value-long)))
-              ∙ sym (st .stored ∙ rw (keyed, key, value-is t v inside u is) refl)
+    module _ {c₂ : List ℕ} (rowed : c₂ ≡ withRow c (s .entries) (record { start = s .used; keyLength = size; valueLength = end - (s .used + size) })) where
+      abbrev next : Totals
+      next = record { opens = s .opens; entries = s .entries + 1; used = end }
 
-          module _ (c₂ : List ℕ) (rowed : c₂ ≡ set (set (set c (rowOf (s .entries)) (s .used)) (rowOf (s .entries) + 1) size) (rowOf (s .entries) + 2) (end - (s .used + size))) where
-            abbrev next : Totals
-            next = record { opens = s .opens; entries = s .entries + 1; used = end }
+      words-are : withRow c (s .entries) (rowFor (s .used) e) ≡ c₂
+      words-are =
+          let n : end - (s .used + size) ≡ length (e .value) = omega (arith, st .ends, value-long) in
+          sym (rowed ∙ rw (n, k .asked .key) refl)
 
-            words-are : set (set (set c (rowOf (s .entries)) (s .used)) (rowOf (s .entries) + 1) (length (keyOf (partsOf t)))) (rowOf (s .entries) + 2) (length (e .value)) ≡ c₂
-            words-are =
-                let n : end - (s .used + size) ≡ length (e .value) = omega (arith, st .ends, value-long) in
-                sym (rowed ∙ rw (n, key) refl)
+      stored-is : put (world s c b) e ≡ went (world next c₂ b₂)
+      stored-is =
+          let used : s .used + sizeOf e ≡ end = omega (arith, st .ends, value-long, k .asked .key) in
+          put-fits s c b e few-parts (k .less) (omega (arith, ends-inside))
+          ∙ (λ i. went (record {
+            totals = record { opens = s .opens; entries = s .entries + 1; used = used i };
+            words = words-are i;
+            bytes = bytes-are i;
+          }))
 
-            stored-is : put (world s c b) e ≡ went (world next c₂ b₂)
-            stored-is =
-                let used : s .used + sizeOf e ≡ end = omega (arith, st .ends, value-long) in
-                put-fits s c b e (omega arith) less (omega (arith, ends-inside))
-                ∙ (λ i. went (record {
-                  totals = record { opens = s .opens; entries = s .entries + 1; used = used i };
-                  words = words-are i;
-                  bytes = bytes-are i;
-                }))
+      pub done-next : length t - length u + taken < length t → Puts t v (world s c b) c₂ b₂ (length t - length u + taken + 1) next
+      done-next h = record { is = stored-is; next = next-line t v (k .asked .inside) u (k .is) taken (st .rest) (st .inside); inside = omega arith }
 
-            pub done-next : length t - length u + taken < length t → Puts t v (world s c b) c₂ b₂ (length t - length u + taken + 1) next
-            done-next h = record { is = stored-is; next = next-line t v inside u is taken (st .rest) (st .inside); inside = omega arith }
-
-            pub done-last : length t ≤ length t - length u + taken → Puts t v (world s c b) c₂ b₂ (length t - length u + taken) next
-            done-last h = record { is = stored-is; next = last-line t v inside u is taken (st .rest) (st .inside) h; inside = passed-inside }
+      pub done-last : length t ≤ length t - length u + taken → Puts t v (world s c b) c₂ b₂ (length t - length u + taken) next
+      done-last h = record { is = stored-is; next = last-line t v (k .asked .inside) u (k .is) taken (st .rest) (st .inside) h; inside = passed-inside }

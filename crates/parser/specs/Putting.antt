@@ -4,15 +4,23 @@ use mathlib.Core.Path.{_≡_}
 use Prim.Native.Nat.{ℕ, _≤_}
 use lib.ListN.{length, drop}
 use Rattle.definition.specs.Text.{Entry, pieces}
-use Rattle.image.specs.Running.{World, world, went, stopped, put}
+use Rattle.definition.specs.Image.{keyOf}
+use Rattle.image.specs.Running.{World, world, Room, went, stopped, put}
 use Rattle.image.specs.declared.Totals.{Totals}
-use Rattle.parser.specs.Lined.{partsOf}
+use Rattle.lines.specs.Lined.{partsOf}
 use Rattle.parser.specs.declared.Put.{Put}
 use Rattle.parser.specs.declared.Put.the-variants.{Done, Stop}
 
 -- the entry of a line t whose value's text begins at v
 abbrev pub entryFrom : List ℕ → ℕ → Entry
 entryFrom t v = record { parts = partsOf t; value = flatten (pieces (drop v t) .items) }
+
+-- what storing the entry of t asks: its parts and the length of its key are counted, and there is room for the totals
+pub record Asked (t : List ℕ) (v count size : ℕ) (s : Totals) (words bytes : List ℕ) : Type 0 where
+  pub inside : v ≤ length t
+  pub parts : count ≡ length (partsOf t)
+  pub key : size ≡ length (keyOf (partsOf t))
+  pub room : Room s words bytes
 
 -- the entry is stored, and the next line starts at n
 pub record Puts (t : List ℕ) (v : ℕ) (w : World) (words bytes : List ℕ) (n : ℕ) (s : Totals) : Type 0 where

@@ -14,7 +14,7 @@ use Rattle.image.specs.Running.{World, world, Room, went, stopped, put, andThen
 use Rattle.image.specs.declared.Totals.{Totals}
 use Rattle.image.specs.declared.Step.the-variants.{Go, Stop}
 use Rattle.image.proofs.Runs.{step-room, run-room}
-use Rattle.parser.specs.Lined.{Skips, Includes, Enters}
+use Rattle.lines.specs.Lined.{Skips, Includes, Enters}
 use Rattle.parser.specs.Putting.{entryFrom, Puts}
 use Rattle.reader.specs.Texts.{textEvents}
 use Rattle.reader.proofs.Lines.{text-end, text-skips, text-enters, text-includes}

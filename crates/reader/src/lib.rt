@@ -20,10 +20,10 @@ use image::Step;
 use image::Totals;
 use image::clear_bytes;
 use image::clear_words;
-use parser::Line;
+use lines::Line;
+use lines::parse_line;
 use parser::Put;
 use parser::parse_entry;
-use parser::parse_line;
 
 // Document 01's limits on a reading.
 pub const MOST_OPENS: usize = 4096;

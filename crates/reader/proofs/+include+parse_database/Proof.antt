@@ -32,7 +32,7 @@ use Rattle.reader.proofs.+include+parse_database.Lts-parse_database as 
 use Rattle.archive_find.proofs.find.Reads as find-reads
 use Rattle.archive_find.proofs.folder_of.Reads as folder-of-reads
 use Rattle.parser.proofs.parse_entry.Reads as parse-entry-reads
-use Rattle.parser.proofs.parse_line.Reads as parse-line-reads
+use Rattle.lines.proofs.parse_line.Reads as parse-line-reads
 use Rattle.reader.proofs.+include+parse_database.{statement}
 use Rattle.reader.proofs.+include+parse_database.Tie.{close}
 
@@ -408,7 +408,7 @@ parse-database-parse-entry-requires t c κs =
     let parse-line-here = c .before .before .before .before .before in
     let line3-here = c .before .before .before in
     let l = rw (line3-here .line3 .given .1) at (parse-line-here .parse-line .ensures) in
-    (l .inside, l .parts, l .key, loop-here .loop .inv .room)
+    record { inside = l .inside; parts = l .parts; key = l .key; room = loop-here .loop .inv .room }
 
 -- src/lib.rt:104:31
 parse-database-enum-known-put : (t : ℕ) → parse-database-lts.Need-enum-known-put (parse-database-calls t) (parse-database-at t) parse-database.Post parse-database-Inv-loop parse-database-μ-loop

@@ -1,12 +1,12 @@
--- `parser::parse_directive` meets its contract. Assumes nothing.
+-- `lines::parse_directive` meets its contract. Assumes nothing.
 use native.Mathlib.Omega.{arith}
-use Rattle.parser.proofs.Directives.{tail-long, other-line, include-line}
+use Rattle.lines.proofs.Directives.{tail-long, other-line, include-line}
 use borrow.Author.Needs.{needs}
-use Rattle.parser.proofs.parse_directive.Statement.{statement}
-use Rattle.parser.proofs.parse_directive.Tie as tie
-use Rattle.parser.proofs.parse_directive.Reads as reads
-use Rattle.parser.proofs.parse_directive.Lts as lts
-use Rattle.parser.proofs.line_end.Reads as line-end-reads
+use Rattle.lines.proofs.parse_directive.Statement.{statement}
+use Rattle.lines.proofs.parse_directive.Tie as tie
+use Rattle.lines.proofs.parse_directive.Reads as reads
+use Rattle.lines.proofs.parse_directive.Lts as lts
+use Rattle.lines.proofs.line_end.Reads as line-end-reads
 use Rattle.scan.proofs.parse_include.Reads as parse-include-reads
 
 -- src/lib.rt:52:9

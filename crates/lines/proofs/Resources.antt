@@ -14,9 +14,9 @@ use Rattle.definition.specs.Bytes.{newline, exclamation, hash, isSpace}
 use Rattle.definition.specs.Text.{partAt, endsInName, assigned, resourceOf, lineAt}
 use Rattle.definition.specs.Image.{keyOf}
 use Rattle.laws.proofs.Lists.{part-rest, Suffix, suffix-whole, suffix-drop, suffix-run}
-use Rattle.parser.specs.Lined.{partsOf, EndsAt, Skips, Enters, Lined}
-use Rattle.parser.specs.declared.Line.{Line}
-use Rattle.parser.proofs.Directives.{split-first}
+use Rattle.lines.specs.Lined.{partsOf, EndsAt, Skips, Enters, Lined}
+use Rattle.lines.specs.declared.Line.{Line}
+use Rattle.lines.proofs.Directives.{split-first}
 
 module _ (t : List ℕ) where
   pub resource-line : 0 < length t → (getD t 0 0 ≡ newline → ⊥) → (getD t 0 0 ≡ exclamation → ⊥) → (getD t 0 0 ≡ hash → ⊥)

@@ -1,10 +1,10 @@
--- `parser::line_end` meets its contract. Assumes nothing.
-use Rattle.parser.proofs.Directives.{ends-at, end-inside}
+-- `lines::line_end` meets its contract. Assumes nothing.
+use Rattle.lines.proofs.Directives.{ends-at, end-inside}
 use borrow.Author.Needs.{needs}
-use Rattle.parser.proofs.line_end.Statement.{statement}
-use Rattle.parser.proofs.line_end.Tie as tie
-use Rattle.parser.proofs.line_end.Reads as reads
-use Rattle.parser.proofs.line_end.Lts as lts
+use Rattle.lines.proofs.line_end.Statement.{statement}
+use Rattle.lines.proofs.line_end.Tie as tie
+use Rattle.lines.proofs.line_end.Reads as reads
+use Rattle.lines.proofs.line_end.Lts as lts
 use Rattle.scan.proofs.skip_to_eol.Reads as skip-to-eol-reads
 
 -- src/lib.rt:43:9

@@ -12,7 +12,7 @@ use Rattle.definition.specs.Text.{lineAt, lineEnd, includeOf, directiveOf}
 use Rattle.laws.proofs.Lists.{part-rest, dropWhile-more, suffix-whole, suffix-run}
 use Rattle.scan.specs.Scanned.{includedName, Included}
 use Rattle.scan.specs.declared.Include.the-variants.{Named, Other}
-use Rattle.parser.specs.Lined.{EndsAt, Skips, Includes}
+use Rattle.lines.specs.Lined.{EndsAt, Skips, Includes}
 
 -- where a text's first line ends
 pub ends-at : (t r : List ℕ) → r ≡ lineEnd t → EndsAt t (length t - length r)

@@ -8,8 +8,8 @@ use Rattle.definition.specs.Parsing.{Parse, found, many}
 use Rattle.definition.specs.Text.{Part, partAt, skipped, include, resourceOf, lineEnd}
 use Rattle.definition.specs.Text as text
 use Rattle.definition.specs.Image.{keyOf}
-use Rattle.parser.specs.declared.Line.{Line}
-use Rattle.parser.specs.declared.Line.the-variants.{Skip, Include, Entry}
+use Rattle.lines.specs.declared.Line.{Line}
+use Rattle.lines.specs.declared.Line.the-variants.{Skip, Include, Entry}
 
 -- the parts that a line begins with
 abbrev pub partsOf : List ℕ → List Part

@@ -1,14 +1,14 @@
--- `parser::parse_line` meets its contract. Assumes nothing.
-use Rattle.parser.proofs.Directives.{newline-line, comment-line}
-use Rattle.parser.proofs.Resources.{resource-line, lined-is}
+-- `lines::parse_line` meets its contract. Assumes nothing.
+use Rattle.lines.proofs.Directives.{newline-line, comment-line}
+use Rattle.lines.proofs.Resources.{resource-line, lined-is}
 use borrow.Author.Needs.{needs}
-use Rattle.parser.proofs.parse_line.Statement.{statement}
-use Rattle.parser.proofs.parse_line.Tie as tie
-use Rattle.parser.proofs.parse_line.Reads as reads
-use Rattle.parser.proofs.parse_line.Lts as lts
-use Rattle.parser.proofs.line_end.Reads as line-end-reads
-use Rattle.parser.proofs.parse_directive.Reads as parse-directive-reads
-use Rattle.parser.proofs.parse_resource.Reads as parse-resource-reads
+use Rattle.lines.proofs.parse_line.Statement.{statement}
+use Rattle.lines.proofs.parse_line.Tie as tie
+use Rattle.lines.proofs.parse_line.Reads as reads
+use Rattle.lines.proofs.parse_line.Lts as lts
+use Rattle.lines.proofs.line_end.Reads as line-end-reads
+use Rattle.lines.proofs.parse_directive.Reads as parse-directive-reads
+use Rattle.lines.proofs.parse_resource.Reads as parse-resource-reads
 
 -- src/lib.rt:81:17
 shared-slice-read-first : tie.Need-shared-slice-read-first

@@ -1,15 +1,15 @@
--- `parser::parse_resource` meets its contract. Assumes nothing.
+-- `lines::parse_resource` meets its contract. Assumes nothing.
 use borrow.Author.Tests.{not-true, not-false}
 use Rattle.scan.proofs.Beginnings.{begins, begins-not}
 use Rattle.definition.specs.Lists.{ascii}
-use Rattle.parser.proofs.Resources.{skipped-line, unnamed, no-colon, colon-at, entry-line}
+use Rattle.lines.proofs.Resources.{skipped-line, unnamed, no-colon, colon-at, entry-line}
 use borrow.Author.Needs.{needs}
-use Rattle.parser.proofs.parse_resource.Statement.{statement}
-use Rattle.parser.proofs.parse_resource.Tie as tie
-use Rattle.parser.proofs.parse_resource.Reads as reads
-use Rattle.parser.proofs.parse_resource.Lts as lts
+use Rattle.lines.proofs.parse_resource.Statement.{statement}
+use Rattle.lines.proofs.parse_resource.Tie as tie
+use Rattle.lines.proofs.parse_resource.Reads as reads
+use Rattle.lines.proofs.parse_resource.Lts as lts
 use Rattle.components.proofs.parse_components.Reads as parse-components-reads
-use Rattle.parser.proofs.line_end.Reads as line-end-reads
+use Rattle.lines.proofs.line_end.Reads as line-end-reads
 use Rattle.scan.proofs.skip_spaces.Reads as skip-spaces-reads
 use Rattle.scan.proofs.starts_with.Reads as starts-with-reads
 
