@@ -1,14 +1,25 @@
-// Document 01's shelf, judged.
+// Document 01's shelf: the walk over its files, and whether it is laid out.
 ghost use mathlib.Core.Path.{_≡_};
 ghost use mathlib.Core.Bool.{true};
 ghost use mathlib.Core.List.{[]};
-ghost use Prim.Native.Nat.{_+_, _<_};
+ghost use Prim.Native.Nat.{_+_, _≤_, _<_};
 ghost use lib.ListN.{length};
 ghost use Rattle.definition.specs.Lists.{lower};
 ghost use Rattle.definition.specs.Archive.{numberAt, filesOf, isFileName, laidOut};
 ghost use Rattle.laws.proofs.Walked.{fits};
-ghost use Rattle.archive.specs.Walk.{risingFrom};
+ghost use Rattle.archive.specs.Walk.{lengthsAt, memberAt, risingFrom};
 ghost use Rattle.archive.specs.Names.{ended, dotted, lettered, next, passes};
+use limits::ARCHIVE_BYTES;
+use limits::ARCHIVE_FILES;
+use limits::FILE_NAME_BYTES;
+
+// A file as it stands in an archive: its number from 0, where its name starts, where its body starts, and where that ends.
+pub struct Member {
+    pub number: usize,
+    pub start: usize,
+    pub body: usize,
+    pub end: usize,
+}
 
 // What a name has since its last `/`.
 enum Part {
@@ -22,11 +33,43 @@ enum Part {
 }
 
 // The number in two bytes, low byte first.
-pub fn word_at(archive: &[u8], i: usize) -> usize
+fn word_at(archive: &[u8], i: usize) -> usize
     requires { ⌜ i + 1 < length (now archive) ⌝ }
     ensures { λ r. ⌜ (r ≡ numberAt (now (archive .entry)) i) × (r < 65536) ⌝ }
 {
     archive[i] as usize + 256 * (archive[i + 1] as usize)
+}
+
+// How many files the archive says it has.
+pub fn file_count(archive: &[u8]) -> usize
+    requires { ⌜ 2 ≤ length (now archive) ⌝ }
+    ensures { λ r. ⌜ (r ≡ numberAt (now (archive .entry)) 0) × (r < 65536) ⌝ }
+{
+    word_at(archive, 0)
+}
+
+// Where the lengths of a file stand. Those of all files end where the next would stand, and there names and bodies begin.
+pub fn lengths_at(number: usize) -> usize
+    requires { ⌜ number < 65536 ⌝ }
+    ensures { λ r. ⌜ r ≡ lengthsAt number ⌝ }
+{
+    2 + 4 * number
+}
+
+// A step of the walk: the file of that number, whose name starts at `start`, by its two lengths. The next one's starts at its end.
+pub fn member_at(archive: &[u8], number: usize, start: usize) -> Member
+    requires { ⌜ (number < 65536) × (lengthsAt number + 4 ≤ length (now archive)) × (start ≤ length (now archive)) ⌝ }
+    ensures { λ r. ⌜ r ≡ memberAt (now (archive .entry)) number start ⌝ }
+{
+    let lengths = lengths_at(number);
+    let body = start + word_at(archive, lengths);
+    let end = body + word_at(archive, lengths + 2);
+    Member {
+        number,
+        start,
+        body,
+        end,
+    }
 }
 
 // Does a stand below b? The first difference decides, and a beginning stands below the whole.
@@ -121,7 +164,7 @@ fn passes(part: Part) -> bool
 pub fn is_file_name(name: &[u8]) -> bool
     ensures { λ r. ⌜ r ≡ isFileName (now (name .entry)) ⌝ }
 {
-    if 96 < name.len() {
+    if FILE_NAME_BYTES < name.len() {
         return false;
     }
     let mut part = Part::Empty;
@@ -140,19 +183,18 @@ fn fits(archive: &[u8]) -> bool
     if archive.len() < 2 {
         return false;
     }
-    let count = word_at(archive, 0);
-    let mut at = 2 + 4 * count;
+    let count = file_count(archive);
+    let mut at = lengths_at(count);
     if archive.len() < at {
         return false;
     }
     let mut j = 0;
     while j < count {
-        let n = word_at(archive, 2 + 4 * j);
-        let m = word_at(archive, 4 + 4 * j);
-        if archive.len() - at < n + m {
+        let member = member_at(archive, j, at);
+        if archive.len() < member.end {
             return false;
         }
-        at += n + m;
+        at = member.end;
         j += 1;
     }
     at == archive.len()
@@ -163,15 +205,15 @@ fn names_rise(archive: &[u8]) -> bool
     requires { ⌜ fits (now archive) ≡ true ⌝ }
     ensures { λ r. ⌜ r ≡ risingFrom [] (filesOf (now (archive .entry))) ⌝ }
 {
-    let count = word_at(archive, 0);
-    let mut at = 2 + 4 * count;
+    let count = file_count(archive);
+    let mut at = lengths_at(count);
     let mut last = &archive[..0];
     let mut j = 0;
     while j < count {
-        let n = word_at(archive, 2 + 4 * j);
-        let m = word_at(archive, 4 + 4 * j);
-        let end = at + n;
-        let name = &archive[at..end];
+        let member = member_at(archive, j, at);
+        let start = member.start;
+        let body = member.body;
+        let name = &archive[start..body];
         if !is_file_name(name) {
             return false;
         }
@@ -179,7 +221,7 @@ fn names_rise(archive: &[u8]) -> bool
             return false;
         }
         last = name;
-        at += n + m;
+        at = member.end;
         j += 1;
     }
     true
@@ -189,13 +231,13 @@ fn names_rise(archive: &[u8]) -> bool
 pub fn is_archive(archive: &[u8]) -> bool
     ensures { λ r. ⌜ r ≡ laidOut (now (archive .entry)) ⌝ }
 {
-    if 65536 < archive.len() {
+    if ARCHIVE_BYTES < archive.len() {
         return false;
     }
     if !fits(archive) {
         return false;
     }
-    if 64 < word_at(archive, 0) {
+    if ARCHIVE_FILES < file_count(archive) {
         return false;
     }
     names_rise(archive)

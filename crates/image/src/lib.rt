@@ -9,6 +9,7 @@ pub use limits::BODY_BYTES;
 pub use limits::CONTENTS_WORDS;
 pub use limits::MOST_ENTRIES;
 pub use limits::MOST_PARTS;
+ghost use Rattle.image.specs.Running.{Room, closedWords, closedBytes};
 use limits::ROW_WORDS;
 
 // What a reading has met so far: document 01's limits are laid over these.
@@ -25,7 +26,7 @@ pub enum Step {
 }
 
 // Zeroes the words from `from` on.
-pub fn clear_words(words: &mut [u16], from: usize)
+fn clear_words(words: &mut [u16], from: usize)
     requires { ⌜ from ≤ length (now words) ⌝ }
     ensures { λ _. ⌜ now (words .exit) ≡ take from (now (words .entry)) ++ zeroes (length (now (words .entry)) - from) ⌝ }
 {
@@ -37,7 +38,7 @@ pub fn clear_words(words: &mut [u16], from: usize)
 }
 
 // Zeroes the bytes from `from` on.
-pub fn clear_bytes(bytes: &mut [u8], from: usize)
+fn clear_bytes(bytes: &mut [u8], from: usize)
     requires { ⌜ from ≤ length (now bytes) ⌝ }
     ensures { λ _. ⌜ now (bytes .exit) ≡ take from (now (bytes .entry)) ++ zeroes (length (now (bytes .entry)) - from) ⌝ }
 {
@@ -92,4 +93,25 @@ pub fn write_row(words: &mut [u16], i: usize, row: Row)
     words[at] = row.start as u16;
     words[at + 1] = row.key as u16;
     words[at + 2] = row.value as u16;
+}
+
+// Leaves the image of no entries.
+pub fn empty_image(words: &mut [u16], store: &mut [u8])
+    ensures { λ _. ⌜ (now (words .exit) ≡ zeroes (length (now (words .entry)))) × (now (store .exit) ≡ zeroes (length (now (store .entry)))) ⌝ }
+{
+    clear_words(words, 0);
+    clear_bytes(store, 0);
+}
+
+// Closes an image whose rows are written: the entry count and the bytes used stand before the rows, and all behind is zeroed.
+pub fn close_image(totals: Totals, words: &mut [u16], store: &mut [u8])
+    requires { ⌜ Room totals (now words) (now store) ⌝ }
+    ensures { λ _. ⌜ (now (words .exit) ≡ closedWords totals (now (words .entry))) × (now (store .exit) ≡ closedBytes totals (now (store .entry))) ⌝ }
+{
+    let entries = totals.entries;
+    let used = totals.used;
+    words[0] = entries as u16;
+    words[1] = used as u16;
+    clear_words(words, row_start(entries));
+    clear_bytes(store, used);
 }

@@ -1,7 +1,7 @@
 -- What the code's answer on an entry says.
 use mathlib.Core.List.{List, flatten}
 use mathlib.Core.Path.{_≡_}
-use Prim.Native.Nat.{ℕ, _≤_}
+use Prim.Native.Nat.{ℕ, _-_, _≤_}
 use lib.ListN.{length, drop}
 use Rattle.definition.specs.Text.{Entry, pieces}
 use Rattle.definition.specs.Image.{keyOf}
@@ -22,12 +22,15 @@ pub record Asked (t : List ℕ) (v count size : ℕ) (s : Totals) (words bytes :
   pub key : size ≡ length (keyOf (partsOf t))
   pub room : Room s words bytes
 
+-- where the line after it begins
+abbrev pub lineAfter : List ℕ → ℕ → ℕ
+lineAfter t v = length t - length (drop 1 (pieces (drop v t) .rest))
+
 -- the entry is stored, and the next line starts at n
 pub record Puts (t : List ℕ) (v : ℕ) (w : World) (words bytes : List ℕ) (n : ℕ) (s : Totals) : Type 0 where
   pub is : put w (entryFrom t v) ≡ went (world s words bytes)
-  pub next : drop n t ≡ drop 1 (pieces (drop v t) .rest)
-  pub inside : n ≤ length t
+  pub next : n ≡ lineAfter t v
 
 abbrev pub Putting : List ℕ → ℕ → World → List ℕ → List ℕ → Put → Type 0
 Putting t v w words bytes (Done n s) = Puts t v w words bytes n s
-Putting t v w words bytes (Stop k) = put w (entryFrom t v) ≡ stopped k
+Putting t v w words bytes (Stop k) = put w (entryFrom t v) ≡ stopped k words bytes

@@ -7,7 +7,7 @@ use image::Totals;
 use image::write_row;
 use limits::MOST_ENTRIES;
 use limits::MOST_PARTS;
-use values::Value;
+use values::Stored;
 use values::parse_value;
 use values::skip_blanks;
 
@@ -46,7 +46,7 @@ pub fn parse_entry(
     let at = used + size;
     let rest = skip_blanks(&text[value..]);
     let decoded = parse_value(rest, store, at);
-    let Value::Done(end, taken) = decoded else {
+    let Stored::Done(end, taken) = decoded else {
         return Put::Stop(7);
     };
     let length = end - at;

@@ -4,3 +4,4 @@ mod Texts
 pub mod Beginnings
 mod Includes
 mod Copies
+pub mod Suffixes

@@ -27,18 +27,6 @@ loop-holds c =
     let if1-here = c in
     (if1-here .if1 .left, name-walked (start-here .args .name .now) (if1-here .if1 .left))
 
-shared-slice-read-next : tie.Need-shared-slice-read-next Inv-loop μ-loop
-shared-slice-read-next c = search needs
-
-next-requires : tie.Need-next-requires Inv-loop μ-loop
-next-requires c κs = search needs
-
-add-i : tie.Need-add-i Inv-loop μ-loop
-add-i c = search needs
-
-loop-less : tie.Need-loop-less Inv-loop μ-loop
-loop-less c = search needs
-
 loop-again : tie.Need-loop-again Inv-loop μ-loop
 loop-again c =
     let start-here = c .before .before .before .before .before .before in
@@ -47,9 +35,6 @@ loop-again c =
     let next-here = c in
     let n = start-here .args .name .now in
     (loop-here .loop .inv .0, loop-here .loop .inv .1 ∙ walked-byte (loop-here .loop .part) n (loop-here .loop .i) (loop-test-here .loop-test .taken) ∙ ap (λ p. walked p (drop (loop-here .loop .i + 1) n)) (sym (next-here .next .ensures)))
-
-passes-requires : tie.Need-passes-requires Inv-loop μ-loop
-passes-requires c κs = search needs
 
 returns-2 : tie.Need-returns-2 Inv-loop μ-loop
 returns-2 c =
@@ -63,14 +48,5 @@ pub is-file-name-spec : {M : Type 1} → statement M
 is-file-name-spec =
     tie.close
     (tie.spec
-    Inv-loop
-    μ-loop
-    returns
-    loop-holds
-    shared-slice-read-next
-    next-requires
-    add-i
-    loop-less
-    loop-again
-    passes-requires
-    returns-2)
+    Inv-loop μ-loop returns loop-holds (λ c. search needs) (λ c κs. search needs) (λ c. search needs) (λ c. search needs)
+    loop-again (λ c κs. search needs) returns-2)

@@ -15,9 +15,6 @@ Inv-loop a b i₀ i = lower (drop i a) (drop i b) ≡ lower a b
 abbrev μ-loop : tie.MeasureT-loop
 μ-loop a b i₀ i = length a - i
 
-loop-holds : tie.Need-loop-holds Inv-loop μ-loop
-loop-holds c = search needs
-
 returns : tie.Need-returns Inv-loop μ-loop
 returns c =
     let start-here = c .before .before .before in
@@ -25,12 +22,6 @@ returns c =
     let loop-test-here = c .before in
     let if1-here = c in
     sym (lower-from-short (start-here .args .a .now) (start-here .args .b .now) (loop-here .loop .i) (loop-test-here .loop-test .taken) (if1-here .if1 .taken)) ∙ loop-here .loop .inv
-
-shared-slice-read-if2 : tie.Need-shared-slice-read-if2 Inv-loop μ-loop
-shared-slice-read-if2 c = search needs
-
-shared-slice-read-if2-2 : tie.Need-shared-slice-read-if2-2 Inv-loop μ-loop
-shared-slice-read-if2-2 c = search needs
 
 returns-2 : tie.Need-returns-2 Inv-loop μ-loop
 returns-2 c =
@@ -41,12 +32,6 @@ returns-2 c =
     let if2-here = c in
     sym (lower-from-below (start-here .args .a .now) (start-here .args .b .now) (loop-here .loop .i) (loop-test-here .loop-test .taken) (if1-here .if1 .left) (if2-here .if2 .taken)) ∙ loop-here .loop .inv
 
-shared-slice-read-if3 : tie.Need-shared-slice-read-if3 Inv-loop μ-loop
-shared-slice-read-if3 c = search needs
-
-shared-slice-read-if3-2 : tie.Need-shared-slice-read-if3-2 Inv-loop μ-loop
-shared-slice-read-if3-2 c = search needs
-
 returns-3 : tie.Need-returns-3 Inv-loop μ-loop
 returns-3 c =
     let start-here = c .before .before .before .before .before .before .before .before .before in
@@ -55,12 +40,6 @@ returns-3 c =
     let if1-here = c .before .before .before .before .before .before in
     let if3-here = c in
     sym (lower-from-above (start-here .args .a .now) (start-here .args .b .now) (loop-here .loop .i) (loop-test-here .loop-test .taken) (if1-here .if1 .left) (if3-here .if3 .taken)) ∙ loop-here .loop .inv
-
-add-i : tie.Need-add-i Inv-loop μ-loop
-add-i c = search needs
-
-loop-less : tie.Need-loop-less Inv-loop μ-loop
-loop-less c = search needs
 
 loop-again : tie.Need-loop-again Inv-loop μ-loop
 loop-again c =
@@ -83,17 +62,5 @@ pub lower-spec : {M : Type 1} → statement M
 lower-spec =
     tie.close
     (tie.spec
-    Inv-loop
-    μ-loop
-    loop-holds
-    returns
-    shared-slice-read-if2
-    shared-slice-read-if2-2
-    returns-2
-    shared-slice-read-if3
-    shared-slice-read-if3-2
-    returns-3
-    add-i
-    loop-less
-    loop-again
-    returns-4)
+    Inv-loop μ-loop (λ c. search needs) returns (λ c. search needs) (λ c. search needs) returns-2 (λ c. search needs)
+    (λ c. search needs) returns-3 (λ c. search needs) (λ c. search needs) loop-again returns-4)

@@ -6,18 +6,12 @@ use Rattle.archive.specs.Names.{next}
 use Rattle.archive.proofs.next.Statement.{statement}
 use Rattle.archive.proofs.next.Tie as tie
 
-ended-requires : tie.Need-ended-requires
-ended-requires c κs = search needs
-
 returns : tie.Need-returns
 unfolding next
 returns c =
     let if1-here = c .before in
     let ended-here = c in
     rw (eq-eqb _ _ (if1-here .if1 .taken)) (ended-here .ended .ensures)
-
-dotted-requires : tie.Need-dotted-requires
-dotted-requires c κs = search needs
 
 returns-2 : tie.Need-returns-2
 unfolding next
@@ -26,12 +20,6 @@ returns-2 c =
     let if2-here = c .before in
     let dotted-here = c in
     rw (ne-eqb _ _ (if1-here .if1 .left), eq-eqb _ _ (if2-here .if2 .taken)) (dotted-here .dotted .ensures)
-
-allowed-in-quark-name-requires : tie.Need-allowed-in-quark-name-requires
-allowed-in-quark-name-requires c κs = search needs
-
-lettered-requires : tie.Need-lettered-requires
-lettered-requires c κs = search needs
 
 returns-3 : tie.Need-returns-3
 unfolding next
@@ -56,11 +44,5 @@ pub next-spec : {M : Type 1} → statement M
 next-spec =
     tie.close
     (tie.spec
-    ended-requires
-    returns
-    dotted-requires
-    returns-2
-    allowed-in-quark-name-requires
-    lettered-requires
-    returns-3
+    (λ c κs. search needs) returns (λ c κs. search needs) returns-2 (λ c κs. search needs) (λ c κs. search needs) returns-3
     returns-4)

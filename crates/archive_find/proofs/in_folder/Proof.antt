@@ -5,7 +5,7 @@ use native.Mathlib.Omega.{arith}
 use lib.ListN.{length}
 use borrow.Author.Needs.{needs}
 use Rattle.archive_find.specs.Finding.{stem}
-use Rattle.archive_find.proofs.Finding.{Matching, matching-first, stem-long, stem-length, folder-off, folder-on, folder-empty, folder-slash}
+use Rattle.archive_find.proofs.Folders.{Matching, matching-first, stem-long, stem-length, folder-off, folder-on, folder-empty, folder-slash}
 use Rattle.archive_find.proofs.in_folder.Statement.{statement}
 use Rattle.archive_find.proofs.in_folder.Tie as tie
 
@@ -30,9 +30,6 @@ shared-slice-read-if1 c =
     let start-here = c .before .before .before in
     omega (arith, stem-long (start-here .args .folder .now))
 
-shared-slice-read-if1-2 : tie.Need-shared-slice-read-if1-2 Inv-loop μ-loop
-shared-slice-read-if1-2 c = search needs
-
 returns : tie.Need-returns Inv-loop μ-loop
 returns c =
     let start-here = c .before .before .before .before .before in
@@ -40,12 +37,6 @@ returns c =
     let loop-test-here = c .before .before .before in
     let if1-here = c in
     sym (folder-off (start-here .args .folder .now) (loop-here .loop .inv .0) (omega arith) (if1-here .if1 .taken))
-
-add-i : tie.Need-add-i Inv-loop μ-loop
-add-i c = search needs
-
-loop-less : tie.Need-loop-less Inv-loop μ-loop
-loop-less c = search needs
 
 loop-again : tie.Need-loop-again Inv-loop μ-loop
 loop-again c =
@@ -89,17 +80,5 @@ pub in-folder-spec : {M : Type 1} → statement M
 in-folder-spec =
     tie.close
     (tie.spec
-    Inv-loop
-    μ-loop
-    loop-holds
-    add-if1
-    shared-slice-read-if1
-    shared-slice-read-if1-2
-    returns
-    add-i
-    loop-less
-    loop-again
-    returns-2
-    add-result
-    shared-slice-read-result
-    returns-3)
+    Inv-loop μ-loop loop-holds add-if1 shared-slice-read-if1 (λ c. search needs) returns (λ c. search needs) (λ c. search needs)
+    loop-again returns-2 add-result shared-slice-read-result returns-3)

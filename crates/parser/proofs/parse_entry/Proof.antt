@@ -2,7 +2,7 @@
 use Prim.Native.Nat.{_+_}
 use native.Mathlib.Omega.{arith}
 use borrow.Author.Needs.{needs}
-use Rattle.values.specs.Decoded.{Stored}
+use Rattle.values.proofs.Values.{Fits, decoded-fits}
 use Rattle.parser.proofs.Entries.{many-parts, many-entries, long-key, Keyed, text-inside, long-value, value-after, ends-inside, passed-inside, done-next, done-last}
 use Rattle.parser.proofs.parse_entry.Statement.{statement}
 use Rattle.parser.proofs.parse_entry.Tie as tie
@@ -31,10 +31,10 @@ keyed c =
 stored : (c : tie.After-known-told) → (
     let value-here = c .before .before .before .before .before in
     let a = value-here .before .before .before .before .before .before .before .before .before .before .before .before .before .before .args in
-    Stored (value-here .before .before .skip-blanks .result .now) (value-here .before .before .before .before .before .before .write-key .last .1 .0) (a .totals .used + a .size)
+    Fits (value-here .before .before .skip-blanks .result .now) (value-here .before .before .before .before .before .before .write-key .last .1 .0) (a .totals .used + a .size)
     (value-here .parse-value .last .1 .0) (c .before .decoded .given .0 .0) (c .before .decoded .given .0 .1 .0)
     )
-stored c = rw (c .before .decoded .given .1) at (c .before .before .before .before .before .parse-value .ensures)
+stored c = decoded-fits (rw (c .before .decoded .given .1) at (c .before .before .before .before .before .parse-value .ensures))
 
 returns-4 : tie.Need-returns-4
 returns-4 c =

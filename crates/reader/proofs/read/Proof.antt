@@ -2,16 +2,11 @@
 use lib.Seq.{length-take-le}
 use borrow.Author.Tests.{not-true, not-false}
 use mathlib.Core.Path.{sym, _∙_}
-use Rattle.reader.proofs.Finish.{short-contents, short-bodies, long-text, not-laid-out, fronts}
+use Rattle.reader.proofs.Finishing.{short-contents, short-bodies, long-text, not-laid-out, fronts}
 use borrow.Author.Needs.{needs}
 use Rattle.reader.proofs.read.Statement.{statement}
 use Rattle.reader.proofs.read.Tie as tie
-use Rattle.reader.proofs.read.Reads as reads
-use Rattle.reader.proofs.read.Lts as lts
-use Rattle.archive.proofs.is_archive.Reads as is-archive-reads
-use Rattle.reader.proofs.fill.Reads as fill-reads
 
--- src/lib.rt:173:9
 returns : tie.Need-returns
 returns c =
     let start-here = c .before .before .before .before .before in
@@ -19,7 +14,6 @@ returns c =
     let if1-here = c in
     short-contents (a .text .now) (a .archive .now) (a .contents .now) (a .bodies .now) (if1-here .if1 .taken)
 
--- src/lib.rt:176:9
 returns-2 : tie.Need-returns-2
 returns-2 c =
     let start-here = c .before .before .before .before .before .before in
@@ -28,7 +22,6 @@ returns-2 c =
     let if2-here = c in
     short-bodies (a .text .now) (a .archive .now) (a .contents .now) (a .bodies .now) (if1-here .if1 .left) (if2-here .if2 .taken)
 
--- src/lib.rt:179:9
 returns-3 : tie.Need-returns-3
 returns-3 c =
     let start-here = c .before .before .before .before .before .before .before in
@@ -38,11 +31,6 @@ returns-3 c =
     let if3-here = c in
     long-text (a .text .now) (a .archive .now) (a .contents .now) (a .bodies .now) (if1-here .if1 .left) (if2-here .if2 .left) (if3-here .if3 .taken)
 
--- src/lib.rt:181:9
-is-archive-requires : tie.Need-is-archive-requires
-is-archive-requires c κs = search needs
-
--- src/lib.rt:182:9
 returns-4 : tie.Need-returns-4
 returns-4 c =
     let start-here = c .before .before .before .before .before .before .before .before .before in
@@ -55,29 +43,18 @@ returns-4 c =
     not-laid-out (a .text .now) (a .archive .now) (a .contents .now) (a .bodies .now) (if1-here .if1 .left) (if2-here .if2 .left) (if3-here .if3 .left)
     (sym (is-archive-here .is-archive .ensures) ∙ not-true _ (if4-here .if4 .taken))
 
--- src/lib.rt:187:9
-slice-relend-prefix-fill : tie.Need-slice-relend-prefix-fill
-slice-relend-prefix-fill c = search needs
-
--- src/lib.rt:187:9
 slice-aggregate-fill : tie.Need-slice-aggregate-fill
 slice-aggregate-fill c =
     let start-here = c .before .before .before .before .before .before .before .before .before .before in
     let if1-here = c .before .before .before .before .before in
     sym (length-take-le 1538 (start-here .args .contents .now) (if1-here .if1 .left))
 
--- src/lib.rt:188:9
-slice-relend-prefix-fill-2 : tie.Need-slice-relend-prefix-fill-2
-slice-relend-prefix-fill-2 c = search needs
-
--- src/lib.rt:188:9
 slice-aggregate-fill-2 : tie.Need-slice-aggregate-fill-2
 slice-aggregate-fill-2 c =
     let start-here = c .before .before .before .before .before .before .before .before .before .before .before in
     let if2-here = c .before .before .before .before .before in
     sym (length-take-le 32768 (start-here .args .bodies .now) (if2-here .if2 .left))
 
--- src/lib.rt:184:5
 fill-requires : tie.Need-fill-requires
 fill-requires c κs =
     let start-here = c .before .before .before .before .before .before .before .before .before .before .before in
@@ -91,15 +68,6 @@ fill-requires c κs =
       sym (is-archive-here .is-archive .ensures) ∙ not-false _ (if4-here .if4 .left),
     )
 
--- src/lib.rt:169:1
-same-length : tie.Need-same-length
-same-length c = search needs
-
--- src/lib.rt:169:1
-same-length-2 : tie.Need-same-length-2
-same-length-2 c = search needs
-
--- src/lib.rt:169:1
 returns-5 : tie.Need-returns-5
 returns-5 c =
     let start-here = c .before .before .before .before .before .before .before .before .before .before .before .before .before .before .before .before in
@@ -117,16 +85,5 @@ pub read-spec : {M : Type 1} → statement M
 read-spec =
     tie.close
     (tie.spec
-    returns
-    returns-2
-    returns-3
-    is-archive-requires
-    returns-4
-    slice-relend-prefix-fill
-    slice-aggregate-fill
-    slice-relend-prefix-fill-2
-    slice-aggregate-fill-2
-    fill-requires
-    same-length
-    same-length-2
-    returns-5)
+    returns returns-2 returns-3 (λ c κs. search needs) returns-4 (λ c. search needs) slice-aggregate-fill (λ c. search needs)
+    slice-aggregate-fill-2 fill-requires (λ c. search needs) (λ c. search needs) returns-5)

@@ -133,11 +133,6 @@ returns-7 c =
     escape-dropped t n e z k
     (⊎-elim (λ w. line-over t n (w .taken)) (λ w. line-newline t n (omega (arith, w .0)) (eqb-true _ 10 (w .2 .taken))) (c .if4 .came))
 
-add-t4 : tie.Need-add-t4
-add-t4 c =
-    let octal-digits-here = c .before .before .before .before .before in
-    omega (arith, few octal-digits-here)
-
 returns-8 : tie.Need-returns-8
 returns-8 c =
     let start-here = c .before .before .before .before .before .before .before .before .before .before in
@@ -171,5 +166,4 @@ parse-escape-spec =
     shared-slice-read-if5
     add-t17
     returns-7
-    add-t4
     returns-8)

@@ -11,63 +11,49 @@ use Rattle.definition.specs.Lists.{zeroes, beyond}
 use Rattle.definition.specs.Limits.{contentsWords, bodyBytes, textBytes, deepest}
 use Rattle.definition.specs.Archive.{laidOut, filesOf}
 use Rattle.definition.specs.Text.{Entry}
-use Rattle.definition.specs.Including.{Chain, events}
+use Rattle.definition.specs.Including.{Event, events, entriesOf}
 use Rattle.definition.specs.Image.{writtenOver, imageContents, imageBodies}
 use Rattle.definition.specs.Reading.{Verdict, within, past, accepted, refused, outcome, left, judge, start, met, plain, readEntries, reading}
-use Rattle.image.specs.Running.{world, Room, went, stopped, run, answered}
+use Rattle.image.specs.Running.{world, run, answered, closedWords, closedBytes, finished}
 use Rattle.image.specs.declared.Totals.{Totals}
+use Rattle.image.specs.declared.Step.{Step}
 use Rattle.image.specs.declared.Step.the-variants.{Go, Stop}
-use Rattle.image.proofs.Images.{begun, room-after, words-finished, bytes-finished, accepted-left, no-words, no-bytes, refused-left}
-use Rattle.reader.specs.Texts.{textEvents}
-use Rattle.reader.specs.Said.{leftBy}
+use Rattle.image.proofs.Images.{begun, room-after, finished-left}
+use Rattle.includes.specs.Texts.{textEvents}
+use Rattle.reader.specs.Said.{Ready, leftBy}
 
-module _ (text archive c b : List ℕ) (hc : length c ≡ contentsWords) (hb : length b ≡ bodyBytes) where
-  met-is : textEvents deepest (filesOf archive) [] [] text ≡ met text archive
-  unfolding textEvents events
-  met-is = refl
+-- ---- The end of a reading, whatever it has met
 
-  -- what the reader answers, of the main text
-  abbrev pub Read : Rattle.image.specs.declared.Step.Step → List ℕ → List ℕ → Type 0
-  Read r c′ b′ = (ch : Chain) → answered r c′ b′ ≡ run (world begun c b) (textEvents deepest (filesOf archive) [] ch text)
+module _ (c b : List ℕ) (hc : length c ≡ contentsWords) (hb : length b ≡ bodyBytes) (es : List Event) where
+  pub ready-after : (r : Step) (c′ b′ : List ℕ) → answered r c′ b′ ≡ run (world begun c b) es → length c′ ≡ length c → length b′ ≡ length b → Ready r c′ b′
+  unfolding answered
+  ready-after (Go s) c′ b′ e lc lb = room-after c b hc hb es (world s c′ b′) (sym e)
+  ready-after (Stop k) c′ b′ e lc lb = (lc ∙ hc, lb ∙ hb)
 
-  -- a buffer cleared from its front
-  cleared : (xs xs′ : List ℕ) (n : ℕ) → length xs ≡ n → xs′ ≡ take 0 xs ++ zeroes (length xs - 0) → xs′ ≡ zeroes n
-  cleared xs xs′ n e f = f ∙ ap zeroes (sub-zero (length xs) ∙ e)
+  pub finished-is : (r : Step) (c′ b′ : List ℕ) → answered r c′ b′ ≡ run (world begun c b) es
+      → finished (answered r c′ b′) ≡ left (judge start es) (plain (entriesOf es)) c b
+  finished-is r c′ b′ e = ap finished e ∙ finished-left c b hc hb es
 
-  pub stop-leaves : (k : ℕ) (c′ b′ : List ℕ) → Read (Stop k) c′ b′ → length c′ ≡ length c → length b′ ≡ length b
-      → (c″ b″ : List ℕ) → c″ ≡ take 0 c′ ++ zeroes (length c′ - 0) → b″ ≡ take 0 b′ ++ zeroes (length b′ - 0)
-      → outcome (refused k) c″ b″ ≡ leftBy text archive c b
-  unfolding leftBy answered
-  stop-leaves k c′ b′ r lc lb c″ b″ ec eb =
-      let e : run (world begun c b) (met text archive) ≡ stopped k = sym (r [] ∙ ap (run (world begun c b)) met-is) in
-      rw (cleared c′ c″ contentsWords (lc ∙ hc) ec ∙ no-words c b hc hb, cleared b′ b″ bodyBytes (lb ∙ hb) eb ∙ no-bytes c b hc hb)
-      (sym (refused-left c b hc hb (met text archive) k e))
+-- what `empty_image` and `close_image` leave is the end of a reading
+module _ (r : Step) (c b : List ℕ) (ready : Ready r c b) where
+  pub stop-finished : {k : ℕ} {c′ b′ : List ℕ} → r ≡ Stop k → (c′ ≡ zeroes (length c)) × (b′ ≡ zeroes (length b))
+      → outcome (refused k) c′ b′ ≡ finished (answered r c b)
+  unfolding answered finished
+  stop-finished e f =
+      let l = rw e at ready in
+      rw (e, f .0, f .1, l .0, l .1) refl
 
-  module _ (s : Totals) (c′ b′ : List ℕ) (r : Read (Go s) c′ b′) where
-    went-is : run (world begun c b) (met text archive) ≡ went (world s c′ b′)
-    unfolding answered
-    went-is = sym (r [] ∙ ap (run (world begun c b)) met-is)
+  pub go-finished : (s : Totals) {c′ b′ : List ℕ} → r ≡ Go s → (c′ ≡ closedWords s c) × (b′ ≡ closedBytes s b)
+      → outcome (accepted (s .entries) (s .opens)) c′ b′ ≡ finished (answered r c b)
+  unfolding answered finished
+  go-finished s e f = rw (e, f .0, f .1) refl
 
-    pub room-left : Room s c′ b′
-    room-left = room-after c b hc hb (met text archive) (world s c′ b′) went-is
-
-    pub go-leaves : (c″ b″ : List ℕ)
-        → c″ ≡ take (2 + 3 * s .entries) (set (set c′ 0 (s .entries)) 1 (s .used)) ++ zeroes (length (set (set c′ 0 (s .entries)) 1 (s .used)) - (2 + 3 * s .entries))
-        → b″ ≡ take (s .used) b′ ++ zeroes (length b′ - s .used)
-        → outcome (accepted (s .entries) (s .opens)) c″ b″ ≡ leftBy text archive c b
-    unfolding leftBy
-    go-leaves c″ b″ ec eb =
-        let long : length (set (set c′ 0 (s .entries)) 1 (s .used)) ≡ contentsWords =
-        length-set (set c′ 0 (s .entries)) 1 (s .used) ∙ length-set c′ 0 (s .entries) ∙ room-left .words-long in
-        let words : c″ ≡ imageContents (plain (readEntries text archive)) c =
-        ec
-        ∙ ap (λ (n : ℕ). take (2 + 3 * s .entries) (set (set c′ 0 (s .entries)) 1 (s .used)) ++ zeroes (n - (2 + 3 * s .entries))) long
-        ∙ words-finished c b hc hb (met text archive) (world s c′ b′) went-is in
-        let bytes : b″ ≡ imageBodies (plain (readEntries text archive)) b =
-        eb
-        ∙ ap (λ (n : ℕ). take (s .used) b′ ++ zeroes (n - s .used)) (room-left .bytes-long)
-        ∙ bytes-finished c b hc hb (met text archive) (world s c′ b′) went-is in
-        rw (words, bytes) (sym (accepted-left c b hc hb (met text archive) (world s c′ b′) went-is))
+-- the main text
+pub text-finished : (text archive c b : List ℕ) (hc : length c ≡ contentsWords) (hb : length b ≡ bodyBytes) (r : Step) (c′ b′ : List ℕ)
+    → answered r c′ b′ ≡ run (world begun c b) (textEvents deepest (filesOf archive) [] [] text)
+    → finished (answered r c′ b′) ≡ leftBy text archive c b
+unfolding leftBy textEvents events
+text-finished text archive c b hc hb r c′ b′ e = finished-is c b hc hb (met text archive) r c′ b′ e
 
 -- ---- The call, in buffers of any length
 

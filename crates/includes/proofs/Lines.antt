@@ -14,7 +14,7 @@ use Rattle.laws.proofs.Parsing.{many-stop, many-more}
 use Rattle.laws.proofs.Keys.{line-shrinks}
 use Rattle.image.specs.Running.{World, world, Ran, went, stopped, put, counted, openOne, andThen, run}
 use Rattle.image.proofs.Runs.{run-append}
-use Rattle.reader.specs.Texts.{textEvents}
+use Rattle.includes.specs.Texts.{textEvents}
 
 lines-end : linesOf [] ≡ []
 unfolding linesOf lineAt
@@ -62,7 +62,7 @@ module _ (fs : List File) (folder : List ℕ) (ch : Chain) (n : List ℕ) (w : W
     unfolding including opening run
     include-absent e = rw (down, e) refl
 
-    pub include-full : (b : List ℕ) → bodyOf fs (pathOf folder n) ≡ some b → mostOpens ≤ w .totals .opens → stopped 4 ≡ run w (including d fs folder ch n)
+    pub include-full : (b : List ℕ) → bodyOf fs (pathOf folder n) ≡ some b → mostOpens ≤ w .totals .opens → stopped 4 (w .words) (w .bytes) ≡ run w (including d fs folder ch n)
     unfolding including opening run openOne andThen
     include-full b e k = rw (down, e, le-leb mostOpens (w .totals .opens) k) refl
 

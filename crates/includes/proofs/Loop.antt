@@ -16,8 +16,9 @@ use Rattle.image.specs.declared.Step.the-variants.{Go, Stop}
 use Rattle.image.proofs.Runs.{step-room, run-room}
 use Rattle.lines.specs.Lined.{Skips, Includes, Enters}
 use Rattle.parser.specs.Putting.{entryFrom, Puts}
-use Rattle.reader.specs.Texts.{textEvents}
-use Rattle.reader.proofs.Lines.{text-end, text-skips, text-enters, text-includes}
+use Rattle.parser.proofs.Entries.{puts-next, puts-inside}
+use Rattle.includes.specs.Texts.{textEvents}
+use Rattle.includes.proofs.Lines.{text-end, text-skips, text-enters, text-includes}
 
 -- reading all of t from w₀ comes to the same as reading the rest from here
 pub record Reading (d : ℕ) (fs : List File) (folder t : List ℕ) (w₀ : World) (s : Totals) (c b rest : List ℕ) : Type 0 where
@@ -31,7 +32,7 @@ pub reading-first : {d : ℕ} {fs : List File} {folder t : List ℕ} (s : Totals
 reading-first s c b r = record { same = λ ch. refl; room = r; words-same = refl; bytes-same = refl; rest-most = omega arith }
 
 -- a name in the middle of a line, as the code takes it
-pub part-name : (t : List ℕ) (a l : ℕ) → take (a + l - a) (drop a t) ≡ take l (drop a t)
+part-name : (t : List ℕ) (a l : ℕ) → take (a + l - a) (drop a t) ≡ take l (drop a t)
 part-name t a l = let e : a + l - a ≡ l = omega arith in rw e refl
 
 -- a line takes a byte or more
@@ -52,7 +53,7 @@ module _ {d : ℕ} {fs : List File} {folder t : List ℕ} {w₀ : World} {s : To
 
   -- ---- A line that is passed over
 
-  module _ (n : ℕ) (l : Skips rest (lineAt rest) n) where
+  module _ {n : ℕ} (l : Skips rest (lineAt rest) n) where
     pub skip-less : length (after n) < length rest
     skip-less = shorter rest skipped n (l .is)
 
@@ -67,7 +68,7 @@ module _ {d : ℕ} {fs : List File} {folder t : List ℕ} {w₀ : World} {s : To
 
   -- ---- An include
 
-  module _ (a m n : ℕ) (l : Includes rest (lineAt rest) a m n) where
+  module _ {a m n : ℕ} (l : Includes rest (lineAt rest) a m n) where
     abbrev named : List ℕ
     named = take (a + m - a) (drop a rest)
 
@@ -96,14 +97,17 @@ module _ {d : ℕ} {fs : List File} {folder t : List ℕ} {w₀ : World} {s : To
 
   -- ---- An entry
 
-  module _ (v count size : ℕ) (l : Enters rest (lineAt rest) v count size) where
+  module _ {v count size : ℕ} (l : Enters rest (lineAt rest) v count size) where
     entry-line : lineAt rest ≡ found (entry (entryFrom rest v)) (drop 1 (pieces (drop v rest) .rest))
     unfolding resourceOf
     entry-line = l .is
 
-    module _ (s′ : Totals) (c′ b′ : List ℕ) (n : ℕ) (p : Puts rest v (world s c b) c′ b′ n s′) where
+    module _ {s′ : Totals} {c′ b′ : List ℕ} {n : ℕ} (p : Puts rest v (world s c b) c′ b′ n s′) where
       here : lineAt rest ≡ found (entry (entryFrom rest v)) (drop n rest)
-      here = entry-line ∙ rw (p .next) refl
+      here = entry-line ∙ rw (puts-next (l .inside) p) refl
+
+      pub entry-inside : n ≤ length rest
+      entry-inside = puts-inside (l .inside) p
 
       pub entry-less : length (after n) < length rest
       entry-less = shorter rest (entry (entryFrom rest v)) n here
@@ -121,7 +125,7 @@ module _ {d : ℕ} {fs : List File} {folder t : List ℕ} {w₀ : World} {s : To
         rest-most = omega (arith, entry-less, r .rest-most);
       }
 
-    pub entry-stops : (k : ℕ) (c′ b′ : List ℕ) → put (world s c b) (entryFrom rest v) ≡ stopped k
+    pub entry-stops : (k : ℕ) (c′ b′ : List ℕ) → put (world s c b) (entryFrom rest v) ≡ stopped k c′ b′
         → (ch : Chain) → answered (Stop k) c′ b′ ≡ run w₀ (textEvents d fs folder ch t)
     unfolding answered andThen
     entry-stops k c′ b′ p ch =
