@@ -1,29 +1,37 @@
 // A descriptor read to its end.
-ghost use lib.ListN.{length};
-ghost use Rattle.input.specs.Within.{within};
+ghost use Rattle.io.specs.Counts.{Counts};
 
-// What was read: so many bytes, or nothing that can be read.
-pub enum Input {
-    Bytes(usize),
-    Failed,
+// How many bytes were read, or that the descriptor cannot be read.
+pub struct Input {
+    pub size: usize,
+    pub failed: bool,
 }
 
-// Reads until the end, or until `buffer` is full: a caller lends one byte more than it takes, and what fills it is too long. Which bytes
-// come, and that they come in pieces, no contract can say: the tests of the programs do.
+// Reads until the end, or until `buffer` is full: a caller lends one byte more than it takes, so that what fills the buffer is too long.
+// Which bytes come, and in how many pieces, no contract can say: the programs' tests do.
 pub fn read_all(fd: i32, buffer: &mut [u8]) -> Input
-    ensures { λ r. ⌜ within (length (now (buffer .exit))) r ⌝ }
+    ensures { λ r. ⌜ Counts (r .size) (now (buffer .exit)) ⌝ }
 {
     let mut n = 0;
     while n < buffer.len() {
         let got = libc::read(fd, &mut buffer[n..]);
         if got < 0 {
-            return Input::Failed;
+            return Input {
+                size: 0,
+                failed: true,
+            };
         }
         let more = io::count(got, &buffer[n..]);
         if more == 0 {
-            return Input::Bytes(n);
+            return Input {
+                size: n,
+                failed: false,
+            };
         }
         n += more;
     }
-    Input::Bytes(n)
+    Input {
+        size: n,
+        failed: false,
+    }
 }

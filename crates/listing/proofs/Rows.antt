@@ -67,7 +67,7 @@ module _ (contents bodies : List ℕ) (n : ℕ) where
   lines-next i r e h =
       lines-turn i h
       ∙ ap (λ (l : List ℕ). l ++ linesLeft (i + 1))
-          (sym (ap (λ (k : List ℕ). entryLine i k (r .value)) (part-slice bodies (r .start) (r .start + r .key)) ∙ ap (λ (x : Row). entryLine i (keyAt bodies x) (x .valueLength)) e))
+      (sym (ap (λ (k : List ℕ). entryLine i k (r .value)) (part-slice bodies (r .start) (r .start + r .key)) ∙ ap (λ (x : Row). entryLine i (keyAt bodies x) (x .valueLength)) e))
 
 -- all of them
 pub lines-all : (contents bodies : List ℕ) → linesLeft contents bodies (countOf contents) 0 ≡ rowLines 0 (rowsIn contents) bodies

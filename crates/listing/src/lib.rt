@@ -8,9 +8,9 @@ ghost use Rattle.listing.specs.Listing.{entryLine, rowLines, wordLine, p
 use image::row_at;
 use limits::BODY_BYTES;
 use limits::CONTENTS_WORDS;
+use printing::put;
 use printing::put_number;
 use reader::Answer;
-use printing::put;
 
 // Puts the line of a word and a number at the start of `out`.
 fn put_word(word: &[u8], n: usize, out: &mut [u8]) -> usize

@@ -1,2 +1,0 @@
--- What the contract of reading cites.
-pub mod Within
