@@ -1,3 +1,0 @@
--- Laws of getres.
-pub mod Adding
-pub mod Showing
