@@ -1,7 +1,7 @@
 -- Judging an archive: names that rise, and the tests together. Assumes nothing.
 use mathlib.Core.Bool.{Bool, true, false, _&&_, and-false, and-assoc}
 use mathlib.Core.List.{List, [], _∷_, map}
-use mathlib.Core.Path.{_≡_, refl, sym, ap, _∙_}
+use mathlib.Core.Path.{_≡_, refl, sym, _∙_}
 use Prim.Native.Nat.{ℕ, _+_, _≤_, _<_}
 use mir.Syntax.{w8}
 use mir.Val.{Fits}

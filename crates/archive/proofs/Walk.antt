@@ -2,7 +2,7 @@
 use mathlib.Core.Bool.{Bool, true, false, _&&_, and-false}
 use mathlib.Core.List.{List, [], _∷_, _++_, append-assoc}
 use mathlib.Core.Path.{_≡_, refl, sym, ap, _∙_}
-use Prim.Native.Nat.{ℕ, suc, _+_, _-_, _*_, _≤_, _<_}
+use Prim.Native.Nat.{ℕ, suc, _+_, _-_, _≤_, _<_}
 use native.Mathlib.Nat.{sub-zero}
 use native.Mathlib.Omega.{arith}
 use native.Mathlib.Decide.{decLt}
@@ -141,6 +141,9 @@ pub length-files : (s : List ℕ) → length (filesOf s) ≡ numberAt s 0
 unfolding filesOf
 length-files s = number-from (numberAt s 0) (drop 2 s) (drop (lengthsAt (numberAt s 0)) s)
 
+pub rows-room : (s : List ℕ) → laidOut s ≡ true → lengthsAt (length (filesOf s)) ≤ length s
+rows-room s h = omega (arith, length-files s, fits-room s (laid-fits s h))
+
 -- ---- The walk over an archive that fits
 
 -- a part from a up to e, as the borrow checker gives it
@@ -155,6 +158,7 @@ bodies-append (f ∷ fs) gs = rw (bodies-append fs gs) (sym (append-assoc (f .na
 -- file j is next, and its name starts at `at`
 pub record Walking (s : List ℕ) (count at j : ℕ) : Type 0 where
   pub standing : Standing s count at j
+  pub many : length (filesOf s) ≡ count
   pub fit : fitsLeft s count at j ≡ true
   pub left : drop j (filesOf s) ≡ filesLeft s count at j
   pub place : at ≡ nameStart j s
@@ -165,6 +169,7 @@ walking-first s count ec h =
     let r = fits-room s h in
     record {
       standing = omega (arith, ec .0, ec .1, r .1);
+      many = length-files s ∙ sym (ec .0);
       fit = sym (fits-first s count (ec .0) (r .0) (rw (ec .0) (r .1))) ∙ h;
       left = rw (ec .0, sub-zero (numberAt s 0)) refl;
       place = omega (arith, ec .0, length-files s);
@@ -222,6 +227,7 @@ module _ {s : List ℕ} {count at j : ℕ} (w : Walking s count at j) where
         let t = w .standing in
         record {
           standing = record { j-most = omega arith; few = t .few; rows-in = t .rows-in; at-most = both .0 };
+          many = w .many;
           fit = both .1;
           left = left-next;
           place = place-next;

@@ -51,30 +51,30 @@ module _ (n : List ℕ) (i : ℕ) (h : 0 < i) (k : i ≤ length n) (none-after :
 
 -- ---- What stands at a place, compared with k
 
-pub record Matching (s k : List ℕ) (at i : ℕ) : Type 0 where
+pub record Agreeing (s k : List ℕ) (at i : ℕ) : Type 0 where
   pub i-most : i ≤ length k
   pub inside : at + length k ≤ length s
   pub so-far : same (take (length k) (drop at s)) k ≡ same (drop i (take (length k) (drop at s))) (drop i k)
 
-pub matching-first : (s k : List ℕ) (at : ℕ) → at + length k ≤ length s → Matching s k at 0
-matching-first s k at h = record { i-most = omega arith; inside = h; so-far = refl }
+pub agreeing-first : (s k : List ℕ) (at : ℕ) → at + length k ≤ length s → Agreeing s k at 0
+agreeing-first s k at h = record { i-most = omega arith; inside = h; so-far = refl }
 
-module _ {s k : List ℕ} {at i : ℕ} (m : Matching s k at i) where
+module _ {s k : List ℕ} {at i : ℕ} (m : Agreeing s k at i) where
   long : length (take (length k) (drop at s)) ≡ length k
   long = length-take-le (length k) (drop at s) (rw length-drop (omega (arith, m .inside)))
 
-  pub matching-all : length k ≤ i → same (take (length k) (drop at s)) k ≡ true
-  matching-all h = m .so-far ∙ same-from-end (take (length k) (drop at s)) k i (omega (arith, long)) h
+  pub agreeing-all : length k ≤ i → same (take (length k) (drop at s)) k ≡ true
+  agreeing-all h = m .so-far ∙ same-from-end (take (length k) (drop at s)) k i (omega (arith, long)) h
 
   module _ (h : i < length k) where
     byte : getD (take (length k) (drop at s)) i 0 ≡ getD s (at + i) 0
     byte = getD-take (length k) (drop at s) i 0 h ∙ getD-drop at s i 0
 
-    pub matching-off : (getD s (at + i) 0 ≡ getD k i 0 → ⊥) → same (take (length k) (drop at s)) k ≡ false
-    matching-off f = m .so-far ∙ same-from-other (take (length k) (drop at s)) k i (omega (arith, long)) h (λ q. f (sym byte ∙ q))
+    pub agreeing-off : (getD s (at + i) 0 ≡ getD k i 0 → ⊥) → same (take (length k) (drop at s)) k ≡ false
+    agreeing-off f = m .so-far ∙ same-from-other (take (length k) (drop at s)) k i (omega (arith, long)) h (λ q. f (sym byte ∙ q))
 
-    pub matching-on : getD s (at + i) 0 ≡ getD k i 0 → Matching s k at (i + 1)
-    matching-on e = record {
+    pub agreeing-on : getD s (at + i) 0 ≡ getD k i 0 → Agreeing s k at (i + 1)
+    agreeing-on e = record {
       i-most = omega arith;
       inside = m .inside;
       so-far = m .so-far ∙ same-from-equal (take (length k) (drop at s)) k i (omega (arith, long)) h (byte ∙ e);
@@ -112,19 +112,19 @@ stem-slash f i h e =
     let l : 0 < length f = omega arith in
     rw (stem-some f l, e) (getD-append-seam f slash [] 0)
 
-module _ (f : List ℕ) {s : List ℕ} {at i : ℕ} (m : Matching s (stem f) at i) where
+module _ (f : List ℕ) {s : List ℕ} {at i : ℕ} (m : Agreeing s (stem f) at i) where
   module _ (h : i < length f) where
     in-stem : i < length (stem f)
     in-stem = omega (arith, stem-long f)
 
     pub folder-off : (getD s (at + i) 0 ≡ getD f i 0 → ⊥) → same (take (length (stem f)) (drop at s)) (stem f) ≡ false
-    folder-off e = matching-off m in-stem (λ q. e (q ∙ stem-byte f i h))
+    folder-off e = agreeing-off m in-stem (λ q. e (q ∙ stem-byte f i h))
 
-    pub folder-on : getD s (at + i) 0 ≡ getD f i 0 → Matching s (stem f) at (i + 1)
-    folder-on e = matching-on m in-stem (e ∙ sym (stem-byte f i h))
+    pub folder-on : getD s (at + i) 0 ≡ getD f i 0 → Agreeing s (stem f) at (i + 1)
+    folder-on e = agreeing-on m in-stem (e ∙ sym (stem-byte f i h))
 
   pub folder-empty : length f ≤ i → i ≡ 0 → same (take (length (stem f)) (drop at s)) (stem f) ≡ true
-  folder-empty h e = matching-all m (let l : length f ≡ 0 = omega arith in omega (arith, ap length (stem-none f l)))
+  folder-empty h e = agreeing-all m (let l : length f ≡ 0 = omega arith in omega (arith, ap length (stem-none f l)))
 
   pub folder-slash : i ≡ length f → (i ≡ 0 → ⊥) → same (take (length (stem f)) (drop at s)) (stem f) ≡ eqb (getD s (at + i) 0) slash
   folder-slash e z = at-slash (eqb (getD s (at + i) 0) slash) refl
@@ -136,5 +136,5 @@ module _ (f : List ℕ) {s : List ℕ} {at i : ℕ} (m : Matching s (stem f) at 
       b = stem-slash f i (omega arith) e
 
       at-slash : (t : Bool) → eqb (getD s (at + i) 0) slash ≡ t → same (take (length (stem f)) (drop at s)) (stem f) ≡ t
-      at-slash true q = matching-all (matching-on m (omega (arith, h)) (eqb-true (getD s (at + i) 0) slash q ∙ sym b)) (omega (arith, h))
-      at-slash false q = matching-off m (omega (arith, h)) (λ w. eqb-false (getD s (at + i) 0) slash q (w ∙ b))
+      at-slash true q = agreeing-all (agreeing-on m (omega (arith, h)) (eqb-true (getD s (at + i) 0) slash q ∙ sym b)) (omega (arith, h))
+      at-slash false q = agreeing-off m (omega (arith, h)) (λ w. eqb-false (getD s (at + i) 0) slash q (w ∙ b))

@@ -1,6 +1,6 @@
 -- What a search of an archive answers.
 use mathlib.Core.List.{List, [], _∷_, _++_}
-use Prim.Native.Nat.{ℕ, _+_}
+use Prim.Native.Nat.{ℕ, suc, _+_}
 use lib.ListN.{length}
 use Rattle.definition.specs.Lists.{if_then_else_, isEmpty, same}
 use Rattle.definition.specs.Bytes.{slash}
@@ -26,3 +26,8 @@ findFrom j start (f ∷ fs) path = if same (f .name) path then At (memberOf j st
 -- the first file of an archive that has that name, where it stands
 unfoldable pub findIn : List ℕ → List ℕ → Found
 findIn s path = findFrom 0 (lengthsAt (length (filesOf s))) (filesOf s) path
+
+-- the number of the file of that name, counted from 0, or the number of files
+unfoldable pub numberOf : List ℕ → List File → ℕ
+numberOf n [] = 0
+numberOf n (f ∷ fs) = if same (f .name) n then 0 else suc (numberOf n fs)

@@ -4,8 +4,8 @@ ghost use mathlib.Core.Bool.{true};
 ghost use Prim.Native.Nat.{_+_, _≤_};
 ghost use lib.ListN.{length, take, drop};
 ghost use Rattle.definition.specs.Lists.{same};
-ghost use Rattle.definition.specs.Archive.{laidOut, folderOf, pathOf};
-ghost use Rattle.archive_find.specs.Finding.{stem, findIn};
+ghost use Rattle.definition.specs.Archive.{filesOf, laidOut, folderOf, pathOf};
+ghost use Rattle.archive_find.specs.Finding.{stem, findIn, numberOf};
 use archive::Member;
 use archive::file_count;
 use archive::lengths_at;
@@ -17,9 +17,9 @@ pub enum Found {
     Nothing,
 }
 
-// The name before its last `/`, or empty.
+// The name before its last `/`, or empty: a front of the name itself.
 pub fn folder_of(name: &[u8]) -> &[u8]
-    ensures { λ r. ⌜ now r ≡ folderOf (now (name .entry)) ⌝ }
+    ensures { λ r. ⌜ (now r ≡ folderOf (now (name .entry))) × (r .ptr ≡ name .entry .ptr) ⌝ }
 {
     let mut i = name.len();
     while 0 < i {
@@ -94,4 +94,16 @@ pub fn find(archive: &[u8], folder: &[u8], name: &[u8]) -> Found
         break 'rows;
     }
     found
+}
+
+// The number of the file of that name, counted from 0, or the number of files.
+pub fn number_of(archive: &[u8], name: &[u8]) -> usize
+    requires { ⌜ laidOut (now archive) ≡ true ⌝ }
+    ensures { λ r. ⌜ r ≡ numberOf (now (name .entry)) (filesOf (now (archive .entry))) ⌝ }
+{
+    let found = find(archive, &name[..0], name);
+    match found {
+        Found::At(member) => member.number,
+        Found::Nothing => file_count(archive),
+    }
 }

@@ -1,5 +1,4 @@
 -- What the contracts of getres cite beside the definition.
-pub mod Adding
 pub mod Showing
 pub mod Refusals
 pub mod Loading

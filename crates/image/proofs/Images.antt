@@ -14,7 +14,7 @@ use Rattle.definition.specs.Text.{Entry}
 use Rattle.definition.specs.Including.{Event, opened, entered, entriesOf}
 use Rattle.definition.specs.Image.{keyOf, rowsOf, storeOf, contentsOf, writtenOver, imageContents, imageBodies}
 use Rattle.definition.specs.Reading as definition
-use Rattle.definition.specs.Reading.{Verdict, within, past, sizeOf, judge, plain, start, accepted, refused, outcome, left}
+use Rattle.definition.specs.Reading.{Verdict, within, past, sizeOf, judge, plain, start, left}
 use Rattle.laws.proofs.Image.{length-rows}
 use Rattle.image.specs.Running.{World, world, Ran, went, stopped, stored, put, counted, openOne, andThen, run, closedWords, closedBytes, finished}
 use Rattle.image.specs.Rows.{rowStart}

@@ -1,10 +1,10 @@
 -- Rows by their words are the definition's rows. Assumes nothing.
 use mathlib.Core.List.{List, _∷_}
 use mathlib.Core.Path.{_≡_, refl, ap}
-use Prim.Native.Nat.{ℕ, zero, suc, _+_, _*_, _-_, _≤_, _<_}
+use Prim.Native.Nat.{ℕ, zero, suc, _+_, _-_, _<_}
 use native.Mathlib.Omega.{arith}
-use lib.ListN.{length, getD, drop, set}
-use lib.Seq.{getD-drop, drop-drop, getD-set-same, getD-set-other}
+use lib.ListN.{length, getD, drop}
+use lib.Seq.{getD-drop, drop-drop}
 use Rattle.definition.specs.Limits.{rowWords}
 use Rattle.definition.specs.Image.{Row, rowsFrom, rowsIn, countOf}
 use Rattle.image.specs.Rows.{rowStart, rowAt, rowsLeft}

@@ -14,7 +14,7 @@ use Rattle.image.specs.Running.{World, world, Room, went, stopped, put, andThen
 use Rattle.image.specs.declared.Totals.{Totals}
 use Rattle.image.specs.declared.Step.the-variants.{Go, Stop}
 use Rattle.image.proofs.Runs.{step-room, run-room}
-use Rattle.lines.specs.Lined.{Skips, Includes, Enters}
+use Rattle.lines.proofs.Lined.{Skips, Includes, Enters}
 use Rattle.parser.specs.Putting.{entryFrom, Puts}
 use Rattle.parser.proofs.Entries.{puts-next, puts-inside}
 use Rattle.includes.specs.Texts.{textEvents}

@@ -4,7 +4,6 @@ use mathlib.Core.List.{List, [], _∷_, _++_}
 use mathlib.Core.Path.{_≡_, _∙_}
 use Prim.Native.Nat.{ℕ, _+_, _-_, _≤_, _<_}
 use native.Mathlib.Omega.{arith}
-use lib.ListN.{take, drop}
 use Rattle.definition.specs.Limits.{mostOpens}
 use Rattle.definition.specs.Archive.{laidOut, filesOf, folderOf, pathOf}
 use Rattle.definition.specs.Including.{Chain, including}

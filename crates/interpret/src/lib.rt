@@ -8,7 +8,7 @@ ghost use Rattle.definition.specs.Lists.{if_then_else_, any, same};
 ghost use Rattle.definition.specs.Bytes.{within};
 ghost use Rattle.definition.specs.Value.{table, afterRow, firstRow, isUtf8, naturalOf, signed, i64Of, lowercase, wordOf, toBool};
 ghost use Rattle.interpret.specs.Characters.{trail, rowOf, Taken};
-ghost use Rattle.interpret.specs.Readings.{magnitude, naturalIn, numberIn, truthIn};
+ghost use Rattle.interpret.specs.Readings.{magnitude, naturalIn, numberIn, booleanIn};
 
 fn in_range(low: u8, high: u8, c: u8) -> bool
     ensures { λ r. ⌜ r ≡ within low high c ⌝ }
@@ -188,7 +188,8 @@ pub fn parse_i64(text: &[u8]) -> Number
 
 // ---- Booleans
 
-pub enum Truth {
+// The word or the number that a value is: true, false, or neither.
+pub enum Boolean {
     True,
     False,
     Neither,
@@ -232,27 +233,27 @@ fn is_one_of(text: &[u8], a: &[u8], b: &[u8], c: &[u8]) -> bool
     is_word(text, c)
 }
 
-fn word_to_bool(text: &[u8]) -> Truth
-    ensures { λ r. ⌜ truthIn r ≡ wordOf (map lowercase (now (text .entry))) ⌝ }
+fn word_to_bool(text: &[u8]) -> Boolean
+    ensures { λ r. ⌜ booleanIn r ≡ wordOf (map lowercase (now (text .entry))) ⌝ }
 {
     if is_one_of(text, b"true", b"on", b"yes") {
-        return Truth::True;
+        return Boolean::True;
     }
     if is_one_of(text, b"false", b"off", b"no") {
-        return Truth::False;
+        return Boolean::False;
     }
-    Truth::Neither
+    Boolean::Neither
 }
 
-pub fn to_bool(text: &[u8]) -> Truth
-    ensures { λ r. ⌜ truthIn r ≡ toBool (now (text .entry)) ⌝ }
+pub fn to_bool(text: &[u8]) -> Boolean
+    ensures { λ r. ⌜ booleanIn r ≡ toBool (now (text .entry)) ⌝ }
 {
     let number = parse_i64(text);
     let Number::Is(z) = number else {
         return word_to_bool(text);
     };
     if z == 0 {
-        return Truth::False;
+        return Boolean::False;
     }
-    Truth::True
+    Boolean::True
 }

@@ -1,2 +1,2 @@
 -- What the contracts of the lines cite beside the definition.
-pub mod Lined
+pub mod Places

@@ -3,13 +3,13 @@ ghost use mathlib.Core.Path.{_≡_};
 ghost use Prim.Native.Nat.{_<_};
 ghost use lib.ListN.{length, getD};
 ghost use Rattle.definition.specs.Bytes.{hash};
-ghost use Rattle.definition.specs.Text.{lineAt, assigned, resourceOf};
-ghost use Rattle.lines.specs.Lined.{EndsAt, Lined};
+ghost use Rattle.definition.specs.Text.{assigned};
+ghost use Rattle.lines.specs.Places.{resourceIn, lineIn};
 use components::parse_components;
 use scan::Include;
+use scan::line_end;
 use scan::parse_include;
 use scan::skip_spaces;
-use scan::skip_to_eol;
 use scan::starts_with;
 
 // What a line is. Its numbers count bytes from the line's start.
@@ -22,18 +22,10 @@ pub enum Line {
     Entry(usize, usize, usize),
 }
 
-// Where a line's newline stands, or the text ends.
-fn line_end(text: &[u8]) -> usize
-    ensures { λ r. ⌜ EndsAt (now (text .entry)) r ⌝ }
-{
-    let rest = skip_to_eol(text);
-    text.len() - rest.len()
-}
-
 // A line that begins with `#`.
 fn parse_directive(text: &[u8]) -> Line
     requires { ⌜ (0 < length (now text)) × (getD (now text) 0 0 ≡ hash) ⌝ }
-    ensures { λ r. ⌜ Lined (now (text .entry)) (lineAt (now (text .entry))) r ⌝ }
+    ensures { λ r. ⌜ r ≡ lineIn (now (text .entry)) ⌝ }
 {
     let end = line_end(text);
     let named = parse_include(&text[1..]);
@@ -45,7 +37,7 @@ fn parse_directive(text: &[u8]) -> Line
 
 // A line that is no comment and no directive.
 fn parse_resource(text: &[u8]) -> Line
-    ensures { λ r. ⌜ Lined (now (text .entry)) (resourceOf (now (text .entry)) (assigned (now (text .entry)))) r ⌝ }
+    ensures { λ r. ⌜ r ≡ resourceIn (now (text .entry)) (assigned (now (text .entry))) ⌝ }
 {
     let parts = parse_components(text);
     let end = parts.end;
@@ -62,7 +54,7 @@ fn parse_resource(text: &[u8]) -> Line
 // The line at the front of a text.
 pub fn parse_line(text: &[u8]) -> Line
     requires { ⌜ 0 < length (now text) ⌝ }
-    ensures { λ r. ⌜ Lined (now (text .entry)) (lineAt (now (text .entry))) r ⌝ }
+    ensures { λ r. ⌜ r ≡ lineIn (now (text .entry)) ⌝ }
 {
     let first = text[0];
     if first == b'\n' {

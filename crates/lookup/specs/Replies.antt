@@ -1,5 +1,4 @@
 -- A lookup's answer in document 01's numbers and values.
-use mathlib.Core.Bool.{Bool}
 use mathlib.Core.List.{List}
 use mathlib.Core.Path.{_≡_}
 use Prim.Native.Nat.{ℕ}
@@ -9,11 +8,6 @@ use Rattle.definition.specs.Lookup.{Reply, given, noValue, refused, Place}
 use Rattle.query.specs.declared.Shape.{Shape}
 use Rattle.query.specs.declared.Shape.the-variants.{Good, Malformed, Many}
 use Rattle.lookup.specs.declared.Extent.{Extent}
-use Rattle.definition.specs.Value.{Number, number, notANumber}
-use Rattle.lookup.specs.declared.Truth.{Truth}
-use Rattle.lookup.specs.declared.Truth.the-variants as Truth
-use Rattle.lookup.specs.declared.Value.{Value}
-use Rattle.lookup.specs.declared.Value.the-variants as Value
 use Rattle.lookup.specs.declared.Lookup.{Lookup}
 use Rattle.lookup.specs.declared.Lookup.the-variants.{Found, Nothing, Refused}
 
@@ -22,17 +16,6 @@ abbrev pub replied : Lookup → Reply Place
 replied (Found place size) = given (record { start = place; length = size })
 replied Nothing = noValue
 replied (Refused k) = refused k
-
-abbrev pub truthReplied : Truth → Reply Bool
-truthReplied (Truth.Is b) = given b
-truthReplied Truth.Nothing = noValue
-truthReplied (Truth.Refused k) = refused k
-
-abbrev pub valueReplied : Value → Reply Number
-valueReplied (Value.Is z) = given (number z)
-valueReplied Value.NotANumber = given notANumber
-valueReplied Value.Nothing = noValue
-valueReplied (Value.Refused k) = refused k
 
 -- of name and class: malformed if one is, else with too many parts if one has too many
 abbrev pub bothShapes : Shape → Shape → Shape

@@ -1,17 +1,13 @@
 -- An entry, stored. Assumes nothing.
-use mathlib.Core.Bool.{Bool, true, false, _&&_}
 use mathlib.Core.List.{List, [], _∷_, _++_, flatten, append-assoc}
 use mathlib.Core.Path.{_≡_, refl, sym, ap, _∙_}
 use Prim.Native.Nat.{ℕ, _+_, _-_, _≤_, _<_}
 use native.Mathlib.Nat.{le-refl, min-eq-right}
 use native.Mathlib.Omega.{arith}
-use lib.Dec.{eqb}
 use lib.ListN.{length, take, drop, length-drop, drop-of-length-le}
 use lib.Seq.{paste, drop-drop, take-append-add, take-paste, drop-paste, take-length}
 use borrow.Author.Tests.{lt-ltb, le-ltb, le-leb, lt-leb}
-use Rattle.definition.specs.Lists.{if_then_else_}
 use Rattle.definition.specs.Limits.{mostEntries, mostParts, bodyBytes}
-use Rattle.definition.specs.Bytes.{newline, backslash, isBlank}
 use Rattle.definition.specs.Parsing.{many}
 use Rattle.definition.specs.Text.{Entry, pieceAt, afterBlanks, pieces}
 use Rattle.definition.specs.Image.{keyOf}
@@ -20,30 +16,13 @@ use Rattle.laws.proofs.Lists.{part-rest, Suffix, suffix-whole, suffix-drop}
 use Rattle.image.specs.Running.{World, world, went, stopped, rowFor, stored, cut, put}
 use Rattle.image.specs.Rows.{withRow}
 use Rattle.image.specs.declared.Totals.{Totals}
-use Rattle.scan.proofs.Suffixes.{suffix-cons, suffix-none}
 use Rattle.values.specs.Decoded.{valueAt, Decoded}
 use Rattle.values.specs.declared.Stored.the-variants.{Full}
+use Rattle.scan.proofs.Suffixes.{suffix-trans}
+use Rattle.values.proofs.Skipping.{blanks-suffix}
 use Rattle.values.proofs.Values.{rest-suffix, Fits, decoded-full}
-use Rattle.lines.specs.Lined.{partsOf}
+use Rattle.components.specs.Parts.{partsOf}
 use Rattle.parser.specs.Putting.{entryFrom, Asked, lineAfter, Puts}
-
--- ---- Blanks after `:`
-
-blanks-suffix : (t : List ℕ) → Suffix (afterBlanks t) t
-unfolding afterBlanks
-blanks-suffix [] = suffix-whole []
-blanks-suffix (c ∷ []) = at (isBlank c)
-  where
-    at : (b : Bool) → Suffix (if b then [] else c ∷ []) (c ∷ [])
-    at true = suffix-none (c ∷ [])
-    at false = suffix-whole (c ∷ [])
-blanks-suffix (c ∷ d ∷ t) = at (isBlank c) (eqb c backslash && eqb d newline) (blanks-suffix (d ∷ t)) (blanks-suffix t)
-  where
-    at : (a b : Bool) → Suffix (afterBlanks (d ∷ t)) (d ∷ t) → Suffix (afterBlanks t) t
-        → Suffix (if a then afterBlanks (d ∷ t) else if b then afterBlanks t else c ∷ d ∷ t) (c ∷ d ∷ t)
-    at true b s u = suffix-cons c s
-    at false true s u = suffix-cons c (suffix-cons d u)
-    at false false s u = suffix-whole (c ∷ d ∷ t)
 
 -- ---- The limits on an entry
 
@@ -228,11 +207,8 @@ module _ {t : List ℕ} {v count size : ℕ} {s : Totals} {c b b₁ u : List ℕ
 -- ---- What a caller reads off an entry that is stored
 
 after-value : (t : List ℕ) (v : ℕ) → v ≤ length t → Suffix (drop 1 (pieces (drop v t) .rest)) t
-after-value t v h = one (pieces (drop v t) .rest) (on (rest-suffix (afterBlanks (drop v t))) (on (blanks-suffix (drop v t)) (suffix-drop (suffix-whole t) v h)))
+after-value t v h = one (pieces (drop v t) .rest) (suffix-trans (rest-suffix (afterBlanks (drop v t))) (suffix-trans (blanks-suffix (drop v t)) (suffix-drop (suffix-whole t) v h)))
   where
-    on : {w u t : List ℕ} → Suffix w u → Suffix u t → Suffix w t
-    on {w} {u} r s = rw (r .same) at (suffix-drop s (length u - length w) (omega arith))
-
     one : (u : List ℕ) → Suffix u t → Suffix (drop 1 u) t
     one [] s = s
     one (x ∷ u) s = suffix-drop s 1 (omega arith)

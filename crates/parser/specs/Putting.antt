@@ -7,7 +7,7 @@ use Rattle.definition.specs.Text.{Entry, pieces}
 use Rattle.definition.specs.Image.{keyOf}
 use Rattle.image.specs.Running.{World, world, Room, went, stopped, put}
 use Rattle.image.specs.declared.Totals.{Totals}
-use Rattle.lines.specs.Lined.{partsOf}
+use Rattle.components.specs.Parts.{partsOf}
 use Rattle.parser.specs.declared.Put.{Put}
 use Rattle.parser.specs.declared.Put.the-variants.{Done, Stop}
 

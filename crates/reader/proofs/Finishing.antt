@@ -2,17 +2,17 @@
 use mathlib.Core.Bool.{true, false}
 use mathlib.Core.List.{List, [], _++_, append-nil}
 use mathlib.Core.Path.{_≡_, refl, sym, ap, _∙_}
-use Prim.Native.Nat.{ℕ, _+_, _-_, _*_, _≤_, _<_}
-use native.Mathlib.Nat.{sub-zero}
+use Prim.Native.Nat.{ℕ, _+_, _-_, _≤_, _<_}
 use native.Mathlib.Omega.{arith}
-use lib.ListN.{length, take, drop, set, length-set, drop-of-length-le}
+use lib.ListN.{length, take, drop, drop-of-length-le}
+use lib.Seq.{length-take-le}
 use borrow.Author.Tests.{lt-ltb, le-ltb}
 use Rattle.definition.specs.Lists.{zeroes, beyond}
 use Rattle.definition.specs.Limits.{contentsWords, bodyBytes, textBytes, deepest}
 use Rattle.definition.specs.Archive.{laidOut, filesOf}
 use Rattle.definition.specs.Text.{Entry}
 use Rattle.definition.specs.Including.{Event, events, entriesOf}
-use Rattle.definition.specs.Image.{writtenOver, imageContents, imageBodies}
+use Rattle.definition.specs.Image.{writtenOver}
 use Rattle.definition.specs.Reading.{Verdict, within, past, accepted, refused, outcome, left, judge, start, met, plain, readEntries, reading}
 use Rattle.image.specs.Running.{world, run, answered, closedWords, closedBytes, finished}
 use Rattle.image.specs.declared.Totals.{Totals}
@@ -25,12 +25,12 @@ use Rattle.reader.specs.Said.{Ready, leftBy}
 -- ---- The end of a reading, whatever it has met
 
 module _ (c b : List ℕ) (hc : length c ≡ contentsWords) (hb : length b ≡ bodyBytes) (es : List Event) where
-  pub ready-after : (r : Step) (c′ b′ : List ℕ) → answered r c′ b′ ≡ run (world begun c b) es → length c′ ≡ length c → length b′ ≡ length b → Ready r c′ b′
+  ready-after : (r : Step) (c′ b′ : List ℕ) → answered r c′ b′ ≡ run (world begun c b) es → length c′ ≡ length c → length b′ ≡ length b → Ready r c′ b′
   unfolding answered
   ready-after (Go s) c′ b′ e lc lb = room-after c b hc hb es (world s c′ b′) (sym e)
   ready-after (Stop k) c′ b′ e lc lb = (lc ∙ hc, lb ∙ hb)
 
-  pub finished-is : (r : Step) (c′ b′ : List ℕ) → answered r c′ b′ ≡ run (world begun c b) es
+  finished-is : (r : Step) (c′ b′ : List ℕ) → answered r c′ b′ ≡ run (world begun c b) es
       → finished (answered r c′ b′) ≡ left (judge start es) (plain (entriesOf es)) c b
   finished-is r c′ b′ e = ap finished e ∙ finished-left c b hc hb es
 
@@ -49,11 +49,14 @@ module _ (r : Step) (c b : List ℕ) (ready : Ready r c b) where
   go-finished s e f = rw (e, f .0, f .1) refl
 
 -- the main text
-pub text-finished : (text archive c b : List ℕ) (hc : length c ≡ contentsWords) (hb : length b ≡ bodyBytes) (r : Step) (c′ b′ : List ℕ)
-    → answered r c′ b′ ≡ run (world begun c b) (textEvents deepest (filesOf archive) [] [] text)
-    → finished (answered r c′ b′) ≡ leftBy text archive c b
-unfolding leftBy textEvents events
-text-finished text archive c b hc hb r c′ b′ e = finished-is c b hc hb (met text archive) r c′ b′ e
+module _ (text archive c b : List ℕ) (hc : length c ≡ contentsWords) (hb : length b ≡ bodyBytes) (r : Step) (c′ b′ : List ℕ)
+    (e : answered r c′ b′ ≡ run (world begun c b) (textEvents deepest (filesOf archive) [] [] text)) where
+  pub text-ready : length c′ ≡ length c → length b′ ≡ length b → Ready r c′ b′
+  text-ready = ready-after c b hc hb (textEvents deepest (filesOf archive) [] [] text) r c′ b′ e
+
+  pub text-finished : finished (answered r c′ b′) ≡ leftBy text archive c b
+  unfolding leftBy textEvents events
+  text-finished = finished-is c b hc hb (met text archive) r c′ b′ e
 
 -- ---- The call, in buffers of any length
 
@@ -96,12 +99,26 @@ module _ (text archive c b : List ℕ) where
         unfolding reading
         not-laid-out h = rw (le-ltb (length c) contentsWords hc, le-ltb (length b) bodyBytes hb, le-ltb textBytes (length text) ht, h) refl
 
-        -- filling the fronts of the buffers is the reading
-        pub fronts : laidOut archive ≡ true → (a : Rattle.definition.specs.Reading.Answer) (c′ b′ : List ℕ)
-            → outcome a c′ b′ ≡ leftBy text archive (take contentsWords c) (take bodyBytes b)
-            → outcome a (c′ ++ drop contentsWords c) (b′ ++ drop bodyBytes b) ≡ reading text archive c b
-        unfolding reading leftBy
-        fronts h a c′ b′ e =
-            (λ i. outcome (e i .answer) (e i .contents ++ drop contentsWords c) (e i .bodies ++ drop bodyBytes b))
-            ∙ left-front (judge start (met text archive)) (plain (readEntries text archive)) c b
-            ∙ sym (rw (le-ltb (length c) contentsWords hc, le-ltb (length b) bodyBytes hb, le-ltb textBytes (length text) ht, h) refl)
+-- 1, 2 and 3 are passed
+pub record Admitted (text archive c b : List ℕ) : Type 0 where
+  pub words : contentsWords ≤ length c
+  pub bytes : bodyBytes ≤ length b
+  pub short : length text ≤ textBytes
+  pub laid : laidOut archive ≡ true
+
+module _ {text archive c b : List ℕ} (h : Admitted text archive c b) where
+  pub words-front : length (take contentsWords c) ≡ contentsWords
+  words-front = length-take-le contentsWords c (h .words)
+
+  pub bytes-front : length (take bodyBytes b) ≡ bodyBytes
+  bytes-front = length-take-le bodyBytes b (h .bytes)
+
+  -- filling the fronts of the buffers is then the reading
+  pub fronts : (a : Rattle.definition.specs.Reading.Answer) (c′ b′ : List ℕ)
+      → outcome a c′ b′ ≡ leftBy text archive (take contentsWords c) (take bodyBytes b)
+      → outcome a (c′ ++ drop contentsWords c) (b′ ++ drop bodyBytes b) ≡ reading text archive c b
+  unfolding reading leftBy
+  fronts a c′ b′ e =
+      (λ i. outcome (e i .answer) (e i .contents ++ drop contentsWords c) (e i .bodies ++ drop bodyBytes b))
+      ∙ left-front (judge start (met text archive)) (plain (readEntries text archive)) c b
+      ∙ sym (rw (le-ltb (length c) contentsWords (h .words), le-ltb (length b) bodyBytes (h .bytes), le-ltb textBytes (length text) (h .short), h .laid) refl)

@@ -11,13 +11,13 @@ use crate::fields::take_bytes;
 use crate::fields::until;
 use check::same;
 use lookup::Lookup;
-use lookup::Truth;
-use lookup::Value;
-use lookup::get_bool;
 use lookup::get_bytes;
-use lookup::get_string;
-use lookup::get_value;
 use reader::Answer;
+use readings::Truth;
+use readings::Value;
+use readings::get_bool;
+use readings::get_string;
+use readings::get_value;
 
 // What a line asks.
 enum Kind {

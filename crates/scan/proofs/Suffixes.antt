@@ -3,7 +3,7 @@ use mathlib.Core.List.{List, [], _∷_}
 use mathlib.Core.Path.{_≡_}
 use Prim.Native.Nat.{ℕ, zero, suc, _-_}
 use native.Mathlib.Omega.{arith}
-use lib.ListN.{length, drop, drop-of-length-le}
+use lib.ListN.{length, drop-of-length-le}
 use Rattle.definition.specs.Parsing.{Parse, nothing, found, continued, atMost, many}
 use Rattle.laws.proofs.Lists.{Suffix, suffix-whole, suffix-drop}
 use Rattle.laws.proofs.Keys.{Finds}
@@ -17,7 +17,7 @@ module _ {A : Type 0} where
   pub suffix-none : (t : List A) → Suffix [] t
   suffix-none t = record { most = omega arith; same = drop-of-length-le t {i = length t - 0} (omega arith) }
 
-  suffix-trans : {w u t : List A} → Suffix w u → Suffix u t → Suffix w t
+  pub suffix-trans : {w u t : List A} → Suffix w u → Suffix u t → Suffix w t
   suffix-trans {w} {u} r s = rw (r .same) at (suffix-drop s (length u - length w) (omega arith))
 
 -- what is left after what was found, if anything, is the rest of t

@@ -15,7 +15,8 @@ use Rattle.definition.specs.Lists.{all, takeWhile}
 use Rattle.definition.specs.Parsing.{found, Parsed}
 use Rattle.definition.specs.Bytes.{tab, space, newline, backslash, letter-n, isBlank, isOctal}
 use Rattle.definition.specs.Text.{positional, lineEnds, octalOf, escapeAt, pieceAt}
-use Rattle.laws.proofs.Lists.{and-true, all-takeWhile, part-rest, take-run, length-takeWhile-le, run-end, run-stop, run-more}
+use Rattle.laws.proofs.Lists.{and-true, all-takeWhile, part-rest, take-run, length-takeWhile-le}
+use Rattle.scan.proofs.Runs.{Passed, passed-more, passed-stop, passed-end}
 use Rattle.laws.proofs.Parsing.{many-more}
 use Rattle.laws.proofs.Keys.{piece-shrinks}
 use Rattle.values.specs.Decoded.{valueAt, restAt}
@@ -59,20 +60,23 @@ octal-number a b c x y ha hb hc e f =
 abbrev pub digits : List ℕ → List ℕ
 digits t = takeWhile isOctal (take 3 t)
 
-module _ (t : List ℕ) (n : ℕ) where
-  pub digits-end : 3 ≤ n → length (takeWhile isOctal (drop n (take 3 t))) ≡ 0
-  digits-end h = run-end isOctal (take 3 t) n (simp length-take (omega arith))
+-- n of them are passed
+module _ (t : List ℕ) {n : ℕ} (d : Passed isOctal (take 3 t) n) where
+  pub digits-end : 3 ≤ n → n ≡ length (digits t)
+  digits-end h = passed-end isOctal (take 3 t) d (simp length-take (omega arith))
 
-  pub digits-short : length t ≤ n → length (takeWhile isOctal (drop n (take 3 t))) ≡ 0
-  digits-short h = run-end isOctal (take 3 t) n (simp length-take (omega arith))
+  pub digits-short : length t ≤ n → n ≡ length (digits t)
+  digits-short h = passed-end isOctal (take 3 t) d (simp length-take (omega arith))
 
   module _ (h : n < 3) (k : n < length t) where
-    pub digits-stop : isOctal (getD t n 0) ≡ false → length (takeWhile isOctal (drop n (take 3 t))) ≡ 0
-    digits-stop e = run-stop isOctal (take 3 t) n 0 (simp length-take (omega arith)) (rw (getD-take 3 t n 0 h) e)
+    in-three : n < length (take 3 t)
+    in-three = simp length-take (omega arith)
 
-    pub digits-more : isOctal (getD t n 0) ≡ true
-        → length (takeWhile isOctal (drop n (take 3 t))) ≡ 1 + length (takeWhile isOctal (drop (n + 1) (take 3 t)))
-    digits-more e = run-more isOctal (take 3 t) n 0 (simp length-take (omega arith)) (rw (getD-take 3 t n 0 h) e)
+    pub digits-stop : isOctal (getD t n 0) ≡ false → n ≡ length (digits t)
+    digits-stop e = passed-stop isOctal (take 3 t) d in-three (rw (getD-take 3 t n 0 h) e)
+
+    pub digits-more : isOctal (getD t n 0) ≡ true → Passed isOctal (take 3 t) (n + 1)
+    digits-more e = passed-more isOctal (take 3 t) d in-three (rw (getD-take 3 t n 0 h) e)
 
 module _ (t : List ℕ) where
   pub digits-few : length (digits t) ≤ 3

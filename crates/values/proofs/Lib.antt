@@ -1,5 +1,5 @@
 -- Laws of values.
-mod Blanks
+pub mod Skipping
 mod Escapes
 mod Decoding
 pub mod Values

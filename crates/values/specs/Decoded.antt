@@ -1,4 +1,4 @@
--- The value at the front of a text whose blanks are skipped: what the code answers of it, and what it stores.
+-- The blanks before a value, and the value at the front of a text whose blanks are skipped: what the code answers and stores.
 use mathlib.Core.List.{List, flatten}
 use mathlib.Core.Path.{_≡_}
 use Prim.Native.Nat.{ℕ, _+_, _-_, min}
@@ -7,9 +7,13 @@ use lib.ListN.{length}
 use lib.Seq.{paste}
 use Rattle.definition.specs.Lists.{if_then_else_}
 use Rattle.definition.specs.Parsing.{many}
-use Rattle.definition.specs.Text.{pieceAt}
+use Rattle.definition.specs.Text.{pieceAt, afterBlanks}
 use Rattle.values.specs.declared.Stored.{Stored}
 use Rattle.values.specs.declared.Stored.the-variants.{Done, Full}
+
+-- how many bytes stand before the value
+abbrev pub blanksAt : List ℕ → ℕ
+blanksAt t = length t - length (afterBlanks t)
 
 -- the value, and the text after it
 abbrev pub valueAt : List ℕ → List ℕ

@@ -8,7 +8,7 @@ ghost use Rattle.definition.specs.Lists.{takeWhile};
 ghost use Rattle.definition.specs.Bytes.{backslash, isOctal};
 ghost use Rattle.definition.specs.Text.{positional, afterBlanks};
 ghost use Rattle.values.specs.Pieces.{IsPiece};
-ghost use Rattle.values.specs.Decoded.{Decoded};
+ghost use Rattle.values.specs.Decoded.{blanksAt, Decoded};
 
 // What an escape gives. Its number counts bytes of text from the backslash on.
 enum Piece {
@@ -26,23 +26,31 @@ pub enum Stored {
     Full,
 }
 
-// The text after a `:` without the blanks and backslash-newline pairs at its front.
-pub fn skip_blanks(text: &[u8]) -> &[u8]
-    ensures { λ r. ⌜ now r ≡ afterBlanks (now (text .entry)) ⌝ }
+// How many bytes of blanks and backslash-newline pairs stand first.
+fn blanks(text: &[u8]) -> usize
+    ensures { λ r. ⌜ r ≡ blanksAt (now (text .entry)) ⌝ }
 {
-    let mut rest = text;
-    while rest.len() > 0 {
-        let c = rest[0];
+    let mut i = 0;
+    while i < text.len() {
+        let c = text[i];
         if scan::is_blank(c) {
-            rest = &rest[1..];
+            i += 1;
             continue;
         }
-        if c != b'\\' || rest.len() < 2 || rest[1] != b'\n' {
-            return rest;
+        if c != b'\\' || text.len() - i < 2 || text[i + 1] != b'\n' {
+            return i;
         }
-        rest = &rest[2..];
+        i += 2;
     }
-    rest
+    i
+}
+
+// The text after a `:` without the blanks and backslash-newline pairs at its front.
+pub fn skip_blanks(text: &[u8]) -> &[u8]
+    ensures { λ r. ⌜ (now r ≡ afterBlanks (now (text .entry))) × (r .ptr ≡ (text .entry .ptr .0, blanksAt (now (text .entry)) + text .entry .ptr .1)) ⌝ }
+{
+    let n = blanks(text);
+    &text[n..]
 }
 
 // The low eight bits of x * 8, by three doublings that wrap.

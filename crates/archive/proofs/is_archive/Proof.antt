@@ -23,13 +23,6 @@ returns-2 c =
     let s = start-here .args .archive .now in
     sym (laid-unfit s (bytes-all s (shared-slice-known-here .shared-slice-known .given)) (sym (fits2-here .fits2 .ensures) ∙ not-true _ (if2-here .if2 .taken)))
 
-file-count-requires : tie.Need-file-count-requires
-file-count-requires c κs =
-    let start-here = c .before .before .before .before in
-    let fits2-here = c .before in
-    let if2-here = c in
-    omega (arith, fits-room (start-here .args .archive .now) (sym (fits2-here .fits2 .ensures) ∙ not-false _ (if2-here .if2 .left)))
-
 returns-3 : tie.Need-returns-3
 returns-3 c =
     let start-here = c .before .before .before .before .before .before in
@@ -65,4 +58,6 @@ pub is-archive-spec : {M : Type 1} → statement M
 is-archive-spec =
     tie.close
     (tie.spec
-    returns (λ c κs. search needs) returns-2 file-count-requires returns-3 names-rise-requires returns-4)
+    returns (λ c κs. search needs) returns-2
+    (λ c κs. omega (arith, fits-room (c .before .before .before .before .args .archive .now) (sym (c .before .fits2 .ensures) ∙ not-false _ (c .if2 .left))))
+    returns-3 names-rise-requires returns-4)

@@ -19,38 +19,12 @@ Inv-loop archive count at₀ last₀ j₀ at last j = Walking archive count at j
 abbrev μ-loop : tie.MeasureT-loop
 μ-loop archive count at₀ last₀ j₀ at last j = count - j
 
-file-count-requires : tie.Need-file-count-requires Inv-loop μ-loop
-file-count-requires c κs =
-    let start-here = c .before in
-    omega (arith, fits-room (start-here .args .archive .now) (start-here .pre))
-
 loop-holds : tie.Need-loop-holds Inv-loop μ-loop
 loop-holds c =
     let start-here = c .before .before .before .before in
     let file-count-here = c .before .before in
     let lengths-at-here = c .before in
     rw (lengths-at-here .lengths-at .ensures) (walking-first (start-here .args .archive .now) (file-count-here .file-count .result) (file-count-here .file-count .ensures) (start-here .pre), refl)
-
-sub-name : tie.Need-sub-name Inv-loop μ-loop
-sub-name c =
-    let loop-here = c .before .before in
-    let loop-test-here = c .before in
-    let member-at-here = c in
-    omega (arith, walking-in (loop-here .loop .inv .0) (loop-test-here .loop-test .taken) (member-at-here .member-at .ensures))
-
-part-name-start : tie.Need-part-name-start Inv-loop μ-loop
-part-name-start c =
-    let loop-here = c .before .before in
-    let loop-test-here = c .before in
-    let member-at-here = c in
-    omega (arith, walking-in (loop-here .loop .inv .0) (loop-test-here .loop-test .taken) (member-at-here .member-at .ensures))
-
-part-name-end : tie.Need-part-name-end Inv-loop μ-loop
-part-name-end c =
-    let loop-here = c .before .before in
-    let loop-test-here = c .before in
-    let member-at-here = c in
-    omega (arith, walking-in (loop-here .loop .inv .0) (loop-test-here .loop-test .taken) (member-at-here .member-at .ensures))
 
 returns : tie.Need-returns Inv-loop μ-loop
 returns c =
@@ -97,6 +71,9 @@ pub names-rise-spec : {M : Type 1} → statement M
 names-rise-spec =
     tie.close
     (tie.spec
-    Inv-loop μ-loop file-count-requires (λ c κs. search needs) (λ c. search needs) loop-holds (λ c κs. search needs) sub-name
-    part-name-start part-name-end (λ c κs. search needs) returns (λ c κs. search needs) returns-2 (λ c. search needs)
-    (λ c. search needs) loop-again returns-3)
+    Inv-loop μ-loop (λ c κs. omega (arith, fits-room (c .before .args .archive .now) (c .before .pre)))
+    (λ c κs. search needs) (λ c. search needs) loop-holds (λ c κs. search needs)
+    (λ c. omega (arith, walking-in (c .before .before .loop .inv .0) (c .before .loop-test .taken) (c .member-at .ensures)))
+    (λ c. omega (arith, walking-in (c .before .before .loop .inv .0) (c .before .loop-test .taken) (c .member-at .ensures)))
+    (λ c. omega (arith, walking-in (c .before .before .loop .inv .0) (c .before .loop-test .taken) (c .member-at .ensures)))
+    (λ c κs. search needs) returns (λ c κs. search needs) returns-2 (λ c. search needs) (λ c. search needs) loop-again returns-3)

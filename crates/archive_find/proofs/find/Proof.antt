@@ -7,13 +7,13 @@ use borrow.Author.Tests.{not-true, not-false}
 use borrow.Author.Needs.{needs}
 use Rattle.definition.specs.Archive.{pathOf}
 use Rattle.archive.proofs.Walk.{laid-fits, fits-room}
-use Rattle.archive_find.proofs.Folders.{Matching, matching-first, matching-off, matching-on, matching-all, stem-long}
+use Rattle.archive_find.proofs.Folders.{Agreeing, agreeing-first, agreeing-off, agreeing-on, agreeing-all, stem-long}
 use Rattle.archive_find.proofs.Finding.{row-length, row-other, row-elsewhere, row-found, Searching, searching-first, searching-none, searching-next, searching-found, file-in}
 use Rattle.archive_find.proofs.find.Statement.{statement}
 use Rattle.archive_find.proofs.find.Tie as tie
 
 abbrev Inv-bytes : tie.InvT-bytes
-Inv-bytes archive folder name count before long found at j member start own i₀ i = Matching archive name own i
+Inv-bytes archive folder name count before long found at j member start own i₀ i = Agreeing archive name own i
 
 abbrev μ-bytes : tie.MeasureT-bytes
 μ-bytes archive folder name count before long found at j member start own i₀ i = length name - i
@@ -23,17 +23,6 @@ Inv-rows archive folder name count before long found₀ at₀ j₀ found at j = 
 
 abbrev μ-rows : tie.MeasureT-rows
 μ-rows archive folder name count before long found₀ at₀ j₀ found at j = count - j
-
-file-count-requires : tie.Need-file-count-requires Inv-bytes μ-bytes Inv-rows μ-rows
-file-count-requires c κs =
-    let start-here = c .before .before .before in
-    omega (arith, fits-room (start-here .args .archive .now) (laid-fits (start-here .args .archive .now) (start-here .pre)))
-
-add-long : tie.Need-add-long Inv-bytes μ-bytes Inv-rows μ-rows
-add-long c =
-    let start-here = c .before .before .before .before .before in
-    let stem-len-here = c in
-    omega (arith, stem-len-here .stem-len .ensures, stem-long (start-here .args .folder .now), start-here .good .1 .0 .1, start-here .good .1 .1 .0 .1)
 
 rows-holds : tie.Need-rows-holds Inv-bytes μ-bytes Inv-rows μ-rows
 rows-holds c =
@@ -49,13 +38,6 @@ member-at-requires c κs =
     let rows-test-here = c in
     let w = rows-here .rows .inv .walk .standing in
     omega (arith, w, rows-test-here .rows-test .taken)
-
-sub-if1 : tie.Need-sub-if1 Inv-bytes μ-bytes Inv-rows μ-rows
-sub-if1 c =
-    let rows-here = c .before .before .before in
-    let rows-test-here = c .before .before in
-    let member-at-here = c .before in
-    omega (arith, file-in (rows-here .rows .inv) (rows-test-here .rows-test .taken) (member-at-here .member-at .ensures))
 
 rows-again : tie.Need-rows-again Inv-bytes μ-bytes Inv-rows μ-rows
 rows-again c =
@@ -87,7 +69,7 @@ bytes-holds c =
     let member-at-here = c .before .before in
     let m = member-at-here .member-at .result in
     let if1-here = c in
-    matching-first (start-here .args .archive .now) (start-here .args .name .now) (m .start + stem-len-here .stem-len .result) (omega (arith, file-in (rows-here .rows .inv) (rows-test-here .rows-test .taken) (member-at-here .member-at .ensures), if1-here .if1 .left))
+    agreeing-first (start-here .args .archive .now) (start-here .args .name .now) (m .start + stem-len-here .stem-len .result) (omega (arith, file-in (rows-here .rows .inv) (rows-test-here .rows-test .taken) (member-at-here .member-at .ensures), if1-here .if1 .left))
 
 rows-again-2 : tie.Need-rows-again-2 Inv-bytes μ-bytes Inv-rows μ-rows
 rows-again-2 c =
@@ -102,14 +84,14 @@ rows-again-2 c =
     let bytes-test-here = c .before .before .before in
     let if2-here = c in
     searching-next (rows-here .rows .inv) (rows-test-here .rows-test .taken) (member-at-here .member-at .ensures)
-    (row-other (start-here .args .archive .now) (start-here .args .folder .now) (start-here .args .name .now) (m .start) (m .body - m .start) (stem-len-here .stem-len .result) (stem-len-here .stem-len .ensures) (omega (arith, file-in (rows-here .rows .inv) (rows-test-here .rows-test .taken) (member-at-here .member-at .ensures))) (if1-here .if1 .left) (matching-off (bytes-here .bytes .inv) (bytes-test-here .bytes-test .taken) (if2-here .if2 .taken)))
+    (row-other (start-here .args .archive .now) (start-here .args .folder .now) (start-here .args .name .now) (m .start) (m .body - m .start) (stem-len-here .stem-len .result) (stem-len-here .stem-len .ensures) (omega (arith, file-in (rows-here .rows .inv) (rows-test-here .rows-test .taken) (member-at-here .member-at .ensures))) (if1-here .if1 .left) (agreeing-off (bytes-here .bytes .inv) (bytes-test-here .bytes-test .taken) (if2-here .if2 .taken)))
 
 bytes-again : tie.Need-bytes-again Inv-bytes μ-bytes Inv-rows μ-rows
 bytes-again c =
     let bytes-here = c .before .before .before .before in
     let bytes-test-here = c .before .before .before in
     let if2-here = c in
-    matching-on (bytes-here .bytes .inv) (bytes-test-here .bytes-test .taken) (if2-here .if2 .left)
+    agreeing-on (bytes-here .bytes .inv) (bytes-test-here .bytes-test .taken) (if2-here .if2 .left)
 
 in-folder-requires : tie.Need-in-folder-requires Inv-bytes μ-bytes Inv-rows μ-rows
 in-folder-requires c κs =
@@ -154,13 +136,18 @@ returns-2 c =
     let in-folder-here = c .before in
     let if3-here = c in
     searching-found (rows-here .rows .inv) (rows-test-here .rows-test .taken) (member-at-here .member-at .ensures)
-    (row-found (start-here .args .archive .now) (start-here .args .folder .now) (start-here .args .name .now) (m .start) (m .body - m .start) (stem-len-here .stem-len .result) (stem-len-here .stem-len .ensures) (omega (arith, file-in (rows-here .rows .inv) (rows-test-here .rows-test .taken) (member-at-here .member-at .ensures))) (if1-here .if1 .left) (matching-all (bytes-here .bytes .inv) (bytes-test-here .bytes-test .left)) (sym (in-folder-here .in-folder .ensures) ∙ not-false _ (if3-here .if3 .left)))
+    (row-found (start-here .args .archive .now) (start-here .args .folder .now) (start-here .args .name .now) (m .start) (m .body - m .start) (stem-len-here .stem-len .result) (stem-len-here .stem-len .ensures) (omega (arith, file-in (rows-here .rows .inv) (rows-test-here .rows-test .taken) (member-at-here .member-at .ensures))) (if1-here .if1 .left) (agreeing-all (bytes-here .bytes .inv) (bytes-test-here .bytes-test .left)) (sym (in-folder-here .in-folder .ensures) ∙ not-false _ (if3-here .if3 .left)))
 
 pub find-spec : {M : Type 1} → statement M
 find-spec =
     tie.close
     (tie.spec
-    Inv-bytes μ-bytes Inv-rows μ-rows file-count-requires (λ c κs. search needs) add-long (λ c κs. search needs) rows-holds
-    member-at-requires (λ c. search needs) sub-if1 (λ c. search needs) rows-again add-own bytes-holds (λ c. search needs)
-    (λ c. search needs) (λ c. search needs) (λ c. search needs) rows-again-2 (λ c. search needs) (λ c. search needs) bytes-again
-    in-folder-requires (λ c. search needs) rows-again-3 returns returns-2)
+    Inv-bytes μ-bytes Inv-rows μ-rows
+    (λ c κs. omega (arith, fits-room (c .before .before .before .args .archive .now) (laid-fits (c .before .before .before .args .archive .now) (c .before .before .before .pre))))
+    (λ c κs. search needs)
+    (λ c. omega (arith, c .stem-len .ensures, stem-long (c .before .before .before .before .before .args .folder .now), c .before .before .before .before .before .good .1 .0 .1, c .before .before .before .before .before .good .1 .1 .0 .1))
+    (λ c κs. search needs) rows-holds member-at-requires (λ c. search needs)
+    (λ c. omega (arith, file-in (c .before .before .before .rows .inv) (c .before .before .rows-test .taken) (c .before .member-at .ensures)))
+    (λ c. search needs) rows-again add-own bytes-holds (λ c. search needs) (λ c. search needs) (λ c. search needs)
+    (λ c. search needs) rows-again-2 (λ c. search needs) (λ c. search needs) bytes-again in-folder-requires
+    (λ c. search needs) rows-again-3 returns returns-2)

@@ -1,6 +1,6 @@
 -- `archive_find::folder_of` meets its contract. The invariant: no `/` stands from i on. Assumes nothing.
 use mathlib.Core.Bool.{false}
-use mathlib.Core.Path.{_≡_, sym, ap}
+use mathlib.Core.Path.{_≡_, sym, ap, refl}
 use Prim.Native.Nat.{_-_, _≤_}
 use native.Mathlib.Omega.{arith}
 use lib.Seq.{drop-length, length-take-le}
@@ -38,7 +38,7 @@ returns c =
     let loop-here = c .before .before .before .before in
     let loop-test-here = c .before .before .before in
     let if1-here = c .before in
-    sym (folder-here (start-here .args .name .now) (loop-here .loop .i) (loop-test-here .loop-test .taken) (loop-here .loop .inv .0) (loop-here .loop .inv .1) (if1-here .if1 .taken))
+    (sym (folder-here (start-here .args .name .now) (loop-here .loop .i) (loop-test-here .loop-test .taken) (loop-here .loop .inv .0) (loop-here .loop .inv .1) (if1-here .if1 .taken)), refl)
 
 loop-again : tie.Need-loop-again Inv-loop μ-loop
 loop-again c =
@@ -54,7 +54,7 @@ returns-2 c =
     let loop-here = c .before .before in
     let loop-test-here = c .before in
     let z : loop-here .loop .i ≡ 0 = omega arith in
-    sym (folder-none (start-here .args .name .now) (rw z at (loop-here .loop .inv .1)))
+    (sym (folder-none (start-here .args .name .now) (rw z at (loop-here .loop .inv .1))), refl)
 
 pub folder-of-spec : {M : Type 1} → statement M
 folder-of-spec =

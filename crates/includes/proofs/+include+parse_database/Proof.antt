@@ -10,7 +10,7 @@ use Rattle.definition.specs.Archive.{filesOf}
 use Rattle.definition.specs.Text.{lineAt}
 use Rattle.archive.proofs.Walk.{Stands}
 use Rattle.image.specs.Running.{world}
-use Rattle.lines.specs.Lined.{Skips, Includes, Enters}
+use Rattle.lines.proofs.Lined.{Skips, Includes, Enters, lined}
 use Rattle.parser.specs.Putting.{Puts}
 use Rattle.includes.proofs.Opening.{no-depth, Sought, not-found, is-at, all-opened, room-on, opened}
 use Rattle.includes.proofs.Loop.{
@@ -85,7 +85,8 @@ module _ (t : ℕ) where
   -- the file stands in the archive
   stands : (c : include-lts.Else2 (include-calls t) (include-at t) include.Post) → (
       let m = c .before .before .found .given .0 .0 in
-      Stands (c .before .before .before .before .before .before .before .before .before .before .before .args .archive .now) (m .start) m
+      let find-here = c .before .before .before .before in
+      Stands (find-here .before .before .before .before .before .before .before .args .archive .now) (m .start) m
       )
   stands c = is-at (sought (c .before .before .before .before)) (c .before .before .found .given .1) .inside
 
@@ -94,47 +95,24 @@ module _ (t : ℕ) where
       let a = c .before .before .before .before .before .before .args in
       no-depth (a .archive .now) (a .folder .now) (a .name .now) (a .depth) (a .totals) (a .words .now) (a .store .now) (c .if1 .taken)
 
-  include-returns-2 : include-lts.Need-returns-2 (include-calls t) (include-at t) include.Post
-  include-returns-2 c = not-found (sought (c .before .before)) (c .enum-told .given .1)
-
-  include-returns-3 : include-lts.Need-returns-3 (include-calls t) (include-at t) include.Post
-  include-returns-3 c = all-opened (sought (c .before .before .before .before)) (c .before .before .found .given .1) (c .if2 .taken)
-
-  include-sub-folder-of : include-lts.Need-sub-folder-of (include-calls t) (include-at t) include.Post
-  include-sub-folder-of c = stands c .name-in
-
-  include-part-folder-of-start : include-lts.Need-part-folder-of-start (include-calls t) (include-at t) include.Post
-  include-part-folder-of-start c = let s = stands c in omega (arith, s .name-in, s .body-in, s .end-in)
-
-  include-part-folder-of-end : include-lts.Need-part-folder-of-end (include-calls t) (include-at t) include.Post
-  include-part-folder-of-end c = let s = stands c in omega (arith, s .name-in, s .body-in, s .end-in)
-
-  include-sub-parse-database : include-lts.Need-sub-parse-database (include-calls t) (include-at t) include.Post
-  include-sub-parse-database c = stands (c .before .before) .body-in
-
-  include-part-parse-database-start : include-lts.Need-part-parse-database-start (include-calls t) (include-at t) include.Post
-  include-part-parse-database-start c = let s = stands (c .before .before) in omega (arith, s .body-in, s .end-in)
-
-  include-part-parse-database-end : include-lts.Need-part-parse-database-end (include-calls t) (include-at t) include.Post
-  include-part-parse-database-end c = let s = stands (c .before .before) in omega (arith, s .body-in, s .end-in)
-
   include-parse-database-requires : include-lts.Need-parse-database-requires (include-calls t) (include-at t) include.Post
   include-parse-database-requires c κs =
       let here = c .before .before .before .before .before in
-      let start-here = here .before .before .before .before .before .before .before .before .before .before .before in
-      (omega (arith, start-here .pre .0, here .before .before .before .before .before .if1 .left), (room-on (sought (here .before .before .before .before)) (here .before .before .found .given .1) (here .if2 .left), start-here .pre .1 .1))
+      let find-here = here .before .before .before .before in
+      let start-here = find-here .before .before .before .before .before .before .before in
+      (omega (arith, start-here .pre .0, find-here .before .if1 .left), (room-on (sought find-here) (here .before .before .found .given .1) (here .if2 .left), start-here .pre .1 .1))
 
   include-returns-4 : include-lts.Need-returns-4 (include-calls t) (include-at t) include.Post
   include-returns-4 c =
       let call-here = c .before .before .before .before in
       let here = call-here .before .before .before .before .before .before in
-      opened (sought (here .before .before .before .before)) (here .before .before .found .given .1) (here .if2 .left) (call-here .before .before .before .before .folder-of .ensures) _ _ _ (call-here .parse-database .ensures)
+      opened (sought (here .before .before .before .before)) (here .before .before .found .given .1) (here .if2 .left) (call-here .before .before .before .before .folder-of .ensures .0) _ _ _ (call-here .parse-database .ensures)
 
   -- ---- A text
 
   -- a line that is passed over
   skipped : (c : parse-database-lts.After-known-told (parse-database-calls t) (parse-database-at t) parse-database.Post Inv-loop μ-loop) → (let rest = c .before .before .before .before .before .loop .rest .now in Skips rest (lineAt rest) (c .before .line .given .0 .0))
-  skipped c = rw (c .before .line .given .1) at (c .before .before .before .parse-line .ensures)
+  skipped c = rw (c .before .line .given .1) at (lined _ (c .before .before .before .before .loop-test .taken) (c .before .before .before .parse-line .ensures))
 
   -- an include
   named : (c : parse-database-lts.After-known-told2 (parse-database-calls t) (parse-database-at t) parse-database.Post Inv-loop μ-loop) → (
@@ -142,7 +120,7 @@ module _ (t : ℕ) where
       let given = c .before .line2 .given .0 in
       Includes rest (lineAt rest) (given .0) (given .1 .0) (given .1 .1 .0)
       )
-  named c = rw (c .before .line2 .given .1) at (c .before .before .before .parse-line .ensures)
+  named c = rw (c .before .line2 .given .1) at (lined _ (c .before .before .before .before .loop-test .taken) (c .before .before .before .parse-line .ensures))
 
   -- an entry
   entered : (c : parse-database-lts.After-known-told5 (parse-database-calls t) (parse-database-at t) parse-database.Post Inv-loop μ-loop) → (
@@ -150,52 +128,44 @@ module _ (t : ℕ) where
       let given = c .before .line3 .given .0 in
       Enters rest (lineAt rest) (given .0) (given .1 .0) (given .1 .1 .0)
       )
-  entered c = rw (c .before .line3 .given .1) at (c .before .before .before .parse-line .ensures)
+  entered c = rw (c .before .line3 .given .1) at (lined _ (c .before .before .before .before .loop-test .taken) (c .before .before .before .parse-line .ensures))
 
   -- which is stored
   put : (c : parse-database-lts.After-known-told6 (parse-database-calls t) (parse-database-at t) parse-database.Post Inv-loop μ-loop) → (
-      let loop = c .before .before .before .before .before .before .before .before .before .before .before .before .before .before .before .loop in
-      let call = c .before .before .before .before .before .before .before .parse-entry in
-      Puts (loop .rest .now) (c .before .before .before .before .before .before .before .before .before .before .before .line3 .given .0 .0) (world (loop .s) (loop .words) (loop .store))
+      let call-here = c .before .before .before .before .before .before .before in
+      let line-here = call-here .before .before .before in
+      let loop = line-here .before .before .before .before .before .loop in
+      let call = call-here .parse-entry in
+      Puts (loop .rest .now) (line-here .before .line3 .given .0 .0) (world (loop .s) (loop .words) (loop .store))
       (call .last .1 .1 .1 .1 .1 .0) (call .last .1 .1 .1 .1 .1 .1 .0) (c .before .put .given .0 .0) (c .before .put .given .0 .1 .0)
       )
   put c = rw (c .before .put .given .1) at (c .before .before .before .before .before .before .before .parse-entry .ensures)
 
-  parse-database-loop-holds : parse-database-lts.Need-loop-holds (parse-database-calls t) (parse-database-at t) parse-database.Post Inv-loop μ-loop
-  parse-database-loop-holds c = reading-first _ _ _ (c .before .before .before .before .before .pre .1 .0)
-
-  parse-database-sub-rest : parse-database-lts.Need-sub-rest (parse-database-calls t) (parse-database-at t) parse-database.Post Inv-loop μ-loop
-  parse-database-sub-rest c = skipped c .inside
-
-  parse-database-part-rest-start : parse-database-lts.Need-part-rest-start (parse-database-calls t) (parse-database-at t) parse-database.Post Inv-loop μ-loop
-  parse-database-part-rest-start c = skipped c .inside
-
-  parse-database-loop-less : parse-database-lts.Need-loop-less (parse-database-calls t) (parse-database-at t) parse-database.Post Inv-loop μ-loop
-  parse-database-loop-less c = skip-less (c .before .before .before .before .before .before .loop .inv) (skipped (c .before))
-
-  parse-database-loop-again : parse-database-lts.Need-loop-again (parse-database-calls t) (parse-database-at t) parse-database.Post Inv-loop μ-loop
-  parse-database-loop-again c = reading-skip (c .before .before .before .before .before .before .loop .inv) (skipped (c .before))
-
   parse-database-add-name : parse-database-lts.Need-add-name (parse-database-calls t) (parse-database-at t) parse-database.Post Inv-loop μ-loop
-  parse-database-add-name c = omega (arith, named c .named, c .before .before .before .before .before .loop .inv .rest-most, c .before .before .before .before .before .before .before .before .before .before .before .good .0 .0)
-
-  parse-database-part-name-end : parse-database-lts.Need-part-name-end (parse-database-calls t) (parse-database-at t) parse-database.Post Inv-loop μ-loop
-  parse-database-part-name-end c = named c .named
+  parse-database-add-name c =
+      let loop-here = c .before .before .before .before .before in
+      omega (arith, named c .named, loop-here .loop .inv .rest-most, loop-here .before .before .before .before .before .before .good .0 .0)
 
   parse-database-include-requires : parse-database-lts.Need-include-requires (parse-database-calls t) (parse-database-at t) parse-database.Post Inv-loop μ-loop
   parse-database-include-requires c κs =
-      let start-here = c .before .before .before .before .before .before .before .before .before .before .before .before .before .before in
-      (omega (arith, start-here .pre .0), (c .before .before .before .before .before .before .before .before .loop .inv .room, start-here .pre .1 .1))
+      let loop-here = c .before .before .before .before .before .before .before .before in
+      let start-here = loop-here .before .before .before .before .before .before in
+      (omega (arith, start-here .pre .0), (loop-here .loop .inv .room, start-here .pre .1 .1))
 
   parse-database-sub-rest-2 : parse-database-lts.Need-sub-rest-2 (parse-database-calls t) (parse-database-at t) parse-database.Post Inv-loop μ-loop
-  parse-database-sub-rest-2 c = named (c .before .before .before .before .before .before .before .before .before .before .before) .inside
+  parse-database-sub-rest-2 c =
+      let call-here = c .before .before .before .before .before .before .before in
+      named (call-here .before .before .before .before) .inside
 
   parse-database-part-rest-start-2 : parse-database-lts.Need-part-rest-start-2 (parse-database-calls t) (parse-database-at t) parse-database.Post Inv-loop μ-loop
-  parse-database-part-rest-start-2 c = named (c .before .before .before .before .before .before .before .before .before .before .before) .inside
+  parse-database-part-rest-start-2 c =
+      let call-here = c .before .before .before .before .before .before .before in
+      named (call-here .before .before .before .before) .inside
 
   parse-database-loop-less-2 : parse-database-lts.Need-loop-less-2 (parse-database-calls t) (parse-database-at t) parse-database.Post Inv-loop μ-loop
   parse-database-loop-less-2 c =
-      let line-here = c .before .before .before .before .before .before .before .before .before .before .before .before in
+      let call-here = c .before .before .before .before .before .before .before .before in
+      let line-here = call-here .before .before .before .before in
       include-less (line-here .before .before .before .before .before .loop .inv) (named line-here)
 
   parse-database-loop-again-2 : parse-database-lts.Need-loop-again-2 (parse-database-calls t) (parse-database-at t) parse-database.Post Inv-loop μ-loop
@@ -206,10 +176,16 @@ module _ (t : ℕ) where
       reading-include (line-here .before .before .before .before .before .loop .inv) (named line-here) _ _ _ (rw (c .before .before .step .given .1) at (call-here .include .ensures)) (kept .0) (kept .1 .0)
 
   parse-database-same-length : parse-database-lts.Need-same-length (parse-database-calls t) (parse-database-at t) parse-database.Post Inv-loop μ-loop
-  parse-database-same-length c = c .before .before .before .before .before .before .before .include .kept .1 .1 .1 .1 .1 .0 ∙ c .before .before .before .before .before .before .before .before .before .before .before .before .before .before .before .before .loop .inv .words-same
+  parse-database-same-length c =
+      let call-here = c .before .before .before .before .before .before .before in
+      let line-here = call-here .before .before .before .before in
+      call-here .include .kept .1 .1 .1 .1 .1 .0 ∙ line-here .before .before .before .before .before .loop .inv .words-same
 
   parse-database-same-length-2 : parse-database-lts.Need-same-length-2 (parse-database-calls t) (parse-database-at t) parse-database.Post Inv-loop μ-loop
-  parse-database-same-length-2 c = c .before .before .before .before .before .before .before .include .kept .1 .1 .1 .1 .1 .1 .0 ∙ c .before .before .before .before .before .before .before .before .before .before .before .before .before .before .before .before .loop .inv .bytes-same
+  parse-database-same-length-2 c =
+      let call-here = c .before .before .before .before .before .before .before in
+      let line-here = call-here .before .before .before .before in
+      call-here .include .kept .1 .1 .1 .1 .1 .1 .0 ∙ line-here .before .before .before .before .before .loop .inv .bytes-same
 
   parse-database-returns : parse-database-lts.Need-returns (parse-database-calls t) (parse-database-at t) parse-database.Post Inv-loop μ-loop
   parse-database-returns c =
@@ -223,45 +199,68 @@ module _ (t : ℕ) where
       record { inside = l .inside; parts = l .parts; key = l .key; room = c .before .before .before .before .before .before .before .loop .inv .room }
 
   parse-database-sub-rest-3 : parse-database-lts.Need-sub-rest-3 (parse-database-calls t) (parse-database-at t) parse-database.Post Inv-loop μ-loop
-  parse-database-sub-rest-3 c = entry-inside (c .before .before .before .before .before .before .before .before .before .before .before .before .before .before .before .loop .inv) (entered (c .before .before .before .before .before .before .before .before .before .before)) (put c)
+  parse-database-sub-rest-3 c =
+      let call-here = c .before .before .before .before .before .before .before in
+      let line-here = call-here .before .before .before in
+      entry-inside (line-here .before .before .before .before .before .loop .inv) (entered line-here) (put c)
 
   parse-database-part-rest-start-3 : parse-database-lts.Need-part-rest-start-3 (parse-database-calls t) (parse-database-at t) parse-database.Post Inv-loop μ-loop
-  parse-database-part-rest-start-3 c = entry-inside (c .before .before .before .before .before .before .before .before .before .before .before .before .before .before .before .loop .inv) (entered (c .before .before .before .before .before .before .before .before .before .before)) (put c)
+  parse-database-part-rest-start-3 c =
+      let call-here = c .before .before .before .before .before .before .before in
+      let line-here = call-here .before .before .before in
+      entry-inside (line-here .before .before .before .before .before .loop .inv) (entered line-here) (put c)
 
   parse-database-loop-less-3 : parse-database-lts.Need-loop-less-3 (parse-database-calls t) (parse-database-at t) parse-database.Post Inv-loop μ-loop
-  parse-database-loop-less-3 c = entry-less (c .before .before .before .before .before .before .before .before .before .before .before .before .before .before .before .before .loop .inv) (entered (c .before .before .before .before .before .before .before .before .before .before .before)) (put (c .before))
+  parse-database-loop-less-3 c =
+      let call-here = c .before .before .before .before .before .before .before .before in
+      let line-here = call-here .before .before .before in
+      entry-less (line-here .before .before .before .before .before .loop .inv) (entered line-here) (put (c .before))
 
   parse-database-loop-again-3 : parse-database-lts.Need-loop-again-3 (parse-database-calls t) (parse-database-at t) parse-database.Post Inv-loop μ-loop
   parse-database-loop-again-3 c =
-      let kept = c .before .before .before .before .before .before .before .before .parse-entry .kept .1 .1 .1 .1 .1 in
-      reading-entry (c .before .before .before .before .before .before .before .before .before .before .before .before .before .before .before .before .loop .inv) (entered (c .before .before .before .before .before .before .before .before .before .before .before)) (put (c .before)) (kept .0) (kept .1 .0)
+      let call-here = c .before .before .before .before .before .before .before .before in
+      let line-here = call-here .before .before .before in
+      let kept = call-here .parse-entry .kept .1 .1 .1 .1 .1 in
+      reading-entry (line-here .before .before .before .before .before .loop .inv) (entered line-here) (put (c .before)) (kept .0) (kept .1 .0)
 
   parse-database-same-length-3 : parse-database-lts.Need-same-length-3 (parse-database-calls t) (parse-database-at t) parse-database.Post Inv-loop μ-loop
-  parse-database-same-length-3 c = c .before .before .before .before .before .before .before .parse-entry .kept .1 .1 .1 .1 .1 .0 ∙ c .before .before .before .before .before .before .before .before .before .before .before .before .before .before .before .loop .inv .words-same
+  parse-database-same-length-3 c =
+      let call-here = c .before .before .before .before .before .before .before in
+      let line-here = call-here .before .before .before in
+      call-here .parse-entry .kept .1 .1 .1 .1 .1 .0 ∙ line-here .before .before .before .before .before .loop .inv .words-same
 
   parse-database-same-length-4 : parse-database-lts.Need-same-length-4 (parse-database-calls t) (parse-database-at t) parse-database.Post Inv-loop μ-loop
-  parse-database-same-length-4 c = c .before .before .before .before .before .before .before .parse-entry .kept .1 .1 .1 .1 .1 .1 .0 ∙ c .before .before .before .before .before .before .before .before .before .before .before .before .before .before .before .loop .inv .bytes-same
+  parse-database-same-length-4 c =
+      let call-here = c .before .before .before .before .before .before .before in
+      let line-here = call-here .before .before .before in
+      call-here .parse-entry .kept .1 .1 .1 .1 .1 .1 .0 ∙ line-here .before .before .before .before .before .loop .inv .bytes-same
 
   parse-database-returns-2 : parse-database-lts.Need-returns-2 (parse-database-calls t) (parse-database-at t) parse-database.Post Inv-loop μ-loop
-  parse-database-returns-2 c = entry-stops (c .before .before .before .before .before .before .before .before .before .before .before .before .before .before .before .loop .inv) (entered (c .before .before .before .before .before .before .before .before .before .before)) _ _ _ (rw (c .before .put2 .given .1) at (c .before .before .before .before .before .before .before .parse-entry .ensures))
-
-  parse-database-returns-3 : parse-database-lts.Need-returns-3 (parse-database-calls t) (parse-database-at t) parse-database.Post Inv-loop μ-loop
-  parse-database-returns-3 c = reading-done (c .before .loop .inv) (c .loop-test .left)
+  parse-database-returns-2 c =
+      let call-here = c .before .before .before .before .before .before .before in
+      let line-here = call-here .before .before .before in
+      entry-stops (line-here .before .before .before .before .before .loop .inv) (entered line-here) _ _ _ (rw (c .before .put2 .given .1) at (call-here .parse-entry .ensures))
 
 pub +include+parse-database-spec : {M : Type 1} → statement M
 +include+parse-database-spec = close μ-include μ-parse-database
     (λ t. include-lts.spec (include-calls t) (include-at t) include.Post
-    (include-returns t) (λ c κs. search needs) (λ c. search needs) (λ c. search needs) (include-returns-2 t) (include-returns-3 t) (λ c. search needs)
-    (include-sub-folder-of t) (include-part-folder-of-start t) (include-part-folder-of-end t) (λ c κs. search needs) (include-sub-parse-database t)
-    (include-part-parse-database-start t) (include-part-parse-database-end t) (λ c. search needs) (include-parse-database-requires t)
+    (include-returns t) (λ c κs. search needs) (λ c. search needs) (λ c. search needs)
+    (λ c. not-found (sought t (c .before .before)) (c .enum-told .given .1))
+    (λ c. all-opened (sought t (c .before .before .before .before)) (c .before .before .found .given .1) (c .if2 .taken)) (λ c. search needs)
+    (λ c. stands t c .name-in) (λ c. let s = stands t c in omega (arith, s .name-in, s .body-in, s .end-in))
+    (λ c. let s = stands t c in omega (arith, s .name-in, s .body-in, s .end-in)) (λ c κs. search needs) (λ c. stands t (c .before .before) .body-in)
+    (λ c. let s = stands t (c .before .before) in omega (arith, s .body-in, s .end-in))
+    (λ c. let s = stands t (c .before .before) in omega (arith, s .body-in, s .end-in)) (λ c. search needs) (include-parse-database-requires t)
     (λ c. search needs) (λ c. search needs) (include-returns-4 t))
     λ t. parse-database-lts.spec (parse-database-calls t) (parse-database-at t) parse-database.Post Inv-loop μ-loop
-    (parse-database-loop-holds t) (λ c κs. search needs) (λ c. search needs) (parse-database-sub-rest t) (parse-database-part-rest-start t)
-    (λ c. search needs) (parse-database-loop-less t) (parse-database-loop-again t) (λ c. search needs) (parse-database-add-name t) (λ c. search needs)
-    (λ c. search needs) (parse-database-part-name-end t) (parse-database-include-requires t) (λ c. search needs) (parse-database-sub-rest-2 t)
-    (parse-database-part-rest-start-2 t) (λ c. search needs) (parse-database-loop-less-2 t) (parse-database-loop-again-2 t) (λ c. search needs)
-    (parse-database-same-length t) (parse-database-same-length-2 t) (parse-database-returns t) (λ c. search needs)
-    (parse-database-parse-entry-requires t) (λ c. search needs) (parse-database-sub-rest-3 t) (parse-database-part-rest-start-3 t) (λ c. search needs)
-    (parse-database-loop-less-3 t) (parse-database-loop-again-3 t) (λ c. search needs) (parse-database-same-length-3 t)
+    (λ c. reading-first _ _ _ (c .before .before .before .before .before .pre .1 .0)) (λ c κs. search needs) (λ c. search needs)
+    (λ c. skipped t c .inside) (λ c. skipped t c .inside) (λ c. search needs)
+    (λ c. skip-less (c .before .before .before .before .before .before .loop .inv) (skipped t (c .before)))
+    (λ c. reading-skip (c .before .before .before .before .before .before .loop .inv) (skipped t (c .before))) (λ c. search needs)
+    (parse-database-add-name t) (λ c. search needs) (λ c. search needs) (λ c. named t c .named) (parse-database-include-requires t)
+    (λ c. search needs) (parse-database-sub-rest-2 t) (parse-database-part-rest-start-2 t) (λ c. search needs) (parse-database-loop-less-2 t)
+    (parse-database-loop-again-2 t) (λ c. search needs) (parse-database-same-length t) (parse-database-same-length-2 t) (parse-database-returns t)
+    (λ c. search needs) (parse-database-parse-entry-requires t) (λ c. search needs) (parse-database-sub-rest-3 t) (parse-database-part-rest-start-3 t)
+    (λ c. search needs) (parse-database-loop-less-3 t) (parse-database-loop-again-3 t) (λ c. search needs) (parse-database-same-length-3 t)
     (parse-database-same-length-4 t) (parse-database-returns-2 t) (λ c. c .before .loop .inv .words-same) (λ c. c .before .loop .inv .bytes-same)
-    (parse-database-returns-3 t)
+    (λ c. reading-done (c .before .loop .inv) (c .loop-test .left))

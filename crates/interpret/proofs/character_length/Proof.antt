@@ -13,31 +13,16 @@ use Rattle.interpret.proofs.Characters.{taken-ascii, taken-none, taken-
 use Rattle.interpret.proofs.character_length.Statement.{statement}
 use Rattle.interpret.proofs.character_length.Tie as tie
 
-shared-slice-read-first : tie.Need-shared-slice-read-first
-shared-slice-read-first c = search needs
-
 returns : tie.Need-returns
 returns c =
     let start-here = c .before .before .before in
     taken-ascii (start-here .args .text .now) (start-here .pre) (c .if1 .taken)
-
-lead-of-requires : tie.Need-lead-of-requires
-lead-of-requires c κs = search needs
-
-enum-known-row : tie.Need-enum-known-row
-enum-known-row c = search needs
-
-enum-told : tie.Need-enum-told
-enum-told c = search needs
 
 returns-2 : tie.Need-returns-2
 returns-2 c =
     let start-here = c .before .before .before .before .before .before in
     let lead-of-here = c .before .before in
     taken-none (start-here .args .text .now) (start-here .pre) (rw (c .enum-told .given .1) at (lead-of-here .lead-of .ensures))
-
-sub-if2 : tie.Need-sub-if2
-sub-if2 c = search needs
 
 -- what the row says of the first byte
 told : (c : tie.After-row) (u : List ℕ)
@@ -54,12 +39,6 @@ returns-3 c =
     let h : 0 < length text = start-here .pre in
     taken-short text h (v .0) (v .1 .0) (v .1 .1 .0) (told row-here) (omega (arith, c .if2 .taken))
 
-shared-slice-read-in-range : tie.Need-shared-slice-read-in-range
-shared-slice-read-in-range c = search needs
-
-in-range-requires : tie.Need-in-range-requires
-in-range-requires c κs = search needs
-
 returns-4 : tie.Need-returns-4
 returns-4 c =
     let start-here = c .before .before .before .before .before .before .before .before .before .before .before in
@@ -70,18 +49,6 @@ returns-4 c =
     let h : 0 < length text = start-here .pre in
     let k : 2 + v .1 .1 .0 ≤ length text = omega (arith, if2-here .if2 .left) in
     taken-second text h (v .0) (v .1 .0) (v .1 .1 .0) (told row-here) k (sym (c .before .in-range .ensures) ∙ not-true _ (c .if3 .taken))
-
-sub-trails : tie.Need-sub-trails
-sub-trails c = search needs
-
-part-trails-start : tie.Need-part-trails-start
-part-trails-start c = search needs
-
-part-trails-end : tie.Need-part-trails-end
-part-trails-end c = search needs
-
-trails-requires : tie.Need-trails-requires
-trails-requires c κs = search needs
 
 returns-5 : tie.Need-returns-5
 returns-5 c =
@@ -97,9 +64,6 @@ returns-5 c =
     taken-trail text h (v .0) (v .1 .0) (v .1 .1 .0) (told row-here) k
     (sym (in-range-here .in-range .ensures) ∙ not-false _ (if3-here .if3 .left))
     (followed text (v .1 .1 .0) false (c .before .trails .result) (c .before .trails .ensures) (not-true _ (c .if4 .taken)))
-
-add-result : tie.Need-add-result
-add-result c = search needs
 
 returns-6 : tie.Need-returns-6
 returns-6 c =
@@ -120,21 +84,6 @@ pub character-length-spec : {M : Type 1} → statement M
 character-length-spec =
     tie.close
     (tie.spec
-    shared-slice-read-first
-    returns
-    lead-of-requires
-    enum-known-row
-    enum-told
-    returns-2
-    sub-if2
-    returns-3
-    shared-slice-read-in-range
-    in-range-requires
-    returns-4
-    sub-trails
-    part-trails-start
-    part-trails-end
-    trails-requires
-    returns-5
-    add-result
-    returns-6)
+    (λ c. search needs) returns (λ c κs. search needs) (λ c. search needs) (λ c. search needs) returns-2 (λ c. search needs)
+    returns-3 (λ c. search needs) (λ c κs. search needs) returns-4 (λ c. search needs) (λ c. search needs) (λ c. search needs)
+    (λ c κs. search needs) returns-5 (λ c. search needs) returns-6)

@@ -18,12 +18,6 @@ abbrev μ-loop : tie.MeasureT-loop
 loop-holds : tie.Need-loop-holds Inv-loop μ-loop
 loop-holds c = (search needs, trails-first (c .before .args .text .now) (c .before .args .n))
 
-shared-slice-read-in-range : tie.Need-shared-slice-read-in-range Inv-loop μ-loop
-shared-slice-read-in-range c = search needs
-
-in-range-requires : tie.Need-in-range-requires Inv-loop μ-loop
-in-range-requires c κs = search needs
-
 returns : tie.Need-returns Inv-loop μ-loop
 returns c =
     let start-here = c .before .before .before .before .before .before in
@@ -34,12 +28,6 @@ returns c =
     let h : i < n = search needs in
     let k : i < length t = search needs in
     loop-here .loop .inv .1 ∙ trails-stop t n i h k (sym (c .before .in-range .ensures) ∙ not-true _ (c .if1 .taken))
-
-add-i : tie.Need-add-i Inv-loop μ-loop
-add-i c = search needs
-
-loop-less : tie.Need-loop-less Inv-loop μ-loop
-loop-less c = search needs
 
 loop-again : tie.Need-loop-again Inv-loop μ-loop
 loop-again c =
@@ -62,13 +50,5 @@ pub trails-spec : {M : Type 1} → statement M
 trails-spec =
     tie.close
     (tie.spec
-    Inv-loop
-    μ-loop
-    loop-holds
-    shared-slice-read-in-range
-    in-range-requires
-    returns
-    add-i
-    loop-less
-    loop-again
-    returns-2)
+    Inv-loop μ-loop loop-holds (λ c. search needs) (λ c κs. search needs) returns (λ c. search needs) (λ c. search needs)
+    loop-again returns-2)

@@ -24,7 +24,7 @@ keyed c =
       fits = limits-here .if3 .left;
       written = w .ensures;
       long = w .kept .1 .0;
-      is = c .before .before .skip-blanks .ensures;
+      is = c .before .before .skip-blanks .ensures .0;
     }
 
 -- the value is stored behind it

@@ -2,7 +2,7 @@
 use mathlib.Core.List.{[]}
 use mathlib.Core.Path.{_∙_}
 use borrow.Author.Needs.{needs}
-use Rattle.reader.proofs.Finishing.{ready-after, text-finished}
+use Rattle.reader.proofs.Finishing.{text-ready, text-finished}
 use Rattle.reader.proofs.fill.Statement.{statement}
 use Rattle.reader.proofs.fill.Tie as tie
 
@@ -13,7 +13,7 @@ finish-requires c κs =
     let a = start-here .args in
     let call = call-here .parse-database in
     let kept = call .kept .1 .1 .1 .1 .1 in
-    ready-after (a .words .now) (a .store .now) (start-here .pre .0) (start-here .pre .1) _ (call .result) _ _ (call .ensures []) (kept .0) (kept .1 .0)
+    text-ready (a .text .now) (a .archive .now) (a .words .now) (a .store .now) (start-here .pre .0) (start-here .pre .1) _ _ _ (call .ensures []) (kept .0) (kept .1 .0)
 
 returns : tie.Need-returns
 returns c =

@@ -45,25 +45,10 @@ loop-holds c =
     let start-here = c .before .before in
     decoding-first (start-here .args .text .now) (start-here .args .store .now) (start-here .args .at) (start-here .pre)
 
-same-length : tie.Need-same-length Inv-loop μ-loop
-same-length c = c .before .before .before .loop .inv .kept
-
 returns : tie.Need-returns Inv-loop μ-loop
 returns c =
     let loop-here = c .before .before .before in
     decoded (loop-here .loop .inv) (ended _ _ (c .before .before .loop-test .taken) (c .if1 .taken))
-
-same-length-2 : tie.Need-same-length-2 Inv-loop μ-loop
-same-length-2 c = turn (c .before .before) .loop .inv .kept
-
-returns-2 : tie.Need-returns-2 Inv-loop μ-loop
-returns-2 c = full (turn (c .before .before) .loop .inv) (plain-in (c .before)) (c .if3 .taken)
-
-loop-again : tie.Need-loop-again Inv-loop μ-loop
-loop-again c = byte-more (turn (c .before .before) .loop .inv) (plain-in (c .before)) (c .if3 .left)
-
-same-length-3 : tie.Need-same-length-3 Inv-loop μ-loop
-same-length-3 c = turn (c .before .before .before .before .before .before .before) .loop .inv .kept
 
 returns-3 : tie.Need-returns-3 Inv-loop μ-loop
 returns-3 c =
@@ -98,12 +83,6 @@ loop-less-3 c =
 loop-again-3 : tie.Need-loop-again-3 Inv-loop μ-loop
 loop-again-3 c = drop-more (turn (c .before .before .before .before .before .before) .loop .inv) (drop-in c)
 
-same-length-4 : tie.Need-same-length-4 Inv-loop μ-loop
-same-length-4 c = c .before .loop .inv .kept
-
-returns-4 : tie.Need-returns-4 Inv-loop μ-loop
-returns-4 c = decoded (c .before .loop .inv) (over _ _ (c .loop-test .left))
-
 pub parse-value-spec : {M : Type 1} → statement M
 parse-value-spec =
     tie.close
@@ -112,22 +91,22 @@ parse-value-spec =
     μ-loop
     loop-holds
     (λ c. omega arith)
-    same-length
+    (λ c. c .before .before .before .loop .inv .kept)
     returns
-    same-length-2
-    returns-2
+    (λ c. turn (c .before .before) .loop .inv .kept)
+    (λ c. full (turn (c .before .before) .loop .inv) (plain-in (c .before)) (c .if3 .taken))
     (λ c. omega arith)
     (λ c. omega arith)
     (λ c. omega arith)
     (λ c. omega arith)
-    loop-again
+    (λ c. byte-more (turn (c .before .before) .loop .inv) (plain-in (c .before)) (c .if3 .left))
     (λ c. omega arith)
     (λ c. omega arith)
     (λ c. search needs)
     (λ c. search needs)
     (λ c κs. search needs)
     (λ c. search needs)
-    same-length-3
+    (λ c. turn (c .before .before .before .before .before .before .before) .loop .inv .kept)
     returns-3
     (λ c. omega arith)
     (λ c. omega arith)
@@ -138,5 +117,5 @@ parse-value-spec =
     add-i-3
     loop-less-3
     loop-again-3
-    same-length-4
-    returns-4)
+    (λ c. c .before .loop .inv .kept)
+    (λ c. decoded (c .before .loop .inv) (over _ _ (c .loop-test .left))))
