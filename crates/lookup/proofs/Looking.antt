@@ -1,5 +1,5 @@
 -- The loop over the entries, and the tests before it. Assumes nothing.
-use mathlib.Core.Bool.{Bool, true, false, not, or-true}
+use mathlib.Core.Bool.{Bool, true, false, not}
 use mathlib.Core.List.{List, [], _∷_, map}
 use mathlib.Core.Option.{Option, some, none}
 use mathlib.Core.Path.{_≡_, refl, sym, ap, _∙_}
@@ -7,30 +7,28 @@ use Prim.Native.Nat.{ℕ, zero, suc, _+_, _-_, _*_, _≤_, _<_, max}
 use native.Mathlib.Numerals.{add-one}
 use native.Mathlib.Nat.{sub-zero}
 use native.Mathlib.Omega.{arith}
-use lib.Dec.{ltb}
 use lib.ListN.{length, getD, take, drop}
 use lib.Seq.{slice}
-use borrow.Author.Tests.{lt-ltb, le-ltb}
 use Rattle.definition.specs.Lists.{if_then_else_}
-use Rattle.definition.specs.Limits.{bodyBytes, queryBytes, queryParts, mostEntries}
+use Rattle.definition.specs.Limits.{bodyBytes, mostEntries}
 use Rattle.definition.specs.Text.{Part, Entry}
 use Rattle.definition.specs.Image.{Row, rowsFrom, rowsIn, countOf, usedOf, keyEnd, valueEnd, keyAt, keyParts, entriesIn, isKey, isImage}
-use Rattle.definition.specs.Query.{Position, Query, positions, malformed, pastLimit, positionsOf, namesOf, countedQuery, queryOf}
+use Rattle.definition.specs.Query.{Position, Query, positions, malformed, pastLimit, positionsOf, queryOf}
 use Rattle.definition.specs.Ranking.{Best, noEntry, best, rankOf, better, bestFrom, bestOf}
 use Rattle.definition.specs.Lookup.{keysOf, Reply, given, noValue, refused, Place, placeOf, lookup, getBytes}
-use Rattle.query.specs.Splits.{namesIn, Inside, GoodSplit, ManyNames, Answered}
-use Rattle.query.specs.declared.Split.{Split}
+use Rattle.query.specs.Splits.{namesIn}
+use Rattle.query.specs.Shapes.{parsedNames, bothShapes, shaped}
+use Rattle.query.specs.declared.Names.{Names}
 use Rattle.query.specs.declared.Shape.{Shape}
-use Rattle.query.specs.declared.Shape.the-variants.{Good, Malformed, Many}
-use Rattle.query.proofs.Splits.{length-names}
+use Rattle.query.proofs.Queries.{query-is}
 use Rattle.laws.proofs.Lists.{part-slice}
 use Rattle.laws.proofs.Ranking.{best-beats}
 use Rattle.matcher.specs.Rows.{rowIn, bestIn}
 use Rattle.matcher.specs.declared.Row.{Row as Marks}
-use Rattle.image_judge.specs.Rows.{rowAt}
-use Rattle.image_judge.proofs.Rows.{rowsLeft, rows-turn, row-is, count-rows}
+use Rattle.image.specs.Rows.{rowAt, rowsLeft}
+use Rattle.image.proofs.Rows.{rows-turn, row-is, count-rows}
 use Rattle.image_judge.proofs.Judged.{Judged, judged}
-use Rattle.lookup.specs.Replies.{bothShapes, Extends}
+use Rattle.lookup.specs.Replies.{Extends}
 use Rattle.lookup.specs.declared.Extent.{Extent}
 
 -- ---- One entry
@@ -103,68 +101,6 @@ module _ (contents bodies : List ℕ) (qs : List Position) where
     unfolding lookup placeOf
     finds e = rw (is-best e, row-is contents at (record { start = 0; keyLength = 0; valueLength = 0 }) (best-inside e)) refl
 
--- ---- The query
-
-module _ (name class : List ℕ) where
-  pub query-long : queryBytes < length name → queryOf name class ≡ pastLimit 9
-  unfolding queryOf
-  query-long h = rw (lt-ltb queryBytes (length name) h) refl
-
-  module _ (hn : length name ≤ queryBytes) where
-    pub class-long : queryBytes < length class → queryOf name class ≡ pastLimit 9
-    unfolding queryOf
-    class-long h = rw (le-ltb queryBytes (length name) hn, lt-ltb queryBytes (length class) h) refl
-
-    module _ (hc : length class ≤ queryBytes) where
-      counted : queryOf name class ≡ countedQuery (namesOf name) (namesOf class)
-      unfolding queryOf
-      counted = rw (le-ltb queryBytes (length name) hn, le-ltb queryBytes (length class) hc) refl
-
-      pub query-malformed : (sn sc : Split) (a b : Shape) → Answered name a sn → Answered class b sc → Malformed ≡ bothShapes a b → queryOf name class ≡ malformed
-      unfolding countedQuery
-      query-malformed sn sc Malformed b p q e = counted ∙ rw p refl
-      query-malformed sn sc Many Malformed p q e = counted ∙ rw (p .all, q) refl
-      query-malformed sn sc Many Many p q e = absurd (let z : _≡_ {A = ℕ} 0 1 = cc in omega arith)
-      query-malformed sn sc Many Good p q e = absurd (let z : _≡_ {A = ℕ} 0 1 = cc in omega arith)
-      query-malformed sn sc Good Malformed p q e = counted ∙ rw (p .names, q) refl
-      query-malformed sn sc Good Many p q e = absurd (let z : _≡_ {A = ℕ} 0 1 = cc in omega arith)
-      query-malformed sn sc Good Good p q e = absurd (let z : _≡_ {A = ℕ} 0 1 = cc in omega arith)
-
-      -- too many parts in one of the two
-      many-first : (ns cs : List (List ℕ)) → namesOf name ≡ some ns → namesOf class ≡ some cs → queryParts < length ns → queryOf name class ≡ pastLimit 10
-      unfolding countedQuery
-      many-first ns cs p q h = counted ∙ rw (p, q, lt-ltb queryParts (length ns) h) refl
-
-      many-second : (ns cs : List (List ℕ)) → namesOf name ≡ some ns → namesOf class ≡ some cs → queryParts < length cs → queryOf name class ≡ pastLimit 10
-      unfolding countedQuery
-      many-second ns cs p q h = counted ∙ rw (p, q, lt-ltb queryParts (length cs) h, or-true (ltb queryParts (length ns))) refl
-
-      pub query-many : (sn sc : Split) (a b : Shape) → Answered name a sn → Answered class b sc → Many ≡ bothShapes a b → queryOf name class ≡ pastLimit 10
-      query-many sn sc Malformed b p q e = absurd (let z : _≡_ {A = ℕ} 0 1 = cc in omega arith)
-      query-many sn sc Many Malformed p q e = absurd (let z : _≡_ {A = ℕ} 0 1 = cc in omega arith)
-      query-many sn sc Many Many p q e = many-first (p .names) (q .names) (p .all) (q .all) (p .many)
-      query-many sn sc Many Good p q e = many-first (p .names) (namesIn class sc) (p .all) (q .names) (p .many)
-      query-many sn sc Good Malformed p q e = absurd (let z : _≡_ {A = ℕ} 0 1 = cc in omega arith)
-      query-many sn sc Good Many p q e = many-second (namesIn name sn) (q .names) (p .names) (q .all) (q .many)
-      query-many sn sc Good Good p q e = absurd (let z : _≡_ {A = ℕ} 0 1 = cc in omega arith)
-
-      -- both are good
-      pub both-good : (sn sc : Split) (a b : Shape) → Answered name a sn → Answered class b sc → Good ≡ bothShapes a b → GoodSplit name sn × GoodSplit class sc
-      both-good sn sc Malformed b p q e = absurd (let z : _≡_ {A = ℕ} 0 1 = cc in omega arith)
-      both-good sn sc Many Malformed p q e = absurd (let z : _≡_ {A = ℕ} 0 1 = cc in omega arith)
-      both-good sn sc Many Many p q e = absurd (let z : _≡_ {A = ℕ} 0 1 = cc in omega arith)
-      both-good sn sc Many Good p q e = absurd (let z : _≡_ {A = ℕ} 0 1 = cc in omega arith)
-      both-good sn sc Good Malformed p q e = absurd (let z : _≡_ {A = ℕ} 0 1 = cc in omega arith)
-      both-good sn sc Good Many p q e = absurd (let z : _≡_ {A = ℕ} 0 1 = cc in omega arith)
-      both-good sn sc Good Good p q e = (p, q)
-
-      pub query-good : (sn sc : Split) → GoodSplit name sn → GoodSplit class sc → queryOf name class ≡ positions (positionsOf (namesIn name sn) (namesIn class sc))
-      unfolding countedQuery
-      query-good sn sc p q =
-          let n : length (namesIn name sn) ≤ queryParts = omega (arith, length-names name sn, p .inside .few) in
-          let c : length (namesIn class sc) ≤ queryParts = omega (arith, length-names class sc, q .inside .few) in
-          counted ∙ rw (p .names, q .names, le-ltb queryParts (length (namesIn name sn)) n, le-ltb queryParts (length (namesIn class sc)) c) refl
-
 -- ---- The call
 
 module _ (contents bodies name class : List ℕ) where
@@ -172,22 +108,12 @@ module _ (contents bodies name class : List ℕ) where
   unfolding getBytes
   no-image e = rw e refl
 
-  module _ (e : isImage contents bodies ≡ true) where
-    looked : (q : Query) → queryOf name class ≡ q → getBytes contents bodies name class ≡ lookup contents bodies q
+  module _ (e : isImage contents bodies ≡ true) (n c : Names) (p : n ≡ parsedNames name) (q : c ≡ parsedNames class) where
+    -- what the shape of both decides
+    pub by-shape : (s : Shape) → s ≡ bothShapes (n .shape) (c .shape)
+        → lookup contents bodies (shaped s (positionsOf (namesIn name (n .split)) (namesIn class (c .split)))) ≡ getBytes contents bodies name class
     unfolding getBytes
-    looked q f = rw (e, f) refl
-
-    pub past : (k : ℕ) → queryOf name class ≡ pastLimit k → refused k ≡ getBytes contents bodies name class
-    unfolding lookup
-    past k f = sym (looked (pastLimit k) f)
-
-    pub none-found : queryOf name class ≡ malformed → noValue ≡ getBytes contents bodies name class
-    unfolding lookup
-    none-found f = sym (looked malformed f)
-
-    pub well-formed : (qs : List Position) (r : Reply Place) → queryOf name class ≡ positions qs → r ≡ lookup contents bodies (positions qs)
-        → r ≡ getBytes contents bodies name class
-    well-formed qs r f g = g ∙ sym (looked (positions qs) f)
+    by-shape s f = sym (rw (e, query-is name class n c p q, f) refl)
 
 -- ---- The key of a row, as the code takes it
 

@@ -10,18 +10,18 @@ ghost use Rattle.definition.specs.Ranking.{rankOf, better};
 ghost use Rattle.definition.specs.Lookup.{lookup, getBytes};
 ghost use Rattle.query.specs.Splits.{namesIn, Inside};
 ghost use Rattle.matcher.specs.Rows.{bestIn};
-ghost use Rattle.lookup.specs.Replies.{replied, bothShapes, Extends};
+ghost use Rattle.lookup.specs.Replies.{replied, Extends};
 use image_judge::is_image;
+use limits::QUERY_PARTS;
 use matcher::Row;
 use matcher::last_part;
 use matcher::longer;
 use matcher::match_key;
 use matcher::may_match;
 use matcher::wins;
-use query::QUERY_BYTES;
-use query::QUERY_PARTS;
 use query::Shape;
 use query::Split;
+use query::both;
 use query::parse_query;
 
 // What a lookup answers: the value's place in the bodies and its length, none, or the number that refuses it.
@@ -121,21 +121,6 @@ fn match_entry(
     Lookup::Found(found.value, found.size)
 }
 
-// Malformed comes before too many parts.
-fn both(a: Shape, b: Shape) -> Shape
-    ensures { λ r. ⌜ r ≡ bothShapes a b ⌝ }
-{
-    match a {
-        Shape::Malformed => Shape::Malformed,
-        Shape::Many => match b {
-            Shape::Malformed => Shape::Malformed,
-            Shape::Many => Shape::Many,
-            Shape::Good => Shape::Many,
-        },
-        Shape::Good => b,
-    }
-}
-
 // The value that a query gets from a database image: 8, 9, malformed, 10.
 pub fn get_bytes(contents: &[u16], bodies: &[u8], name: &[u8], class: &[u8]) -> Lookup
     ensures { λ r. ⌜ replied r ≡ getBytes (now (contents .entry)) (now (bodies .entry)) (now (name .entry)) (now (class .entry)) ⌝ }
@@ -143,18 +128,13 @@ pub fn get_bytes(contents: &[u16], bodies: &[u8], name: &[u8], class: &[u8]) -> 
     if !is_image(contents, bodies) {
         return Lookup::Refused(8);
     }
-    if name.len() > QUERY_BYTES {
-        return Lookup::Refused(9);
-    }
-    if class.len() > QUERY_BYTES {
-        return Lookup::Refused(9);
-    }
     let instances = parse_query(name);
     let classes = parse_query(class);
     let a = instances.shape;
     let b = classes.shape;
     let shape = both(a, b);
     match shape {
+        Shape::Long => Lookup::Refused(9),
         Shape::Malformed => Lookup::Nothing,
         Shape::Many => Lookup::Refused(10),
         Shape::Good => {

@@ -20,7 +20,7 @@ use Rattle.query.specs.declared.Split.{Split}
 use Rattle.laws.proofs.Lists.{not-both, same-eq}
 use Rattle.matcher.specs.Places.{placeOf, placed, positionIn, queried}
 use Rattle.matcher.specs.declared.Place.{Place}
-use Rattle.matcher.proofs.Keys.{parts-of, some-part}
+use Rattle.key.proofs.Keys.{parts-of, some-part}
 use Rattle.matcher.proofs.Reached.{rank-last, rank-short}
 use Rattle.matcher.proofs.Positions.{length-queried, queried-ends}
 

@@ -15,7 +15,7 @@ use Rattle.definition.specs.Text.{tight, loose, bindingOf}
 use Rattle.definition.specs.Query.{Position}
 use Rattle.definition.specs.Matching.{Match, byWildcard, byClass, byInstance, equals, matchAt, markOf, markAt}
 use Rattle.matcher.specs.Rows.{markIn}
-use Rattle.matcher.specs.Keys.{componentOf, partBetween}
+use Rattle.key.specs.Keys.{componentOf, partBetween}
 use Rattle.matcher.proofs.Rows.{binding-loose, binding-tight}
 
 -- a match's mark, from the byte that binds the part

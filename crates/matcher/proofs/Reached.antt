@@ -12,7 +12,7 @@ use Rattle.definition.specs.Query.{Position}
 use Rattle.definition.specs.Matching.{markAt}
 use Rattle.definition.specs.Ranking.{meetRow, skipRow, rankOf}
 use Rattle.matcher.specs.Rows.{skipOf, extended}
-use Rattle.matcher.specs.Keys.{noPart}
+use Rattle.key.specs.Keys.{noPart}
 use Rattle.matcher.proofs.Rows.{or-none}
 
 -- ---- Rows and what follows them

@@ -16,9 +16,9 @@ use Rattle.definition.specs.Ranking.{rankOf}
 use Rattle.definition.specs.Image.{keyParts}
 use Rattle.laws.proofs.Lists.{Order, below, equal, above, order}
 use Rattle.matcher.specs.Rows.{rowIn, markIn, skipOf, extended, Clear, Continued}
-use Rattle.matcher.specs.Keys.{partBetween, Bounded}
+use Rattle.key.specs.Keys.{partBetween, Bounded}
 use Rattle.matcher.specs.declared.Row.{Row}
-use Rattle.matcher.specs.declared.Key.{Key}
+use Rattle.key.specs.declared.Key.{Key}
 use Rattle.matcher.proofs.Rows.{row-none}
 use Rattle.matcher.proofs.Reached.{part, reached, rank-short, reached-first, reached-turned, reached-last}
 

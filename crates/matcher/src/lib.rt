@@ -5,31 +5,27 @@ ghost use mathlib.Core.Bool.{true, false};
 ghost use mathlib.Core.Option.{none};
 ghost use Prim.Native.Nat.{ℕ, _+_, _-_, _≤_, _<_, max};
 ghost use lib.Dec.{ltb};
-ghost use lib.ListN.{length, take, drop, getD};
-ghost use Rattle.definition.specs.Lists.{if_then_else_, takeWhile, orElse, same, lower};
+ghost use lib.ListN.{length, take, getD};
+ghost use Rattle.definition.specs.Lists.{if_then_else_, orElse, same, lower};
 ghost use Rattle.definition.specs.Bytes.{isBinding};
 ghost use Rattle.definition.specs.Matching.{equals, markAt};
 ghost use Rattle.definition.specs.Ranking.{rankOf, better};
 ghost use Rattle.definition.specs.Image.{keyParts, isKey};
 ghost use Rattle.definition.specs.Text.{bindingOf};
 ghost use Rattle.query.specs.Splits.{Inside};
+ghost use Rattle.key.specs.Keys.{partBetween, Bounded};
 ghost use Rattle.matcher.specs.Rows.{rowIn, bestIn, markIn, skipOf, extended, Clear, Continued};
-ghost use Rattle.matcher.specs.Keys.{notBinding, partBetween, Bounded};
 ghost use Rattle.matcher.specs.Places.{placeOf, placed, Within, positionIn, queried};
-use image::MOST_PARTS;
-use query::QUERY_PARTS;
+use key::Key;
+use key::split_key;
+use limits::MOST_PARTS;
+use limits::QUERY_PARTS;
 use query::Split;
 
 // A row of marks, one for each position passed, if there is one. The marks after them are 0.
 pub struct Row {
     pub live: bool,
     pub marks: [u8; QUERY_PARTS],
-}
-
-// A key's parts in its bytes: part i stands from bound i, where its binding is, up to bound i + 1.
-pub struct Key {
-    pub bounds: [usize; MOST_PARTS + 1],
-    pub count: usize,
 }
 
 // A part of a query in its text, if there is one.
@@ -137,40 +133,6 @@ fn mark(key: &[u8], b: usize, e: usize, name: &[u8], n: Place, class: &[u8], c: 
         return mark_of(loose, 3, 4);
     }
     0
-}
-
-// Where the component that starts at `at` ends: at the next binding, or at the key's end.
-fn part_end(key: &[u8], at: usize) -> usize
-    requires { ⌜ at ≤ length (now key) ⌝ }
-    ensures { λ r. ⌜ r ≡ at + length (takeWhile notBinding (drop at (now (key .entry)))) ⌝ }
-{
-    let mut i = at;
-    while i < key.len() {
-        let c = key[i];
-        if c == b'.' {
-            return i;
-        }
-        if c == b'*' {
-            return i;
-        }
-        i += 1;
-    }
-    i
-}
-
-fn split_key(key: &[u8]) -> Key
-    requires { ⌜ isKey (now key) ≡ true ⌝ }
-    ensures { λ r. ⌜ Bounded (now (key .entry)) r ⌝ }
-{
-    let mut bounds = [0; MOST_PARTS + 1];
-    let mut count = 0;
-    let mut at = 0;
-    while at < key.len() {
-        at = part_end(key, at + 1);
-        count += 1;
-        bounds[count] = at;
-    }
-    Key { bounds, count }
 }
 
 // No row. Its marks are 0 all the same.
