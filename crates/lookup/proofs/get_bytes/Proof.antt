@@ -5,8 +5,8 @@ use borrow.Author.Tests.{not-true, not-false}
 use Rattle.definition.specs.Image.{isImage}
 use Rattle.definition.specs.Lookup.{lookup, getBytes}
 use Rattle.definition.specs.Query.{positionsOf}
-use Rattle.query.specs.Splits.{namesIn, Inside}
-use Rattle.query.specs.Shapes.{bothShapes, shaped}
+use Rattle.query.specs.Splits.{namesIn}
+use Rattle.query.specs.Shapes.{shaped}
 use Rattle.query.specs.declared.Shape.{Shape}
 use Rattle.query.specs.declared.Shape.the-variants.{Good, Malformed, Many, Long}
 use Rattle.query.proofs.Queries.{both-inside}
