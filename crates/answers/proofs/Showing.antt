@@ -27,7 +27,8 @@ use Rattle.compare.specs.Comparing.{Left, comparing, leaving}
 use Rattle.compare.proofs.Comparing.{answered-both}
 use Rattle.reader.specs.Said.{said}
 use Rattle.reader.specs.declared.Answer as reader
-use Rattle.answers.specs.Showing.{Shown, value, noValue, refusedBy, shown, Inside, ofBytes, ofQuery, ofReading, afterReading, LooksUp, answered, sameShown}
+use Rattle.reports.specs.Showing.{Shown, value, noValue, refusedBy, shown, Inside}
+use Rattle.answers.specs.Answering.{ofBytes, ofQuery, ofReading, afterReading, LooksUp, answered}
 
 -- ---- A lookup's answer
 
@@ -134,19 +135,6 @@ module _ (text archive name class contents bodies c b : List ℕ) where
   }
 
 -- ---- Two answers
-
-module _ (bodies store : List ℕ) (a b : Lookup) where
-  pub same-found : (p n q m : ℕ) → a ≡ Found p n → b ≡ Found q m → (r : Bool)
-      → ((r ≡ true → take (p + n - p) (drop p bodies) ≡ take (q + m - q) (drop q store)) × (take (p + n - p) (drop p bodies) ≡ take (q + m - q) (drop q store) → r ≡ true))
-      → r ≡ sameShown (shown bodies a) (shown store b)
-  unfolding sameShown
-  same-found p n q m ea eb r h =
-      let v = slice p (p + n) bodies in
-      let w = slice q (q + m) store in
-      let ev = part-slice bodies p (p + n) in
-      let ew = part-slice store q (q + m) in
-      rw (ea, eb)
-      (both-ways r (same v w) (λ t. eq-same v w (sym ev ∙ h .0 t ∙ ew)) (λ t. h .1 (ev ∙ same-eq v w t ∙ sym ew)))
 
 -- the call's two lookups lie in what was read
 pub both-inside : (c : Case) (struck s c₁ b₁ c₂ b₂ : List ℕ) (x y : Lookup) (second : reader.Answer) → leaving (Both x y second) s c₁ b₁ c₂ b₂ ≡ comparing c struck

@@ -1,4 +1,2 @@
 -- What the contracts of getres's answers cite beside the definition.
-pub mod Refusals
-pub mod Showing
-pub mod Telling
+pub mod Answering

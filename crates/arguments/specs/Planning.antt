@@ -1,10 +1,13 @@
 -- What a list of arguments asks for: a fold over them, from the left.
 use mathlib.Core.Bool.{Bool, true, false, _&&_, _||_, not}
 use mathlib.Core.List.{List, [], _∷_}
+use mathlib.Core.Path.{_≡_}
 use Prim.Native.Nat.{ℕ, _+_, _-_}
 use lib.Dec.{eqb}
-use Rattle.definition.specs.Lists.{if_then_else_, ascii, same}
+use lib.ListN.{length}
+use Rattle.definition.specs.Lists.{if_then_else_, ascii, same, takeWhile}
 use Rattle.definition.specs.Bytes.{within}
+use Rattle.io.specs.Counts.{Counts}
 use Rattle.arguments.specs.declared.Plan.{Plan}
 
 -- what the next argument is: an operand or an option; an option's value; an operand, whatever it looks like
@@ -126,3 +129,13 @@ planOf arguments = planFrom nothingAsked 1 arguments
 -- text and name are there, and no option lacks its value
 unfoldable pub isWhole : Plan → Bool
 isWhole p = not (eqb (p .name) 0) && (eqb (p .next) anything || eqb (p .next) anOperand)
+
+-- ---- The value of --file
+
+unfoldable pub notEquals : ℕ → Bool
+notEquals c = not (eqb c 61)
+
+-- the name stands before the first `=`
+pub record NameEnds (argument : List ℕ) (r : ℕ) : Type 0 where
+  pub is : r ≡ length (takeWhile notEquals argument)
+  pub counts : Counts r argument

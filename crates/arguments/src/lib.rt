@@ -1,7 +1,7 @@
 // What getres's arguments ask for, taken one at a time.
 ghost use mathlib.Core.Path.{_≡_};
 ghost use Rattle.definition.specs.Lists.{same};
-ghost use Rattle.arguments.specs.Planning.{nothingAsked, misunderstood, withOperand, descriptor, withWithout, withStatus, withValue, withOption, isOption, withArgument, isWhole, toNext};
+ghost use Rattle.arguments.specs.Planning.{nothingAsked, misunderstood, withOperand, descriptor, withWithout, withStatus, withValue, withOption, isOption, withArgument, isWhole, toNext, NameEnds};
 use check::same;
 
 // What the next argument is: an operand or an option, the value of an option, or an operand, whatever it looks like.
@@ -207,4 +207,18 @@ pub fn is_whole(plan: Plan) -> bool
         return true;
     }
     plan.next == OPERAND
+}
+
+// Where the name ends in the value of `--file`, `NAME=PATH`: at the first `=`, or the end.
+pub fn name_end(argument: &[u8]) -> usize
+    ensures { λ r. ⌜ NameEnds (now (argument .entry)) r ⌝ }
+{
+    let mut i = 0;
+    while i < argument.len() {
+        if argument[i] == b'=' {
+            return i;
+        }
+        i += 1;
+    }
+    i
 }

@@ -1,6 +1,6 @@
 // getres: the value that a query gets from a main text and its files, and whether striking a file off changes it. What it tells is
 // in `answers`, what its arguments ask for in `arguments`; here they are read, and what is told is written.
-mod reports;
+mod writing;
 
 ghost use mathlib.Core.Path.{_≡_};
 ghost use mathlib.Core.Bool.{true};
@@ -10,7 +10,6 @@ ghost use Rattle.definition.specs.Archive.{laidOut};
 ghost use Rattle.definition.specs.Limits.{archiveBytes};
 ghost use Rattle.io.specs.Counts.{Counts};
 ghost use Rattle.getres.specs.Loading.{Holds};
-use answers::REPORT_BYTES;
 use answers::answer;
 use answers::answer_twice;
 use archive_edit::Added;
@@ -27,11 +26,12 @@ use libc::STDIN_FILENO;
 use libc::STDOUT_FILENO;
 use limits::ARCHIVE_BYTES;
 use limits::TEXT_BYTES;
-use reports::complain;
-use reports::fail;
-use reports::tell;
-use reports::write_help;
+use reports::REPORT_BYTES;
 use scan::copy_in;
+use writing::complain;
+use writing::fail;
+use writing::tell;
+use writing::write_help;
 
 // ---- Arguments
 
@@ -299,6 +299,6 @@ fn main() {
     let status = run(plan);
     let fd = plan.status;
     if fd != 0 {
-        reports::write_status(fd as i32, status);
+        writing::write_status(fd as i32, status);
     }
 }

@@ -42,13 +42,25 @@ row-at-requires : tie.Need-row-at-requires Inv-loop μ-loop
 row-at-requires c κs = omega (arith, c .before .before .before .before .before .before .pre .rows-within)
 
 part-put-entry-end : tie.Need-part-put-entry-end Inv-loop μ-loop
-part-put-entry-end c = key-fits _ _ (c .before .before .before .before .before .before .before .before .pre) (c .before .row-at .ensures .is) (c .before .before .loop-test .taken)
+part-put-entry-end c =
+    let rowat = c .before in
+    let looptest = rowat .before in
+    let s = looptest .before .before .before .before .before .before in
+    key-fits _ _ (s .pre) (rowat .row-at .ensures .is) (looptest .loop-test .taken)
 
 put-entry-requires : tie.Need-put-entry-requires Inv-loop μ-loop
-put-entry-requires c κs = walk-room (line (c .before .before .before)) (more (c .before .before .before) _) (room-left (c .before .before .before .before .before .before .before .before .before .before .pre)) (c .before .before .before .before .before .loop .inv .0) (next (c .before .before .before))
+put-entry-requires c κs =
+    let place = c .before .before .before in
+    let loop = place .before .before in
+    let s = loop .before .before .before .before .before in
+    walk-room (line (place)) (more (place) _) (room-left (s .pre)) (loop .loop .inv .0) (next (place))
 
 loop-again : tie.Need-loop-again Inv-loop μ-loop
-loop-again c = (walk-next (c .before .before .before .before .before .before .before .before .loop .inv .0) (next (c .before .before .before .before .before .before)) (c .before .before .put-entry .ensures), omega arith)
+loop-again c =
+    let putentry = c .before .before in
+    let place = putentry .before .before .before .before in
+    let loop = place .before .before in
+    (walk-next (loop .loop .inv .0) (next (place)) (putentry .put-entry .ensures), omega arith)
 
 returns : tie.Need-returns Inv-loop μ-loop
 returns c = piece-of (lines-all (c .before .before .before .before .before .before .args .contents .now) (c .before .before .before .before .before .before .args .bodies .now)) (walk-ended (room-left (c .before .before .before .before .before .before .pre)) (c .before .loop .inv .0) (lines-none _ _ _ _ (c .loop-test .left)))

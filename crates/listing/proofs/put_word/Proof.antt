@@ -9,16 +9,27 @@ put-requires : tie.Need-put-requires
 put-requires c κs = omega (arith, c .before .before .before .pre, word-long (c .before .before .before .args .word .now) (c .before .before .before .args .n))
 
 put-requires-2 : tie.Need-put-requires-2
-put-requires-2 c κs = omega (arith, c .before .before .before .before .before .before .before .before .pre, word-long (c .before .before .before .before .before .before .before .before .args .word .now) (c .before .before .before .before .before .before .before .before .args .n))
+put-requires-2 c κs =
+    let s = c .before .before .before .before .before .before .before .before in
+    omega (arith, s .pre, word-long (s .args .word .now) (s .args .n))
 
 put-number-requires : tie.Need-put-number-requires
-put-number-requires c κs = omega (arith, c .before .before .before .before .before .before .before .before .before .before .before .before .pre, word-long (c .before .before .before .before .before .before .before .before .before .before .before .before .args .word .now) (c .before .before .before .before .before .before .before .before .before .before .before .before .args .n))
+put-number-requires c κs =
+    let s = c .before .before .before .before .before .before .before .before .before .before .before .before in
+    omega (arith, s .pre, word-long (s .args .word .now) (s .args .n))
 
 put-requires-3 : tie.Need-put-requires-3
-put-requires-3 c κs = omega (arith, c .before .before .before .before .before .before .before .before .before .before .before .before .before .before .before .before .before .pre, word-long (c .before .before .before .before .before .before .before .before .before .before .before .before .before .before .before .before .before .args .word .now) (c .before .before .before .before .before .before .before .before .before .before .before .before .before .before .before .before .before .args .n))
+put-requires-3 c κs =
+    let s = c .before .before .before .before .before .before .before .before .before .before .before .before .before .before .before .before .before in
+    omega (arith, s .pre, word-long (s .args .word .now) (s .args .n))
 
 returns : tie.Need-returns
-returns c = word-put _ _ (c .before .before .before .before .before .before .before .before .before .before .before .before .before .before .before .before .put .ensures) (c .before .before .before .before .before .before .before .before .before .before .before .put2 .ensures) (c .before .before .before .before .before .before .before .put-number .ensures) (c .before .before .put3 .ensures)
+returns c =
+    let put3 = c .before .before in
+    let putnumber = put3 .before .before .before .before .before in
+    let put2 = putnumber .before .before .before .before in
+    let p16 = put2 .before .before .before .before .before in
+    word-put _ _ (p16 .put .ensures) (put2 .put2 .ensures) (putnumber .put-number .ensures) (put3 .put3 .ensures)
 
 pub put-word-spec : {M : Type 1} → statement M
 put-word-spec =

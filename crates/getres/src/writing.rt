@@ -1,8 +1,8 @@
 // What getres writes: answers to standard output, all else to standard error.
-use answers::Report;
 use io::write_all;
 use libc::STDERR_FILENO;
 use libc::STDOUT_FILENO;
+use reports::Report;
 
 // Says why a call of the system failed on what.
 pub fn fail(what: &[u8]) {

@@ -1,39 +1,19 @@
--- What a query gets, as getres shows it.
-use mathlib.Core.Bool.{Bool, true, false}
-use mathlib.Core.List.{List, _++_}
+-- A query asked of a main text and its files, and what getres tells of it.
+use mathlib.Core.List.{List}
 use mathlib.Core.Option.{Option, some, none}
 use mathlib.Core.Path.{_≡_}
-use Prim.Native.Nat.{ℕ, _+_, _≤_}
-use lib.ListN.{length}
-use Rattle.definition.specs.Lists.{ascii, same}
+use Prim.Native.Nat.{ℕ}
+use Rattle.definition.specs.Lists.{zeroes}
+use Rattle.definition.specs.Limits.{archiveBytes, contentsWords, bodyBytes}
 use Rattle.definition.specs.Text.{Entry}
 use Rattle.definition.specs.Query.{Query, positions, malformed, pastLimit, queryOf}
 use Rattle.definition.specs.Reading.{Answer, accepted, refused, reading, plain, readEntries}
-use Rattle.definition.specs.Lookup.{Reply, given, noValue as noReply, refused as refusedLookup, Place, getBytes, bytesAt, answerOf}
+use Rattle.definition.specs.Lookup.{Reply, refused as refusedLookup, Place, getBytes, answerOf}
 use Rattle.lookup.specs.declared.Lookup.{Lookup}
-use Rattle.lookup.specs.declared.Lookup.the-variants.{Found, Nothing, Refused}
 use Rattle.lookup.specs.Replies.{replied}
-
--- a value, none, or a number of document 01's table
-pub data Shown : Type 0 where
-  value : List ℕ → Shown
-  noValue : Shown
-  refusedBy : ℕ → Shown
-
--- what a lookup's answer shows of the bodies
-abbrev pub shownIn : List ℕ → Reply Place → Shown
-shownIn bodies (given p) = value (bytesAt bodies p)
-shownIn bodies noReply = noValue
-shownIn bodies (refusedLookup k) = refusedBy k
-
-abbrev pub shown : List ℕ → Lookup → Shown
-shown bodies x = shownIn bodies (replied x)
-
--- a value that was found lies in the bodies
-abbrev pub Inside : List ℕ → Lookup → Type 0
-Inside bodies (Found place size) = place + size ≤ length bodies
-Inside bodies Nothing = Unit {0}
-Inside bodies (Refused k) = Unit {0}
+use Rattle.compare.specs.Comparing.{Comparison, both, noFile, refusedBy as refusedCall, Left, asked, comparing}
+use Rattle.reports.specs.Showing.{Shown, value, noValue, refusedBy, shownIn}
+use Rattle.reports.specs.Telling.{Told, refused as refusedTold, told, bothTold, notAmong}
 
 -- ---- A text read, and the query looked up in it
 
@@ -68,24 +48,20 @@ unfoldable pub answered : List ℕ → List ℕ → List ℕ → List ℕ → Li
 answered text archive name class contents bodies =
     ofReading (reading text archive contents bodies .answer) (ofQuery (plain (readEntries text archive)) (queryOf name class))
 
--- ---- Lines
+-- ---- What is told
 
--- what a line says of an answer
-unfoldable pub wordsOf : Shown → List ℕ
-wordsOf (value v) = ascii "value " ++ v
-wordsOf noValue = ascii "none"
-wordsOf (refusedBy k) = ascii "refused"
+-- of a main text, an archive, and a query's name and class
+unfoldable pub answerTold : List ℕ → List ℕ → List ℕ → List ℕ → Told
+answerTold text archive name class = told (answered text archive name class (zeroes contentsWords) (zeroes bodyBytes))
 
--- `with FILE: ..`
-unfoldable pub lineOf : List ℕ → List ℕ → Shown → List ℕ
-lineOf label file shows = label ++ file ++ ascii ": " ++ wordsOf shows ++ ascii "\n"
+-- what the comparing call answers and leaves, told of a file's name
+unfoldable pub comparedTold : List ℕ → Left → Comparison → Told
+comparedTold file l (both a b second) = bothTold file (shownIn (l .bodies) a) (shownIn (l .bodies′) b)
+comparedTold file l noFile = notAmong file
+comparedTold file l (refusedCall k) = refusedTold k
 
--- are two answers the same: both none, or the same bytes?
-unfoldable pub sameShown : Shown → Shown → Bool
-sameShown (value v) (value w) = same v w
-sameShown (value v) noValue = false
-sameShown (value v) (refusedBy k) = false
-sameShown noValue (value w) = false
-sameShown noValue noValue = true
-sameShown noValue (refusedBy k) = false
-sameShown (refusedBy j) b = false
+-- of a main text, an archive, the number of a file on it, the name it was asked for by, and a query's name and class
+unfoldable pub twiceTold : List ℕ → List ℕ → ℕ → List ℕ → List ℕ → List ℕ → Told
+twiceTold text archive number file name class =
+    let l = comparing (asked text archive number name class (zeroes contentsWords) (zeroes bodyBytes) (zeroes contentsWords) (zeroes bodyBytes)) (zeroes archiveBytes) in
+    comparedTold file l (l .answer)
