@@ -1,0 +1,2 @@
+-- Laws of getres.
+pub mod Loading
