@@ -83,6 +83,12 @@ fn pass_entry(rest: &[u8], row: Row, at: usize, bodies: &[u8]) -> usize
     key + value
 }
 
+fn wide(word: u16) -> usize
+    ensures { λ r. ⌜ r ≡ word ⌝ }
+{
+    word as usize
+}
+
 // Are the entries of an image those of the line, to its end?
 fn are_entries(rest: &[u8], count: usize, contents: &[u16], bodies: &[u8]) -> bool
     requires { ⌜ contentsWords ≡ length (now contents) ⌝ }
@@ -90,7 +96,7 @@ fn are_entries(rest: &[u8], count: usize, contents: &[u16], bodies: &[u8]) -> bo
     if count > MOST_ENTRIES {
         return false;
     }
-    if contents[0] as usize != count {
+    if wide(contents[0]) != count {
         return false;
     }
     let mut fields = rest;
@@ -106,7 +112,7 @@ fn are_entries(rest: &[u8], count: usize, contents: &[u16], bodies: &[u8]) -> bo
         fields = &fields[n..];
         i += 1;
     }
-    if contents[1] as usize != at {
+    if wide(contents[1]) != at {
         return false;
     }
     fields.len() == 0

@@ -1,4 +1,5 @@
 // The fields of a recorded line: each but the first stands after one space.
+ghost use mathlib.Core.Path.{_≡_};
 ghost use Prim.Native.Nat.{_≤_};
 ghost use lib.ListN.{length};
 ghost use Rattle.io.specs.Counts.{Counts};
@@ -6,7 +7,7 @@ use check::same;
 
 // How many bytes stand before the first `byte`.
 pub fn until(text: &[u8], byte: u8) -> usize
-    ensures { λ r. ⌜ r ≤ length (now (text .entry)) ⌝ }
+    ensures { λ r. ⌜ Counts r (now (text .entry)) ⌝ }
 {
     let mut n = 0;
     while n < text.len() {
@@ -82,7 +83,7 @@ fn decode(digits: &[u8], out: &mut [u8]) -> bool {
 
 // Decodes the next field: two digits a byte, or `-` for no bytes.
 fn take_bytes(rest: &[u8], out: &mut [u8]) -> Taken
-    ensures { λ r. ⌜ Counts (r .size) (now (out .exit)) × (r .end ≤ length (now (rest .entry))) ⌝ }
+    ensures { λ r. ⌜ (r .size ≤ length (now (out .exit))) × (r .end ≤ length (now (rest .entry))) ⌝ }
 {
     let end = field(rest);
     if end < 2 {
