@@ -1,3 +1,2 @@
 -- Laws of getres.
 pub mod Loading
-pub mod Showing

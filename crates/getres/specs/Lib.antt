@@ -1,4 +1,2 @@
--- What the contracts of getres cite beside the definition.
-pub mod Showing
-pub mod Refusals
+-- What the contracts of getres cite.
 pub mod Loading
