@@ -20,10 +20,10 @@ use Rattle.laws.proofs.Reading.{Reads, accepted-reads}
 use Rattle.laws.proofs.ThirdTerm.{reading-answers, reading-replies}
 use Rattle.lookup.specs.declared.Lookup.{Lookup}
 use Rattle.lookup.specs.declared.Lookup.the-variants.{Found, Nothing, Refused}
-use Rattle.lookup.specs.Replies.{replied}
+use Rattle.lookup.specs.Replies.{replied, LiesIn}
 use Rattle.lookup.proofs.Looking.{no-image, past, found-inside}
-use Rattle.reports.specs.Showing.{Shown, value, noValue, refusedBy, shown, Inside}
-use Rattle.answers.specs.Answering.{ofBytes, ofQuery, ofReading, afterReading, LooksUp, answered}
+use Rattle.reports.specs.Showing.{Shown, value, noValue, refusedBy, shownOf}
+use Rattle.answers.specs.Answering.{ofBytes, ofQuery, ofReading, afterReading, LooksUp, answerShown}
 
 -- ---- A lookup's answer
 
@@ -32,23 +32,23 @@ no-parts : (k : ℕ) → queryOf [] [] ≡ pastLimit k → ⊥
 unfolding definition
 no-parts k e = let z : _≡_ {A = ℕ} 0 1 = cc in omega arith
 
-shown-refused : (b : List ℕ) (x : Lookup) (k : ℕ) → replied x ≡ refused k → shown b x ≡ refusedBy k
+shown-refused : (b : List ℕ) (x : Lookup) (k : ℕ) → replied x ≡ refused k → shownOf b x ≡ refusedBy k
 shown-refused b (Found p n) k e = absurd (let z : _≡_ {A = ℕ} 0 1 = cc in omega arith)
 shown-refused b Nothing k e = absurd (let z : _≡_ {A = ℕ} 0 1 = cc in omega arith)
 shown-refused b (Refused j) k e = let i : j ≡ k = cc in ap refusedBy i
 
-shown-bytes : (b : List ℕ) (x : Lookup) (o : Option (List ℕ)) → answerIn b (replied x) ≡ o → ((k : ℕ) → replied x ≡ refused k → ⊥) → shown b x ≡ ofBytes o
+shown-bytes : (b : List ℕ) (x : Lookup) (o : Option (List ℕ)) → answerIn b (replied x) ≡ o → ((k : ℕ) → replied x ≡ refused k → ⊥) → shownOf b x ≡ ofBytes o
 unfolding answerIn
 shown-bytes b (Found p n) o e h = ap ofBytes e
 shown-bytes b Nothing o e h = ap ofBytes e
 shown-bytes b (Refused k) o e h = absurd (h k refl)
 
-pub inside-of : (c b name class : List ℕ) (x : Lookup) → replied x ≡ getBytes c b name class → Inside b x
+pub inside-of : (c b name class : List ℕ) (x : Lookup) → replied x ≡ getBytes c b name class → LiesIn x (length b)
 inside-of c b name class (Found p n) e = found-inside c b name class p n e
 inside-of c b name class Nothing e = tt
 inside-of c b name class (Refused k) e = tt
 
-inside-refused : (b : List ℕ) (x : Lookup) (k : ℕ) → replied x ≡ refused k → Inside b x
+inside-refused : (b : List ℕ) (x : Lookup) (k : ℕ) → replied x ≡ refused k → LiesIn x (length b)
 inside-refused b (Found p n) k e = absurd (let z : _≡_ {A = ℕ} 0 1 = cc in omega arith)
 inside-refused b Nothing k e = tt
 inside-refused b (Refused j) k e = tt
@@ -77,11 +77,11 @@ module _ (text archive contents bodies : List ℕ) (r : Reads text archive conte
     apart : ((k : ℕ) → queryOf name class ≡ pastLimit k → ⊥) → (k : ℕ) → replied x ≡ refused k → ⊥
     apart g k e = reading-replies text archive contents bodies r name class g k (sym h ∙ e)
 
-    shown-is : shown b x ≡ ofQuery es (queryOf name class)
+    shown-is : shownOf b x ≡ ofQuery es (queryOf name class)
     unfolding ofQuery answerOf
     shown-is = at (queryOf name class) refl
       where
-        at : (q : Query) → queryOf name class ≡ q → shown b x ≡ ofQuery es q
+        at : (q : Query) → queryOf name class ≡ q → shownOf b x ≡ ofQuery es q
         at (positions qs) e =
             shown-bytes b x (answerOf es (positions qs)) (bytes-are ∙ ap (answerOf es) e) (apart (λ k f. let z : _≡_ {A = ℕ} 0 1 = cc in omega arith))
         at malformed e = shown-bytes b x none (bytes-are ∙ ap (answerOf es) e) (apart (λ k f. let z : _≡_ {A = ℕ} 0 1 = cc in omega arith))
@@ -89,26 +89,26 @@ module _ (text archive contents bodies : List ℕ) (r : Reads text archive conte
 
 module _ (text archive name class contents bodies c b : List ℕ) where
   refused-shown : (x : Lookup) (k : ℕ) → reading text archive contents bodies .answer ≡ refusedReading k → replied x ≡ refused k
-      → (shown b x ≡ answered text archive name class contents bodies) × Inside b x
-  unfolding answered ofReading
+      → (shownOf b x ≡ answerShown text archive name class contents bodies) × LiesIn x (length b)
+  unfolding answerShown ofReading
   refused-shown x k e h = (shown-refused b x k h ∙ rw e refl, inside-refused b x k h)
 
   accepted-shown : (x : Lookup) (n o : ℕ) → reading text archive contents bodies .answer ≡ accepted n o → c ≡ reading text archive contents bodies .contents
       → b ≡ reading text archive contents bodies .bodies → replied x ≡ getBytes c b name class
-      → (shown b x ≡ answered text archive name class contents bodies) × Inside b x
-  unfolding answered ofReading
+      → (shownOf b x ≡ answerShown text archive name class contents bodies) × LiesIn x (length b)
+  unfolding answerShown ofReading
   accepted-shown x n o e ec eb h =
       let reads : Reads text archive contents bodies = accepted-reads text archive contents bodies (rw e refl) in
       let h′ : replied x ≡ getBytes (reading text archive contents bodies .contents) (reading text archive contents bodies .bodies) name class =
       h ∙ ap (λ (y : List ℕ). getBytes y b name class) ec ∙ ap (λ (y : List ℕ). getBytes (reading text archive contents bodies .contents) y name class) eb in
-      (ap (λ (y : List ℕ). shown y x) eb ∙ shown-is text archive contents bodies reads name class x h′ ∙ rw e refl, inside-of c b name class x h)
+      (ap (λ (y : List ℕ). shownOf y x) eb ∙ shown-is text archive contents bodies reads name class x h′ ∙ rw e refl, inside-of c b name class x h)
 
   -- what was looked up shows what the definition answers, and lies in the bodies
-  pub looked : (x : Lookup) → LooksUp text archive name class contents bodies c b x → (shown b x ≡ answered text archive name class contents bodies) × Inside b x
+  pub looked : (x : Lookup) → LooksUp text archive name class contents bodies c b x → (shownOf b x ≡ answerShown text archive name class contents bodies) × LiesIn x (length b)
   unfolding afterReading
   looked x l = at (reading text archive contents bodies .answer) refl
     where
-      at : (a : Answer) → reading text archive contents bodies .answer ≡ a → (shown b x ≡ answered text archive name class contents bodies) × Inside b x
+      at : (a : Answer) → reading text archive contents bodies .answer ≡ a → (shownOf b x ≡ answerShown text archive name class contents bodies) × LiesIn x (length b)
       at (accepted n o) e = accepted-shown x n o e (l .contents-left) (l .bodies-left) (l .answers ∙ ap (λ (a : Answer). afterReading a (getBytes c b name class)) e)
       at (refusedReading k) e = refused-shown x k e (l .answers ∙ ap (λ (a : Answer). afterReading a (getBytes c b name class)) e)
 

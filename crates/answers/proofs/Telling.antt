@@ -6,14 +6,14 @@ use Rattle.definition.specs.Lists.{zeroes}
 use Rattle.definition.specs.Limits.{contentsWords, bodyBytes}
 use Rattle.lookup.specs.declared.Lookup.{Lookup}
 use Rattle.reports.specs.declared.Report.{Report}
-use Rattle.reports.specs.Showing.{shown}
+use Rattle.reports.specs.Showing.{shownOf}
 use Rattle.reports.specs.Telling.{told, Reports}
 use Rattle.reports.proofs.Telling.{reports-of}
 use Rattle.answers.specs.Answering.{LooksUp, answerTold}
 use Rattle.answers.proofs.Showing.{looked}
 
 pub answer-told : (text archive name class : List ℕ) {c b out out′ : List ℕ} {x : Lookup} {r : Report}
-    → LooksUp text archive name class (zeroes contentsWords) (zeroes bodyBytes) c b x → Reports (told (shown b x)) out out′ r
+    → LooksUp text archive name class (zeroes contentsWords) (zeroes bodyBytes) c b x → Reports (told (shownOf b x)) out out′ r
     → Reports (answerTold text archive name class) out out′ r
 unfolding answerTold
 answer-told text archive name class {c} {b} {x = x} l p = reports-of (ap told (looked text archive name class (zeroes contentsWords) (zeroes bodyBytes) c b x l .0)) p

@@ -43,12 +43,12 @@ ofReading (accepted entries opens) shows = shows
 ofReading (refused k) shows = refusedBy k
 
 -- of a main text, an archive, a query's name and class, and the buffers lent to the reading
-unfoldable pub answered : List ℕ → List ℕ → List ℕ → List ℕ → List ℕ → List ℕ → Shown
-answered text archive name class contents bodies =
+unfoldable pub answerShown : List ℕ → List ℕ → List ℕ → List ℕ → List ℕ → List ℕ → Shown
+answerShown text archive name class contents bodies =
     ofReading (reading text archive contents bodies .answer) (ofQuery (plain (readEntries text archive)) (queryOf name class))
 
 -- ---- What is told
 
 -- of a main text, an archive, and a query's name and class
 unfoldable pub answerTold : List ℕ → List ℕ → List ℕ → List ℕ → Told
-answerTold text archive name class = told (answered text archive name class (zeroes contentsWords) (zeroes bodyBytes))
+answerTold text archive name class = told (answerShown text archive name class (zeroes contentsWords) (zeroes bodyBytes))

@@ -6,14 +6,14 @@ use Rattle.definition.specs.Lists.{zeroes}
 use Rattle.definition.specs.Limits.{archiveBytes, contentsWords, bodyBytes}
 use Rattle.definition.specs.ThirdTerm.{Case, withFile, withoutFile}
 use Rattle.lookup.specs.declared.Lookup.{Lookup}
-use Rattle.lookup.specs.Replies.{replied}
+use Rattle.lookup.specs.Replies.{replied, LiesIn}
 use Rattle.reader.specs.Said.{said}
 use Rattle.reader.specs.declared.Answer as reader
 use Rattle.compare.specs.declared.Compared.the-variants as compare
 use Rattle.compare.specs.Comparing.{Left, asked, comparing, leaving}
 use Rattle.compare.proofs.Comparing.{answered-both}
 use Rattle.reports.specs.declared.Report.{Report}
-use Rattle.reports.specs.Showing.{shown, Inside}
+use Rattle.reports.specs.Showing.{shownOf}
 use Rattle.reports.specs.Telling.{refused, bothTold, notAmong, Reports}
 use Rattle.reports.proofs.Telling.{reports-of}
 use Rattle.answers.proofs.Showing.{inside-of}
@@ -21,7 +21,7 @@ use Rattle.answers_without.specs.Twice.{comparedTold, twiceTold}
 
 -- the call's two lookups lie in what was read
 pub both-inside : (c : Case) (struck s c₁ b₁ c₂ b₂ : List ℕ) (x y : Lookup) (second : reader.Answer) → leaving (compare.Both x y second) s c₁ b₁ c₂ b₂ ≡ comparing c struck
-    → Inside b₁ x × Inside b₂ y
+    → LiesIn x (length b₁) × LiesIn y (length b₂)
 both-inside c struck s c₁ b₁ c₂ b₂ x y second e =
     let m = answered-both c struck (leaving (compare.Both x y second) s c₁ b₁ c₂ b₂) (replied x) (replied y) (said second) refl e in (
       rw (ap (λ (l : Left). l .bodies) (m .made)) (inside-of (withFile c .contents) (withFile c .bodies) (c .name) (c .class) x (m .first-looked)),
@@ -34,7 +34,7 @@ module _ (text archive : List ℕ) (number : ℕ) (file name class : List ℕ) w
 
   module _ {s c₁ b₁ c₂ b₂ out out′ : List ℕ} {r : Report} where
     pub both-told : (x y : Lookup) (second : reader.Answer) → leaving (compare.Both x y second) s c₁ b₁ c₂ b₂ ≡ left
-        → Reports (bothTold file (shown b₁ x) (shown b₂ y)) out out′ r → Reports (twiceTold text archive number file name class) out out′ r
+        → Reports (bothTold file (shownOf b₁ x) (shownOf b₂ y)) out out′ r → Reports (twiceTold text archive number file name class) out out′ r
     unfolding twiceTold comparedTold
     both-told x y second e p = reports-of (ap (λ (l : Left). comparedTold file l (l .answer)) e) p
 

@@ -4,7 +4,7 @@ ghost use mathlib.Core.Bool.{true};
 ghost use Prim.Native.Nat.{_≤_};
 ghost use lib.ListN.{length};
 ghost use Rattle.definition.specs.Archive.{filesOf, laidOut};
-ghost use Rattle.archive_find.specs.Finding.{numberOf};
+ghost use Rattle.archive_find.specs.Finding.{fileNumber};
 ghost use Rattle.reports.specs.Telling.{Reports, reportBytes, argumentBytes};
 ghost use Rattle.answers_without.specs.Twice.{twiceTold};
 use archive_find::number_of;
@@ -65,7 +65,7 @@ pub fn answer_twice(
     out: &mut [u8],
 ) -> Report
     requires { ⌜ (laidOut (now archive) ≡ true) × (length (now file) ≤ argumentBytes) × (reportBytes ≤ length (now out)) ⌝ }
-    ensures { λ r. ⌜ Reports (twiceTold (now (text .entry)) (now (archive .entry)) (numberOf (now (file .entry)) (filesOf (now (archive .entry)))) (now (file .entry)) (now (name .entry)) (now (class .entry))) (now (out .entry)) (now (out .exit)) r ⌝ }
+    ensures { λ r. ⌜ Reports (twiceTold (now (text .entry)) (now (archive .entry)) (fileNumber (now (file .entry)) (filesOf (now (archive .entry)))) (now (file .entry)) (now (name .entry)) (now (class .entry))) (now (out .entry)) (now (out .exit)) r ⌝ }
 {
     let number = number_of(archive, file);
     compare_file(text, archive, number, file, name, class, out)

@@ -8,7 +8,7 @@ ghost use lib.Seq.{paste};
 ghost use Rattle.definition.specs.Archive.{bytesOf, filesOf, laidOut, struckOff};
 ghost use Rattle.definition.specs.Limits.{archiveBytes};
 ghost use Rattle.archive.specs.Walk.{nameStart};
-ghost use Rattle.archive_edit.specs.Adding.{fileOf, slotFor, archiveWith, leaving, adding};
+ghost use Rattle.archive_edit.specs.Adding.{fileOf, slotFor, archiveWith, leftBy, adding};
 use archive::LENGTHS_BYTES;
 use archive::Member;
 use archive::file_count;
@@ -159,7 +159,7 @@ fn insert(archive: &[u8], slot: Slot, name: &[u8], body: &[u8], out: &mut [u8])
 // The archive with one file more, at the start of `out`, or why there is none. What is past it stays, and a refusal writes nothing.
 pub fn add_file(archive: &[u8], name: &[u8], body: &[u8], out: &mut [u8]) -> Added
     requires { ⌜ laidOut (now archive) ≡ true ⌝ }
-    ensures { λ r. ⌜ leaving r (now (out .exit)) ≡ adding (fileOf (now (name .entry)) (now (body .entry))) (now (archive .entry)) (now (out .entry)) ⌝ }
+    ensures { λ r. ⌜ leftBy r (now (out .exit)) ≡ adding (fileOf (now (name .entry)) (now (body .entry))) (now (archive .entry)) (now (out .entry)) ⌝ }
 {
     if !is_file_name(name) {
         return Added::NotAName;

@@ -17,7 +17,7 @@ use Rattle.archive.specs.Walk.{lengthsAt, memberAt, fileIn}
 use Rattle.archive.proofs.Walk.{laid-fits, length-files, Walking, Stands, walking-first, walking-in, walking-turn, walking-next, walking-end, walking-sizes}
 use Rattle.archive_find.specs.declared.Found.{Found}
 use Rattle.archive_find.specs.declared.Found.the-variants.{At, Nothing}
-use Rattle.archive_find.specs.Finding.{stem, memberOf, findFrom, findIn, numberOf}
+use Rattle.archive_find.specs.Finding.{stem, memberOf, findFrom, findIn, fileNumber}
 
 -- ---- A row's name and a path
 
@@ -173,33 +173,33 @@ unfoldable numbered : ℕ → Found → ℕ
 numbered k (At m) = m .number
 numbered k Nothing = k
 
-number-from : (j at : ℕ) (fs : List File) (n : List ℕ) → numbered (j + length fs) (findFrom j at fs n) ≡ j + numberOf n fs
-unfolding findFrom numberOf numbered
+number-from : (j at : ℕ) (fs : List File) (n : List ℕ) → numbered (j + length fs) (findFrom j at fs n) ≡ j + fileNumber n fs
+unfolding findFrom fileNumber numbered
 number-from j at [] n = refl
 number-from j at (f ∷ fs) n = pick (same (f .name) n) (number-from (j + 1) (memberOf j at f .end) fs n)
   where
-    pick : (b : Bool) → numbered (j + 1 + length fs) (findFrom (j + 1) (memberOf j at f .end) fs n) ≡ j + 1 + numberOf n fs
+    pick : (b : Bool) → numbered (j + 1 + length fs) (findFrom (j + 1) (memberOf j at f .end) fs n) ≡ j + 1 + fileNumber n fs
         → numbered (j + suc (length fs)) (if b then At (memberOf j at f) else findFrom (j + 1) (memberOf j at f .end) fs n)
-        ≡ j + (if b then 0 else suc (numberOf n fs))
+        ≡ j + (if b then 0 else suc (fileNumber n fs))
     pick true ih = omega arith
     pick false ih =
         let e : j + suc (length fs) ≡ j + 1 + length fs = omega arith in
-        let g : j + 1 + numberOf n fs ≡ j + suc (numberOf n fs) = omega arith in
+        let g : j + 1 + fileNumber n fs ≡ j + suc (fileNumber n fs) = omega arith in
         ap (λ k. numbered k (findFrom (j + 1) (memberOf j at f .end) fs n)) e ∙ ih ∙ g
 
 module _ (s n : List ℕ) {r : Found} (e : r ≡ findIn s (pathOf [] n)) where
-  number-is : numbered (length (filesOf s)) r ≡ numberOf n (filesOf s)
+  number-is : numbered (length (filesOf s)) r ≡ fileNumber n (filesOf s)
   unfolding findIn pathOf isEmpty
   number-is =
       let z : 0 + length (filesOf s) ≡ length (filesOf s) = omega arith in
-      let y : 0 + numberOf n (filesOf s) ≡ numberOf n (filesOf s) = omega arith in
+      let y : 0 + fileNumber n (filesOf s) ≡ fileNumber n (filesOf s) = omega arith in
       ap (numbered (length (filesOf s))) e ∙ ap (λ k. numbered k (findFrom 0 (lengthsAt (length (filesOf s))) (filesOf s) n)) (sym z)
       ∙ number-from 0 (lengthsAt (length (filesOf s))) (filesOf s) n ∙ y
 
-  pub number-found : {m : Member} → r ≡ At m → m .number ≡ numberOf n (filesOf s)
+  pub number-found : {m : Member} → r ≡ At m → m .number ≡ fileNumber n (filesOf s)
   unfolding numbered
   number-found q = sym (ap (numbered (length (filesOf s))) q) ∙ number-is
 
-  pub number-off : r ≡ Nothing → length (filesOf s) ≡ numberOf n (filesOf s)
+  pub number-off : r ≡ Nothing → length (filesOf s) ≡ fileNumber n (filesOf s)
   unfolding numbered
   number-off q = sym (ap (numbered (length (filesOf s))) q) ∙ number-is

@@ -28,6 +28,6 @@ unfoldable pub findIn : List ℕ → List ℕ → Found
 findIn s path = findFrom 0 (lengthsAt (length (filesOf s))) (filesOf s) path
 
 -- the number of the file of that name, counted from 0, or the number of files
-unfoldable pub numberOf : List ℕ → List File → ℕ
-numberOf n [] = 0
-numberOf n (f ∷ fs) = if same (f .name) n then 0 else suc (numberOf n fs)
+unfoldable pub fileNumber : List ℕ → List File → ℕ
+fileNumber n [] = 0
+fileNumber n (f ∷ fs) = if same (f .name) n then 0 else suc (fileNumber n fs)

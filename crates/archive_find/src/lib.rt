@@ -5,7 +5,7 @@ ghost use Prim.Native.Nat.{_+_, _≤_};
 ghost use lib.ListN.{length, take, drop};
 ghost use Rattle.definition.specs.Lists.{same};
 ghost use Rattle.definition.specs.Archive.{filesOf, laidOut, folderOf, pathOf};
-ghost use Rattle.archive_find.specs.Finding.{stem, findIn, numberOf};
+ghost use Rattle.archive_find.specs.Finding.{stem, findIn, fileNumber};
 use archive::Member;
 use archive::file_count;
 use archive::lengths_at;
@@ -99,7 +99,7 @@ pub fn find(archive: &[u8], folder: &[u8], name: &[u8]) -> Found
 // The number of the file of that name, counted from 0, or the number of files.
 pub fn number_of(archive: &[u8], name: &[u8]) -> usize
     requires { ⌜ laidOut (now archive) ≡ true ⌝ }
-    ensures { λ r. ⌜ r ≡ numberOf (now (name .entry)) (filesOf (now (archive .entry))) ⌝ }
+    ensures { λ r. ⌜ r ≡ fileNumber (now (name .entry)) (filesOf (now (archive .entry))) ⌝ }
 {
     let found = find(archive, &name[..0], name);
     match found {

@@ -8,7 +8,7 @@ use lib.ListN.{length, length-append}
 use Rattle.definition.specs.Parsing.{Parsed, many}
 use Rattle.definition.specs.Text.{Part, partAt, isNamed, endsInName}
 use Rattle.laws.proofs.Lists.{Suffix, suffix-whole, suffix-part, length-part-rest}
-use Rattle.components.specs.Parts.{partsOf, keyFirst, componentOf, partOf, bytesOf, Parted, componentsAt}
+use Rattle.components.specs.Parts.{partsOf, keyFirst, componentIf, partOf, componentText, Parted, componentsAt}
 use Rattle.components.specs.declared.Next.{Next}
 use Rattle.components.proofs.Turns.{past, parts-over, key-over, parts-turn, key-turn, bytes-length}
 
@@ -27,8 +27,8 @@ unfolding endsInName endsAfter
 ends-first [] = refl
 ends-first (p ∷ ps) = refl
 
-is-named : (b : Bool) (w : List ℕ) → isNamed (componentOf b w) ≡ b
-unfolding isNamed componentOf
+is-named : (b : Bool) (w : List ℕ) → isNamed (componentIf b w) ≡ b
+unfolding isNamed componentIf
 is-named true w = refl
 is-named false w = refl
 
@@ -62,12 +62,12 @@ module _ {t u : List ℕ} {count size : ℕ} {named : Bool} (c : Counting t u co
       let left = length-part-rest u (r .end) in
       record {
         count-is = omega (arith, c .count-is, ap (λ (m : Parsed Part). length (m .items)) turn);
-        size-is = omega (arith, c .size-is, ap length (key-turn p h), length-append (bytesOf u r) (keyFirst (past u r)), bytes-length p h);
+        size-is = omega (arith, c .size-is, ap length (key-turn p h), length-append (componentText u r) (keyFirst (past u r)), bytes-length p h);
         named-is =
             c .named-is
             ∙ ap (λ (m : Parsed Part). endsAfter named (m .items)) turn
             ∙ ends-cons (partOf u r) (partsOf (past u r))
-            ∙ ap (λ (b : Bool). endsAfter b (partsOf (past u r))) (is-named (r .named) (bytesOf u r));
+            ∙ ap (λ (b : Bool). endsAfter b (partsOf (past u r))) (is-named (r .named) (componentText u r));
         rest-is = c .rest-is ∙ ap (λ (m : Parsed Part). m .rest) turn;
         left = suffix-part (c .left) (r .end) (p .inside);
         count-most = omega (arith, c .count-most, left, p .inside);

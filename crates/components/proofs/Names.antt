@@ -12,7 +12,7 @@ use Rattle.definition.specs.Parsing.{nothing}
 use Rattle.definition.specs.Bytes.{question, isName}
 use Rattle.definition.specs.Text.{Binding, componentAt}
 use Rattle.laws.proofs.Lists.{part-rest, take-run, drop-run, length-takeWhile-le}
-use Rattle.components.specs.Parts.{componentOf, Begun}
+use Rattle.components.specs.Parts.{componentIf, Begun}
 
 no-component : (t : List ℕ) → ((b : Binding) → componentAt b t ≡ nothing) → Begun t (record { named = false; len = 0 })
 no-component t e = record {
@@ -34,7 +34,7 @@ no-name [] h e k = absurd (omega arith)
 no-name (c ∷ t) h e k = no-component (c ∷ t) (λ b. rw (ne-eqb c question e, k) refl)
 
 pub wild : (t : List ℕ) → 0 < length t → getD t 0 0 ≡ question → Begun t (record { named = false; len = 1 })
-unfolding componentAt componentOf
+unfolding componentAt componentIf
 wild [] h e = absurd (omega arith)
 wild (c ∷ t) h e = record {
   none = λ k. absurd (omega arith);
@@ -45,7 +45,7 @@ wild (c ∷ t) h e = record {
 
 pub name-there : (t : List ℕ) → 0 < length t → (getD t 0 0 ≡ question → ⊥) → isName (getD t 0 0) ≡ true
     → (n : ℕ) → n ≡ length (takeWhile isName (take (length t - 1) (drop 1 t))) → Begun t (record { named = true; len = 1 + n })
-unfolding componentAt componentOf
+unfolding componentAt componentIf
 name-there [] h e k n g = absurd (omega arith)
 name-there (c ∷ t) h e k n g =
     let m : n ≡ length (takeWhile isName t) = g ∙ ap (λ (l : List ℕ). length (takeWhile isName l)) (part-rest (c ∷ t) 1) in

@@ -11,7 +11,7 @@ use Rattle.definition.specs.Image.{bindingByte, keyOf}
 use Rattle.laws.proofs.Lists.{part-rest}
 use Rattle.laws.proofs.Parsing.{many-stop, many-more}
 use Rattle.laws.proofs.Keys.{part-shrinks}
-use Rattle.components.specs.Parts.{partsOf, keyFirst, bindingIf, bytesOf, partOf, Parted}
+use Rattle.components.specs.Parts.{partsOf, keyFirst, bindingIf, componentText, partOf, Parted}
 use Rattle.components.specs.declared.Next.{Next}
 
 -- what is left after a part
@@ -32,12 +32,12 @@ module _ {t : List ℕ} {r : Next} (p : Parted t r) where
         many-more partAt part-shrinks t (partOf t r) (past t r)
         (p .some h ∙ ap (Rattle.definition.specs.Parsing.found (partOf t r)) (sym (part-rest t (r .end))))
 
-    pub key-turn : keyFirst t ≡ bindingByte (bindingIf (r .loose)) ∷ bytesOf t r ++ keyFirst (past t r)
+    pub key-turn : keyFirst t ≡ bindingByte (bindingIf (r .loose)) ∷ componentText t r ++ keyFirst (past t r)
     unfolding keyOf partOf
     key-turn =
         ap (λ (m : Parsed Part). keyOf (m .items)) parts-turn
         ∙ ap (λ (w : List ℕ). bindingByte (bindingIf (r .loose)) ∷ w ++ keyFirst (past t r)) (p .bytes h)
 
-    pub bytes-length : length (bytesOf t r) ≡ r .end - r .start
+    pub bytes-length : length (componentText t r) ≡ r .end - r .start
     bytes-length =
         length-take-le (r .end - r .start) (drop (r .start) t) (omega (arith, length-drop (r .start) t, p .inside))

@@ -7,7 +7,7 @@ use lib.ListN.{length, set, length-append, length-set}
 use lib.Seq.{paste, paste-zero, length-paste}
 use Rattle.definition.specs.Image.{bindingByte}
 use Rattle.laws.proofs.Lists.{paste-cons}
-use Rattle.components.specs.Parts.{keyFirst, bindingIf, bytesOf, Parted}
+use Rattle.components.specs.Parts.{keyFirst, bindingIf, componentText, Parted}
 use Rattle.components.specs.declared.Next.{Next}
 use Rattle.components.proofs.Turns.{past, key-over, key-turn, bytes-length}
 
@@ -40,25 +40,25 @@ module _ {t d₀ : List ℕ} {at₀ : ℕ} {u d : List ℕ} {at : ℕ} (w : Writ
     -- the part has room
     pub part-room : at + (1 + (r .end - r .start)) + length (keyFirst (past u r)) ≤ length d
     part-room =
-        omega (arith, w .fits, ap length (key-turn p h), length-append (bytesOf u r) (keyFirst (past u r)), bytes-length p h)
+        omega (arith, w .fits, ap length (key-turn p h), length-append (componentText u r) (keyFirst (past u r)), bytes-length p h)
 
     -- and so has its component, once the binding is written
-    pub copy-room : (b : ℕ) → at + 1 + length (bytesOf u r) ≤ length (set d at b)
+    pub copy-room : (b : ℕ) → at + 1 + length (componentText u r) ≤ length (set d at b)
     copy-room b = omega (arith, part-room, bytes-length p h, length-set d at b)
 
-    pub writing-next : (b : ℕ) → b ≡ bindingByte (bindingIf (r .loose)) → (e : List ℕ) → e ≡ pasted (set d at b) (at + 1) (bytesOf u r)
+    pub writing-next : (b : ℕ) → b ≡ bindingByte (bindingIf (r .loose)) → (e : List ℕ) → e ≡ pasted (set d at b) (at + 1) (componentText u r)
         → Writing t d₀ at₀ (past u r) e (at + (1 + (r .end - r .start)))
     writing-next b f e g =
         let n = bytes-length p h in
         let long : length e ≡ length d =
         ap length g
-        ∙ length-paste (set d at b) (at + 1) (bytesOf u r) (length (bytesOf u r)) (copy-room b) (omega arith)
+        ∙ length-paste (set d at b) (at + 1) (componentText u r) (length (componentText u r)) (copy-room b) (omega arith)
         ∙ length-set d at b in
         record {
           same =
               ap (λ (l : List ℕ). pasted l (at + (1 + (r .end - r .start))) (keyFirst (past u r))) g
-              ∙ pasted-part d at b (bytesOf u r) (keyFirst (past u r)) (r .end - r .start) n (omega (arith, part-room))
-              ∙ ap (pasted d at) (ap (λ (x : ℕ). x ∷ bytesOf u r ++ keyFirst (past u r)) f ∙ sym (key-turn p h))
+              ∙ pasted-part d at b (componentText u r) (keyFirst (past u r)) (r .end - r .start) n (omega (arith, part-room))
+              ∙ ap (pasted d at) (ap (λ (x : ℕ). x ∷ componentText u r ++ keyFirst (past u r)) f ∙ sym (key-turn p h))
               ∙ w .same;
           fits = omega (arith, part-room, long);
           long = long ∙ w .long;

@@ -24,29 +24,29 @@ pub record Bound (t : List ℕ) (r : Run) : Type 0 where
   pub len : r .len ≡ length (takeWhile isBinding t)
 
 -- the component that the bytes w are
-unfoldable pub componentOf : Bool → List ℕ → Component
-componentOf named w = if named then name w else wildcard
+unfoldable pub componentIf : Bool → List ℕ → Component
+componentIf named w = if named then name w else wildcard
 
 -- the component at the front of t, whatever binds it
 pub record Begun (t : List ℕ) (r : code.Component) : Type 0 where
   pub none : r .len ≤ 0 → (b : Binding) → componentAt b t ≡ nothing
   pub some : 0 < r .len → (b : Binding)
-      → componentAt b t ≡ found (record { binding = b; component = componentOf (r .named) (take (r .len) t) }) (drop (r .len) t)
-  pub bytes : 0 < r .len → componentBytes (componentOf (r .named) (take (r .len) t)) ≡ take (r .len) t
+      → componentAt b t ≡ found (record { binding = b; component = componentIf (r .named) (take (r .len) t) }) (drop (r .len) t)
+  pub bytes : 0 < r .len → componentBytes (componentIf (r .named) (take (r .len) t)) ≡ take (r .len) t
   pub inside : r .len ≤ length t
 
 -- the bytes of the component
-abbrev pub bytesOf : List ℕ → Next → List ℕ
-bytesOf t r = take (r .end - r .start) (drop (r .start) t)
+abbrev pub componentText : List ℕ → Next → List ℕ
+componentText t r = take (r .end - r .start) (drop (r .start) t)
 
 unfoldable pub partOf : List ℕ → Next → Part
-partOf t r = record { binding = bindingIf (r .loose); component = componentOf (r .named) (bytesOf t r) }
+partOf t r = record { binding = bindingIf (r .loose); component = componentIf (r .named) (componentText t r) }
 
 -- the part at the front of t
 pub record Parted (t : List ℕ) (r : Next) : Type 0 where
   pub none : r .end ≤ r .start → partAt t ≡ nothing
   pub some : r .start < r .end → partAt t ≡ found (partOf t r) (drop (r .end) t)
-  pub bytes : r .start < r .end → componentBytes (partOf t r .component) ≡ bytesOf t r
+  pub bytes : r .start < r .end → componentBytes (partOf t r .component) ≡ componentText t r
   pub inside : r .end ≤ length t
 
 -- the parts at the front of a text, and the key that writes them

@@ -13,7 +13,7 @@ use Rattle.definition.specs.Text.{Part}
 use Rattle.definition.specs.Image.{keyOf, keyParts}
 use Rattle.laws.proofs.Lists.{Order, below, equal, above, order, all-getD}
 use Rattle.laws.proofs.Keys.{isLegal}
-use Rattle.key.specs.Keys.{notBinding, noPart, endOf, endsOf, splitKey}
+use Rattle.key.specs.Keys.{notBinding, noPart, partEnd, endsOf, splitKey}
 use Rattle.key.proofs.Keys.{Parts, part-run, part-rest, part-inside}
 
 -- `count` parts are found, and end at `at`
@@ -92,7 +92,7 @@ module _ {key : List ℕ} (K : Parts key (keyParts key)) where
       next-inside = rw (part-run key at p ps legal rest) (part-inside key at p ps legal rest)
 
       -- one more part, up to e
-      more-at : (e : ℕ) → e ≡ endOf at p → Bounding key (set bounds (count + 1) e) (count + 1) e
+      more-at : (e : ℕ) → e ≡ partEnd at p → Bounding key (set bounds (count + 1) e) (count + 1) e
       unfolding endsOf
       more-at e z =
           let long : suc count < length bounds = omega (arith, room, K .few, S .size) in

@@ -12,7 +12,7 @@ use Rattle.definition.specs.Text.{Part}
 use Rattle.definition.specs.Image.{keyOf, keyParts, isKey}
 use Rattle.laws.proofs.Lists.{and-true}
 use Rattle.laws.proofs.Keys.{isLegal}
-use Rattle.key.specs.Keys.{partBetween, noPart, endOf, endsOf, splitKey, Bounded}
+use Rattle.key.specs.Keys.{partBetween, noPart, partEnd, endsOf, splitKey, Bounded}
 use Rattle.key.specs.declared.Key.{Key}
 use Rattle.key.proofs.Keys.{parts-of, some-part, part-some, part-rest, part-inside, part-is}
 
@@ -25,7 +25,7 @@ record Between (key : List ℕ) (ps : List Part) (bs : List ℕ) : Type 0 where
 length-ends : (at : ℕ) (ps : List Part) → length (endsOf at ps) ≡ length ps
 unfolding endsOf
 length-ends at [] = refl
-length-ends at (p ∷ ps) = ap suc (length-ends (endOf at p) ps)
+length-ends at (p ∷ ps) = ap suc (length-ends (partEnd at p) ps)
 
 -- the key goes on with ps at `at`
 between : (key : List ℕ) (at : ℕ) (ps : List Part) → all isLegal ps ≡ true → drop at key ≡ keyOf ps → at ≤ length key → Between key ps (at ∷ endsOf at ps)
@@ -37,9 +37,9 @@ between key at [] l e h = record {
 }
 between key at (p ∷ ps) l e h =
     let m = and-true (isLegal p) (all isLegal ps) l in
-    step (m .0) (between key (endOf at p) ps (m .1) (part-rest key at p ps (m .0) e) (part-inside key at p ps (m .0) e))
+    step (m .0) (between key (partEnd at p) ps (m .1) (part-rest key at p ps (m .0) e) (part-inside key at p ps (m .0) e))
   where
-    step : isLegal p ≡ true → Between key ps (endOf at p ∷ endsOf (endOf at p) ps) → Between key (p ∷ ps) (at ∷ endsOf at (p ∷ ps))
+    step : isLegal p ≡ true → Between key ps (partEnd at p ∷ endsOf (partEnd at p) ps) → Between key (p ∷ ps) (at ∷ endsOf at (p ∷ ps))
     step l B = record { part = part; rises = rises; inside = inside }
       where
         part : (i : ℕ) → i < suc (length ps) → getD (p ∷ ps) i noPart ≡ partBetween key (getD (at ∷ endsOf at (p ∷ ps)) i 0) (getD (endsOf at (p ∷ ps)) i 0)

@@ -18,13 +18,13 @@ notBinding c = not (isBinding c)
 -- ---- Where the parts stand
 
 -- a part's binding stands at `at`, and its component after it
-abbrev pub endOf : ℕ → Part → ℕ
-endOf at p = at + 1 + length (componentBytes (p .component))
+abbrev pub partEnd : ℕ → Part → ℕ
+partEnd at p = at + 1 + length (componentBytes (p .component))
 
 -- where each of the parts ends, of which the first begins at `at`
 unfoldable pub endsOf : ℕ → List Part → List ℕ
 endsOf at [] = []
-endsOf at (p ∷ ps) = endOf at p ∷ endsOf (endOf at p) ps
+endsOf at (p ∷ ps) = partEnd at p ∷ endsOf (partEnd at p) ps
 
 -- a key's bounds: 0, where each part ends, and 0 up to the most
 unfoldable pub splitKey : List ℕ → Key

@@ -20,7 +20,7 @@ use Rattle.scan.proofs.Includes.{include-found}
 use Rattle.components.specs.Parts.{partsOf, componentsAt}
 use Rattle.components.specs.declared.Components.{Components}
 use Rattle.components.proofs.Rests.{parts-suffix}
-use Rattle.lines.specs.Places.{endOf, directiveIn, resourceIn, lineIn}
+use Rattle.lines.specs.Places.{lineLength, directiveIn, resourceIn, lineIn}
 use Rattle.lines.specs.declared.Line.the-variants.{Skip, Entry}
 
 -- ---- The first byte
@@ -30,13 +30,13 @@ unfolding lineIn
 newline-line [] h e = absurd (omega arith)
 newline-line (c ∷ t) h e = rw e refl
 
-pub comment-line : (t : List ℕ) → 0 < length t → getD t 0 0 ≡ exclamation → (n : ℕ) → n ≡ endOf t → Skip n ≡ lineIn t
+pub comment-line : (t : List ℕ) → 0 < length t → getD t 0 0 ≡ exclamation → (n : ℕ) → n ≡ lineLength t → Skip n ≡ lineIn t
 unfolding lineIn
 comment-line [] h e n f = absurd (omega arith)
 comment-line (c ∷ t) h e n f = rw (f, e) refl
 
 -- r is what follows the `#`
-pub directive-line : (t : List ℕ) → 0 < length t → getD t 0 0 ≡ hash → (n : ℕ) → n ≡ endOf t → (r : scan.Include) → r ≡ includeAt (take (length t - 1) (drop 1 t))
+pub directive-line : (t : List ℕ) → 0 < length t → getD t 0 0 ≡ hash → (n : ℕ) → n ≡ lineLength t → (r : scan.Include) → r ≡ includeAt (take (length t - 1) (drop 1 t))
     → directiveIn n r ≡ lineIn t
 unfolding lineIn
 directive-line [] h e n f r g = absurd (omega arith)
@@ -90,6 +90,6 @@ module _ (t : List ℕ) (r : Components) (e : r ≡ componentsAt t) where
         let a : length t - length s + 1 ≡ length t - length (drop 1 s) = omega (arith, colon-at .most, n .1, length-drop 1 s) in
         rw (x, ← spaced, n .0, a, e) refl
 
-pub skipped-line : (t : List ℕ) (n : ℕ) → n ≡ endOf t → assigned t ≡ none → Skip n ≡ resourceIn t (assigned t)
+pub skipped-line : (t : List ℕ) (n : ℕ) → n ≡ lineLength t → assigned t ≡ none → Skip n ≡ resourceIn t (assigned t)
 unfolding resourceIn
 skipped-line t n f e = rw (e, f) refl

@@ -22,7 +22,7 @@ use Rattle.scan.proofs.Beginnings.{after-suffix}
 use Rattle.scan.proofs.Includes.{includedName, IncludeFound, include-found}
 use Rattle.components.specs.Parts.{partsOf}
 use Rattle.components.proofs.Rests.{parts-suffix}
-use Rattle.lines.specs.Places.{endOf, directiveIn, resourceIn, lineIn}
+use Rattle.lines.specs.Places.{lineLength, directiveIn, resourceIn, lineIn}
 use Rattle.lines.specs.declared.Line.{Line}
 use Rattle.lines.specs.declared.Line.the-variants.{Skip, Include, Entry}
 
@@ -51,15 +51,15 @@ Lined t p (Entry v count size) = Enters t p v count size
 
 -- ---- Where a line ends
 
-end-inside : (t : List ℕ) → endOf t ≤ length t
+end-inside : (t : List ℕ) → lineLength t ≤ length t
 end-inside t = length-takeWhile-le notNewline t
 
-end-is : (t : List ℕ) → drop (endOf t) t ≡ lineEnd t
+end-is : (t : List ℕ) → drop (lineLength t) t ≡ lineEnd t
 unfolding lineEnd
 end-is t = drop-run notNewline t
 
 -- a line goes on after a byte that is no newline
-end-after : (c : ℕ) (t : List ℕ) → eqb c newline ≡ false → drop (endOf (c ∷ t)) (c ∷ t) ≡ lineEnd t
+end-after : (c : ℕ) (t : List ℕ) → eqb c newline ≡ false → drop (lineLength (c ∷ t)) (c ∷ t) ≡ lineEnd t
 unfolding lineEnd notNewline dropWhile
 end-after c t e = end-is (c ∷ t) ∙ rw e refl
 
@@ -99,10 +99,10 @@ line-lined (c ∷ t) h = at (eqb c newline) (eqb c exclamation) (eqb c hash) ref
     at : (n x k : Bool) → eqb c newline ≡ n
         → Lined (c ∷ t)
         (if n then found skipped t else if x then found skipped (lineEnd t) else if k then found (directiveOf (includeOf t)) (lineEnd t) else resourceOf (c ∷ t) (assigned (c ∷ t)))
-        (if n then Skip 1 else if x then Skip (endOf (c ∷ t)) else if k then directiveIn (endOf (c ∷ t)) (includeAt t) else resourceIn (c ∷ t) (assigned (c ∷ t)))
+        (if n then Skip 1 else if x then Skip (lineLength (c ∷ t)) else if k then directiveIn (lineLength (c ∷ t)) (includeAt t) else resourceIn (c ∷ t) (assigned (c ∷ t)))
     at true x k e = record { is = refl; inside = omega arith }
     at false true k e = record { is = rw (end-after c t e) refl; inside = end-inside (c ∷ t) }
-    at false false true e = rw (← end-after c t e) (directive-lined c t (endOf (c ∷ t)) (end-inside (c ∷ t)) (includeAt t) (include-found t))
+    at false false true e = rw (← end-after c t e) (directive-lined c t (lineLength (c ∷ t)) (end-inside (c ∷ t)) (includeAt t) (include-found t))
     at false false false e = resource-lined (c ∷ t) (assigned (c ∷ t)) refl
 
 -- r is what `parse_line` answers

@@ -15,8 +15,8 @@ use Rattle.lines.specs.declared.Line.{Line}
 use Rattle.lines.specs.declared.Line.the-variants.{Skip, Include, Entry}
 
 -- where the first line ends
-abbrev pub endOf : List ℕ → ℕ
-endOf t = length (takeWhile notNewline t)
+abbrev pub lineLength : List ℕ → ℕ
+lineLength t = length (takeWhile notNewline t)
 
 -- a line of a directive, whose `#` is its first byte
 unfoldable pub directiveIn : ℕ → scan.Include → Line
@@ -25,7 +25,7 @@ directiveIn end Other = Skip end
 
 -- a line that is no comment and no directive; u follows its `:`
 unfoldable pub resourceIn : List ℕ → Option (List ℕ) → Line
-resourceIn t none = Skip (endOf t)
+resourceIn t none = Skip (lineLength t)
 resourceIn t (some u) = Entry (length t - length u) (length (partsOf t)) (length (keyFirst t))
 
 -- as lineAt, which has the line's bytes
@@ -33,6 +33,6 @@ unfoldable pub lineIn : List ℕ → Line
 lineIn [] = Skip 0
 lineIn (c ∷ t) =
     if eqb c newline then Skip 1 else
-    if eqb c exclamation then Skip (endOf (c ∷ t)) else
-    if eqb c hash then directiveIn (endOf (c ∷ t)) (includeAt t) else
+    if eqb c exclamation then Skip (lineLength (c ∷ t)) else
+    if eqb c hash then directiveIn (lineLength (c ∷ t)) (includeAt t) else
     resourceIn (c ∷ t) (assigned (c ∷ t))

@@ -17,7 +17,7 @@ use Rattle.laws.proofs.Limits.{used-store}
 use Rattle.laws.proofs.Reading.{Reads, accepted-reads, reads-outcome}
 use Rattle.image.specs.Rows.{rowStart, rowAt}
 use Rattle.image.proofs.Rows.{row-is}
-use Rattle.printing.specs.Putting.{Puts}
+use Rattle.printing.specs.Putting.{Appends}
 use Rattle.printing.proofs.Pieces.{piece-of, then-piece, piece-counts}
 use Rattle.listing.specs.Listing.{entryLine, entryLines, wordLine, written, printed, rowLines, Listable, listBytes, Lists}
 use Rattle.listing.proofs.Lines.{entry-most, word-most}
@@ -126,7 +126,7 @@ module _ (text c b : List ℕ) (n o : ℕ) (e : outcome (accepted n o) c b ≡ r
   unfolding printed written
   is-printed = ap (λ (t : List ℕ). wordLine (ascii "entries") n ++ t) lines-are ∙ rw (← e, count)
 
-  pub accepted-lists : {out o₁ o₂ : List ℕ} {e₁ e₂ : ℕ} → Puts (wordLine (ascii "entries") n) out 0 o₁ e₁ → Puts (rowLines 0 (rowsIn c) b) o₁ e₁ o₂ e₂ → Lists text out o₂ e₂
+  pub accepted-lists : {out o₁ o₂ : List ℕ} {e₁ e₂ : ℕ} → Appends (wordLine (ascii "entries") n) out 0 o₁ e₁ → Appends (rowLines 0 (rowsIn c) b) o₁ e₁ o₂ e₂ → Lists text out o₂ e₂
   accepted-lists p q = let puts = piece-of is-printed (then-piece p q) in record { puts = puts; counts = piece-counts puts }
 
 refused-printed : (text c b : List ℕ) (k : ℕ) → outcome (refused k) c b ≡ reading text noFiles words bytes → wordLine (ascii "refused") k ≡ printed text
@@ -134,5 +134,5 @@ unfolding printed written
 refused-printed text c b k e = rw (← e)
 
 pub refused-lists : (text : List ℕ) {c b : List ℕ} {k : ℕ} {out o₁ : List ℕ} {e₁ : ℕ} → outcome (refused k) c b ≡ reading text noFiles words bytes
-    → Puts (wordLine (ascii "refused") k) out 0 o₁ e₁ → Lists text out o₁ e₁
+    → Appends (wordLine (ascii "refused") k) out 0 o₁ e₁ → Lists text out o₁ e₁
 refused-lists text {c} {b} {k} e p = let puts = piece-of (refused-printed text c b k e) p in record { puts = puts; counts = piece-counts puts }

@@ -10,7 +10,7 @@ use Rattle.laws.proofs.Lists.{paste-append, part-slice}
 use Rattle.image.specs.declared.Row as image
 use Rattle.image.specs.Rows.{rowsLeft, rowAt, rowOf}
 use Rattle.image.proofs.Rows.{rows-turn}
-use Rattle.printing.specs.Putting.{Puts}
+use Rattle.printing.specs.Putting.{Appends}
 use Rattle.printing.proofs.Pieces.{piece-long}
 use Rattle.listing.specs.Listing.{entryLine, rowLines, Listable}
 
@@ -25,7 +25,7 @@ walk-begun whole out at = record { place = refl; same-length = refl; leaves = re
 
 -- one line more
 pub walk-next : {whole out₀ left line more out out′ : List ℕ} {at end end′ : ℕ} → Walk whole out₀ at left out end → left ≡ line ++ more
-    → Puts line out end out′ end′ → Walk whole out₀ at more out′ end′
+    → Appends line out end out′ end′ → Walk whole out₀ at more out′ end′
 walk-next {whole} {out₀} {left} {line} {more} {out} {out′} {at} {end} {end′} w e p =
     let l : length left ≡ length line + length more = ap length e ∙ length-append line more in
     record {
@@ -39,7 +39,7 @@ pub walk-room : {whole out₀ left out : List ℕ} {at end : ℕ} (line more : L
     → end + length line ≤ length out
 walk-room line more h w e = omega (arith, h, w .place, w .same-length, ap length e ∙ length-append line more)
 
-pub walk-ended : {whole out₀ left out : List ℕ} {at end : ℕ} → at + length whole ≤ length out₀ → Walk whole out₀ at left out end → left ≡ [] → Puts whole out₀ at out end
+pub walk-ended : {whole out₀ left out : List ℕ} {at end : ℕ} → at + length whole ≤ length out₀ → Walk whole out₀ at left out end → left ≡ [] → Appends whole out₀ at out end
 walk-ended {whole} {out₀} {left} {out} {at} {end} h w e =
     let l : length left ≡ 0 = ap length e in
     record {

@@ -11,7 +11,7 @@ use Rattle.definition.specs.Evaluation.{noFiles}
 use Rattle.definition.specs.Reading.{Answer, accepted, refused, reading, plain, readEntries}
 use Rattle.io.specs.Counts.{Counts}
 use Rattle.image.specs.Rows.{rowStart, rowAt}
-use Rattle.printing.specs.Putting.{Puts, decimal}
+use Rattle.printing.specs.Putting.{Appends, decimal}
 
 -- number, key, value length
 unfoldable pub entryLine : ℕ → List ℕ → ℕ → List ℕ
@@ -54,5 +54,5 @@ listBytes = 65536
 
 -- what is written stands at the front of `out`, which is else as it was
 pub record Lists (text out out′ : List ℕ) (r : ℕ) : Type 0 where
-  pub puts : Puts (printed text) out 0 out′ r
+  pub puts : Appends (printed text) out 0 out′ r
   pub counts : Counts r out′

@@ -3,7 +3,7 @@ ghost use mathlib.Core.Path.{_≡_};
 ghost use Prim.Native.Nat.{_+_, _≤_};
 ghost use lib.ListN.{length};
 ghost use Rattle.definition.specs.Image.{rowsIn};
-ghost use Rattle.printing.specs.Putting.{Puts};
+ghost use Rattle.printing.specs.Putting.{Appends};
 ghost use Rattle.listing.specs.Listing.{entryLine, rowLines, wordLine, printed, Listable, listBytes, Lists};
 use image::row_at;
 use limits::BODY_BYTES;
@@ -15,7 +15,7 @@ use reader::Answer;
 // Puts the line of a word and a number at the start of `out`.
 fn put_word(word: &[u8], n: usize, out: &mut [u8]) -> usize
     requires { ⌜ length (wordLine (now word) n) ≤ length (now out) ⌝ }
-    ensures { λ r. ⌜ Puts (wordLine (now (word .entry)) n) (now (out .entry)) 0 (now (out .exit)) r ⌝ }
+    ensures { λ r. ⌜ Appends (wordLine (now (word .entry)) n) (now (out .entry)) 0 (now (out .exit)) r ⌝ }
 {
     let mut end = put(word, out, 0);
     end = put(b" ", out, end);
@@ -26,7 +26,7 @@ fn put_word(word: &[u8], n: usize, out: &mut [u8]) -> usize
 // Puts an entry's line at `at`: number, key, value length.
 fn put_entry(i: usize, key: &[u8], size: usize, out: &mut [u8], at: usize) -> usize
     requires { ⌜ at + length (entryLine i (now key) size) ≤ length (now out) ⌝ }
-    ensures { λ r. ⌜ Puts (entryLine i (now (key .entry)) size) (now (out .entry)) at (now (out .exit)) r ⌝ }
+    ensures { λ r. ⌜ Appends (entryLine i (now (key .entry)) size) (now (out .entry)) at (now (out .exit)) r ⌝ }
 {
     let mut end = put_number(i, out, at);
     end = put(b" ", out, end);
@@ -39,7 +39,7 @@ fn put_entry(i: usize, key: &[u8], size: usize, out: &mut [u8], at: usize) -> us
 // Puts the line of each entry of an image, from `at` on.
 fn put_entries(contents: &[u16], bodies: &[u8], out: &mut [u8], at: usize) -> usize
     requires { ⌜ Listable (now contents) (now bodies) (now out) at ⌝ }
-    ensures { λ r. ⌜ Puts (rowLines 0 (rowsIn (now (contents .entry))) (now (bodies .entry))) (now (out .entry)) at (now (out .exit)) r ⌝ }
+    ensures { λ r. ⌜ Appends (rowLines 0 (rowsIn (now (contents .entry))) (now (bodies .entry))) (now (out .entry)) at (now (out .exit)) r ⌝ }
 {
     let count = contents[0] as usize;
     let mut end = at;

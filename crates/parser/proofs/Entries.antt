@@ -16,7 +16,7 @@ use Rattle.laws.proofs.Lists.{part-rest, Suffix, suffix-whole, suffix-drop}
 use Rattle.image.specs.Running.{World, world, went, stopped, rowFor, stored, cut, put}
 use Rattle.image.specs.Rows.{withRow}
 use Rattle.image.specs.declared.Totals.{Totals}
-use Rattle.values.specs.Decoded.{valueAt, Decoded}
+use Rattle.values.specs.Decoded.{decodedAt, Decoded}
 use Rattle.values.specs.declared.Stored.the-variants.{Full}
 use Rattle.scan.proofs.Suffixes.{suffix-trans}
 use Rattle.values.proofs.Skipping.{blanks-suffix}
@@ -73,8 +73,8 @@ module _ (t : List ℕ) (v : ℕ) (inside : v ≤ length t) (u : List ℕ) (is :
   value-text : u ≡ afterBlanks (drop v t)
   value-text = is ∙ ap afterBlanks (part-rest t v)
 
-  pub value-is : valueAt u ≡ flatten (pieces (drop v t) .items)
-  value-is = ap valueAt value-text
+  pub value-is : decodedAt u ≡ flatten (pieces (drop v t) .items)
+  value-is = ap decodedAt value-text
 
   behind : Suffix u (drop v t)
   behind = rw value-text (blanks-suffix (drop v t))
@@ -136,14 +136,14 @@ module _ {t : List ℕ} {v count size : ℕ} {s : Totals} {c b b₁ u : List ℕ
   few-parts : length (partsOf t) ≤ mostParts
   few-parts = omega (arith, k .few, k .asked .parts)
 
-  value-long : length (valueAt u) ≡ length (e .value)
+  value-long : length (decodedAt u) ≡ length (e .value)
   value-long = ap length (value-is t v (k .asked .inside) u (k .is))
 
   pub text-inside : length u ≤ length t
   text-inside = value-inside t v (k .asked .inside) u (k .is)
 
   -- the value, or what there is room for of it, behind the key
-  behind-key : (n : ℕ) → paste b₁ (s .used + size) (valueAt u) n ≡ paste b (s .used) (keyOf (partsOf t) ++ e .value) (length (keyOf (partsOf t)) + n)
+  behind-key : (n : ℕ) → paste b₁ (s .used + size) (decodedAt u) n ≡ paste b (s .used) (keyOf (partsOf t) ++ e .value) (length (keyOf (partsOf t)) + n)
   behind-key n =
       rw (k .written, k .asked .key, value-is t v (k .asked .inside) u (k .is)) refl
       ∙ both-stored b (keyOf (partsOf t)) (e .value) (s .used) n (omega (arith, k .fits, k .asked .key, k .asked .room .used-most, k .asked .room .bytes-long))
@@ -154,12 +154,12 @@ module _ {t : List ℕ} {v count size : ℕ} {s : Totals} {c b b₁ u : List ℕ
       let r = k .asked .room in
       let short : s .used + length (keyOf (partsOf t)) ≤ bodyBytes = omega (arith, k .fits, k .asked .key, r .used-most, r .bytes-long) in
       let n : length (keyOf (partsOf t)) + (length b₁ - (s .used + size)) ≡ bodyBytes - s .used = omega (arith, k .asked .key, k .long, r .bytes-long) in
-      let most : length b₁ - (s .used + size) ≤ length (valueAt u) = omega arith in
+      let most : length b₁ - (s .used + size) ≤ length (decodedAt u) = omega arith in
       put-full s c b e few-parts (k .less) (omega (arith, value-long, k .asked .key, k .long, r .bytes-long))
       ∙ ap (stopped 7 c)
       (cut-some s c b e short
       ∙ ap (λ (m : ℕ). paste b (s .used) (keyOf (partsOf t) ++ e .value) m) (sym n)
-      ∙ sym (d .stored ∙ ap (paste b₁ (s .used + size) (valueAt u)) (min-eq-right most) ∙ behind-key (length b₁ - (s .used + size))))
+      ∙ sym (d .stored ∙ ap (paste b₁ (s .used + size) (decodedAt u)) (min-eq-right most) ∙ behind-key (length b₁ - (s .used + size))))
 
   module _ {b₂ : List ℕ} {end taken : ℕ} (st : Fits u b₁ (s .used + size) b₂ end taken) where
     pub value-after : s .used + size ≤ end
@@ -173,7 +173,7 @@ module _ {t : List ℕ} {v count size : ℕ} {s : Totals} {c b b₁ u : List ℕ
 
     bytes-are : paste b (s .used) (keyOf (partsOf t) ++ e .value) (sizeOf e) ≡ b₂
     bytes-are =
-        sym (st .stored ∙ behind-key (length (valueAt u)) ∙ ap (λ (n : ℕ). paste b (s .used) (keyOf (partsOf t) ++ e .value) (length (keyOf (partsOf t)) + n)) value-long)
+        sym (st .stored ∙ behind-key (length (decodedAt u)) ∙ ap (λ (n : ℕ). paste b (s .used) (keyOf (partsOf t) ++ e .value) (length (keyOf (partsOf t)) + n)) value-long)
 
     -- a place from which the rest of the text is what the definition leaves
     ends-at : (n : ℕ) → drop n t ≡ drop 1 (pieces (drop v t) .rest) → n ≤ length t → n ≡ lineAfter t v

@@ -7,20 +7,20 @@ use lib.ListN.{length, length-append}
 use lib.Seq.{paste, length-paste, length-take-le}
 use Rattle.io.specs.Counts.{Counts}
 use Rattle.laws.proofs.Lists.{paste-append}
-use Rattle.printing.specs.Putting.{Puts}
+use Rattle.printing.specs.Putting.{Appends}
 
 -- the bytes by another name
-pub piece-of : {xs ys out out′ : List ℕ} {at end : ℕ} → xs ≡ ys → Puts xs out at out′ end → Puts ys out at out′ end
+pub piece-of : {xs ys out out′ : List ℕ} {at end : ℕ} → xs ≡ ys → Appends xs out at out′ end → Appends ys out at out′ end
 piece-of {xs} {ys} {out} {out′} {at} {end} e p = rw e at p
 
 -- the buffer is as long as before
-pub piece-long : {bytes out out′ : List ℕ} {at end : ℕ} → Puts bytes out at out′ end → length out′ ≡ length out
+pub piece-long : {bytes out out′ : List ℕ} {at end : ℕ} → Appends bytes out at out′ end → length out′ ≡ length out
 piece-long {bytes} {out} {out′} {at} p =
     let n : length bytes ≤ length bytes = omega arith in
     ap length (p .leaves) ∙ length-paste out at bytes (length bytes) (p .fits) n
 
 -- one piece after another
-pub then-piece : {xs ys out out₁ out₂ : List ℕ} {at end₁ end₂ : ℕ} → Puts xs out at out₁ end₁ → Puts ys out₁ end₁ out₂ end₂ → Puts (xs ++ ys) out at out₂ end₂
+pub then-piece : {xs ys out out₁ out₂ : List ℕ} {at end₁ end₂ : ℕ} → Appends xs out at out₁ end₁ → Appends ys out₁ end₁ out₂ end₂ → Appends (xs ++ ys) out at out₂ end₂
 then-piece {xs} {ys} {out} {out₁} {out₂} {at} {end₁} {end₂} p q = record {
   fits = omega (arith, p .ends, q .fits, piece-long p, length-append xs ys);
   ends = omega (arith, p .ends, q .ends, length-append xs ys);
@@ -29,7 +29,7 @@ then-piece {xs} {ys} {out} {out₁} {out₂} {at} {end₁} {end₂} p q = record
 }
 
 -- what stands at the buffer's start is what was put there
-pub piece-counts : {bytes out out′ : List ℕ} {end : ℕ} → Puts bytes out 0 out′ end → Counts end out′
+pub piece-counts : {bytes out out′ : List ℕ} {end : ℕ} → Appends bytes out 0 out′ end → Counts end out′
 piece-counts {bytes} {out} {out′} {end} p =
     let n : end ≤ length out′ = omega (arith, p .ends, p .fits, piece-long p) in
     (n, sym (length-take-le end out′ n))

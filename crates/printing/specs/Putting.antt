@@ -8,7 +8,7 @@ use lib.Seq.{paste}
 use Rattle.definition.specs.Lists.{if_then_else_}
 
 -- the bytes stand from `at` to `end`, and all else is as it was
-pub record Puts (bytes out : List ℕ) (at : ℕ) (out′ : List ℕ) (end : ℕ) : Type 0 where
+pub record Appends (bytes out : List ℕ) (at : ℕ) (out′ : List ℕ) (end : ℕ) : Type 0 where
   pub fits : at + length bytes ≤ length out
   pub ends : end ≡ at + length bytes
   pub leaves : out′ ≡ paste out at bytes (length bytes)

@@ -9,11 +9,11 @@ use lib.ListN.{length}
 use Rattle.definition.specs.Lists.{if_then_else_}
 use Rattle.definition.specs.Lookup.{Reply, given, noValue, refused, Place, getBytes, bytesAt}
 use Rattle.definition.specs.Value.{isUtf8, replied, readAs, bytesOr, getString, shown}
-use Rattle.lookup.specs.Replies.{replied as lookedUp}
+use Rattle.lookup.specs.Replies.{replied as lookedUp, LiesIn}
 use Rattle.lookup.specs.declared.Lookup.{Lookup}
 use Rattle.lookup.specs.declared.Lookup.the-variants.{Found, Nothing, Refused}
 use Rattle.lookup.proofs.Looking.{found-inside}
-use Rattle.readings.specs.Showing.{Within, shownAt}
+use Rattle.readings.specs.Showing.{shownAt}
 
 abbrev at : ℕ → ℕ → Place
 at p n = record { start = p; length = n }
@@ -33,7 +33,7 @@ module _ {A : Type 0} (f : Place → Option A) (r : Reply Place) where
   read-given p o e h = rw (← e, ← h) refl
 
 module _ (contents bodies name class : List ℕ) where
-  pub bytes-within : (r : Lookup) → lookedUp r ≡ getBytes contents bodies name class → Within r (length bodies)
+  pub bytes-within : (r : Lookup) → lookedUp r ≡ getBytes contents bodies name class → LiesIn r (length bodies)
   bytes-within (Found p n) e = found-inside contents bodies name class p n e
   bytes-within Nothing e = tt
   bytes-within (Refused k) e = tt

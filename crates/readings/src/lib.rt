@@ -4,9 +4,9 @@ ghost use Prim.Native.Nat.{_+_, _≤_};
 ghost use lib.ListN.{length};
 ghost use Rattle.definition.specs.Lookup.{getBytes, bytesAt};
 ghost use Rattle.definition.specs.Value.{getString, getBool, getValue, bytesOr, shown};
-ghost use Rattle.lookup.specs.Replies.{replied};
+ghost use Rattle.lookup.specs.Replies.{replied, LiesIn};
 ghost use Rattle.readings.specs.Replies.{truthReplied, valueReplied};
-ghost use Rattle.readings.specs.Showing.{Within, shownAt};
+ghost use Rattle.readings.specs.Showing.{shownAt};
 use interpret::Boolean;
 use interpret::Number;
 use interpret::parse_i64;
@@ -92,7 +92,7 @@ pub fn get_value(contents: &[u16], bodies: &[u8], name: &[u8], class: &[u8]) -> 
 
 // The bytes of what a lookup found, or else the default: a part of one of the two.
 pub fn value_or<'a>(found: Lookup, bodies: &'a [u8], default: &'a [u8]) -> &'a [u8]
-    requires { ⌜ Within found (length (now bodies)) ⌝ }
+    requires { ⌜ LiesIn found (length (now bodies)) ⌝ }
     ensures { λ r. ⌜ (now r ≡ bytesOr (now (bodies .entry)) (now (default .entry)) (replied found)) × (r .ptr ≡ shownAt (replied found) (bodies .entry .ptr) (default .entry .ptr)) ⌝ }
 {
     match found {

@@ -1,7 +1,7 @@
 // Document 01's refusals, in words.
 ghost use Prim.Native.Nat.{_+_, _≤_};
 ghost use lib.ListN.{length};
-ghost use Rattle.printing.specs.Putting.{Puts};
+ghost use Rattle.printing.specs.Putting.{Appends};
 ghost use Rattle.refusals.specs.Refusals.{refusalOf};
 use printing::put;
 
@@ -9,7 +9,7 @@ use printing::put;
 // archive is laid out.
 pub fn put_reason(number: u8, out: &mut [u8], at: usize) -> usize
     requires { ⌜ at + 60 ≤ length (now out) ⌝ }
-    ensures { λ r. ⌜ Puts (refusalOf number) (now (out .entry)) at (now (out .exit)) r ⌝ }
+    ensures { λ r. ⌜ Appends (refusalOf number) (now (out .entry)) at (now (out .exit)) r ⌝ }
 {
     match number {
         1 => put(b"refused 1: the buffers are too short", out, at),

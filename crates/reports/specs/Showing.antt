@@ -21,14 +21,8 @@ shownIn bodies (given p) = value (bytesAt bodies p)
 shownIn bodies noReply = noValue
 shownIn bodies (refusedLookup k) = refusedBy k
 
-abbrev pub shown : List ℕ → Lookup → Shown
-shown bodies x = shownIn bodies (replied x)
-
--- a value that was found lies in the bodies
-abbrev pub Inside : List ℕ → Lookup → Type 0
-Inside bodies (Found place size) = place + size ≤ length bodies
-Inside bodies Nothing = Unit {0}
-Inside bodies (Refused k) = Unit {0}
+abbrev pub shownOf : List ℕ → Lookup → Shown
+shownOf bodies x = shownIn bodies (replied x)
 
 -- ---- Lines
 

@@ -6,7 +6,7 @@ use Prim.Native.Nat.{ℕ, _+_, _*_}
 use Rattle.definition.specs.Lists.{if_then_else_, ascii}
 use Rattle.definition.specs.Limits.{bodyBytes}
 use Rattle.io.specs.Counts.{Counts}
-use Rattle.printing.specs.Putting.{Puts}
+use Rattle.printing.specs.Putting.{Appends}
 use Rattle.refusals.specs.Refusals.{refusalOf}
 use Rattle.reports.specs.Showing.{Shown, value, noValue, refusedBy, lineOf, sameShown}
 use Rattle.reports.specs.declared.Report.{Report}
@@ -56,7 +56,7 @@ reportBytes = 2 * (bodyBytes + argumentBytes) + 64
 
 -- the bytes stand at the front of `out`, which is else as it was
 pub record Reports (t : Told) (out out′ : List ℕ) (r : Report) : Type 0 where
-  pub puts : Puts (t .bytes) out 0 out′ (r .size)
+  pub puts : Appends (t .bytes) out 0 out′ (r .size)
   pub status : r .status ≡ t .status
   pub wrong : r .wrong ≡ t .wrong
   pub counts : Counts (r .size) out′

@@ -3,8 +3,9 @@ ghost use mathlib.Core.Path.{_≡_};
 ghost use Prim.Native.Nat.{_+_, _≤_};
 ghost use lib.ListN.{length};
 ghost use Rattle.definition.specs.Limits.{bodyBytes};
-ghost use Rattle.printing.specs.Putting.{Puts};
-ghost use Rattle.reports.specs.Showing.{shown, Inside, sameShown, wordsOf, lineOf};
+ghost use Rattle.printing.specs.Putting.{Appends};
+ghost use Rattle.lookup.specs.Replies.{LiesIn};
+ghost use Rattle.reports.specs.Showing.{shownOf, sameShown, wordsOf, lineOf};
 ghost use Rattle.reports.specs.Telling.{refused, told, bothTold, notAmong, Reports, reportBytes, argumentBytes};
 use limits::BODY_BYTES;
 use lookup::Lookup;
@@ -40,8 +41,8 @@ pub fn refuse(number: u8, out: &mut [u8]) -> Report
 
 // One answer: a value, none or a refusal.
 pub fn tell(found: Lookup, bodies: &[u8], out: &mut [u8]) -> Report
-    requires { ⌜ Inside (now bodies) found × (length (now bodies) ≡ bodyBytes) × (reportBytes ≤ length (now out)) ⌝ }
-    ensures { λ r. ⌜ Reports (told (shown (now (bodies .entry)) found)) (now (out .entry)) (now (out .exit)) r ⌝ }
+    requires { ⌜ LiesIn found (length (now bodies)) × (length (now bodies) ≡ bodyBytes) × (reportBytes ≤ length (now out)) ⌝ }
+    ensures { λ r. ⌜ Reports (told (shownOf (now (bodies .entry)) found)) (now (out .entry)) (now (out .exit)) r ⌝ }
 {
     match found {
         Lookup::Found(place, size) => {
@@ -69,8 +70,8 @@ pub fn tell(found: Lookup, bodies: &[u8], out: &mut [u8]) -> Report
 
 // Are two answers the same: both none, or the same bytes?
 fn same_answer(a: Lookup, bodies: &[u8], b: Lookup, store: &[u8]) -> bool
-    requires { ⌜ Inside (now bodies) a × Inside (now store) b ⌝ }
-    ensures { λ r. ⌜ r ≡ sameShown (shown (now (bodies .entry)) a) (shown (now (store .entry)) b) ⌝ }
+    requires { ⌜ LiesIn a (length (now bodies)) × LiesIn b (length (now store)) ⌝ }
+    ensures { λ r. ⌜ r ≡ sameShown (shownOf (now (bodies .entry)) a) (shownOf (now (store .entry)) b) ⌝ }
 {
     match a {
         Lookup::Found(p, n) => match b {
@@ -89,8 +90,8 @@ fn same_answer(a: Lookup, bodies: &[u8], b: Lookup, store: &[u8]) -> bool
 
 // Puts what a line says of an answer at `at`.
 fn put_words(found: Lookup, bodies: &[u8], out: &mut [u8], at: usize) -> usize
-    requires { ⌜ Inside (now bodies) found × (at + 7 + length (now bodies) ≤ length (now out)) ⌝ }
-    ensures { λ r. ⌜ Puts (wordsOf (shown (now (bodies .entry)) found)) (now (out .entry)) at (now (out .exit)) r ⌝ }
+    requires { ⌜ LiesIn found (length (now bodies)) × (at + 7 + length (now bodies) ≤ length (now out)) ⌝ }
+    ensures { λ r. ⌜ Appends (wordsOf (shownOf (now (bodies .entry)) found)) (now (out .entry)) at (now (out .exit)) r ⌝ }
 {
     match found {
         Lookup::Found(place, size) => {
@@ -111,8 +112,8 @@ fn put_line(
     out: &mut [u8],
     at: usize,
 ) -> usize
-    requires { ⌜ Inside (now bodies) found × (at + (length (now label) + length (now file) + length (now bodies) + 10) ≤ length (now out)) ⌝ }
-    ensures { λ r. ⌜ Puts (lineOf (now (label .entry)) (now (file .entry)) (shown (now (bodies .entry)) found)) (now (out .entry)) at (now (out .exit)) r ⌝ }
+    requires { ⌜ LiesIn found (length (now bodies)) × (at + (length (now label) + length (now file) + length (now bodies) + 10) ≤ length (now out)) ⌝ }
+    ensures { λ r. ⌜ Appends (lineOf (now (label .entry)) (now (file .entry)) (shownOf (now (bodies .entry)) found)) (now (out .entry)) at (now (out .exit)) r ⌝ }
 {
     let mut end = put(label, out, at);
     end = put(file, out, end);
@@ -130,8 +131,8 @@ pub fn tell_both(
     store: &[u8],
     out: &mut [u8],
 ) -> Report
-    requires { ⌜ (length (now file) ≤ argumentBytes) × Inside (now bodies) a × (length (now bodies) ≡ bodyBytes) × Inside (now store) b × (length (now store) ≡ bodyBytes) × (reportBytes ≤ length (now out)) ⌝ }
-    ensures { λ r. ⌜ Reports (bothTold (now (file .entry)) (shown (now (bodies .entry)) a) (shown (now (store .entry)) b)) (now (out .entry)) (now (out .exit)) r ⌝ }
+    requires { ⌜ (length (now file) ≤ argumentBytes) × LiesIn a (length (now bodies)) × (length (now bodies) ≡ bodyBytes) × LiesIn b (length (now store)) × (length (now store) ≡ bodyBytes) × (reportBytes ≤ length (now out)) ⌝ }
+    ensures { λ r. ⌜ Reports (bothTold (now (file .entry)) (shownOf (now (bodies .entry)) a) (shownOf (now (store .entry)) b)) (now (out .entry)) (now (out .exit)) r ⌝ }
 {
     let mut end = put_line(b"with ", file, a, bodies, out, 0);
     end = put_line(b"without ", file, b, store, out, end);

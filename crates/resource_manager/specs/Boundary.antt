@@ -12,7 +12,7 @@ use Rattle.definition.specs.Value.{Number, number, notANumber}
 use Rattle.definition.specs.ThirdTerm.{Case, withFile, withoutFile, lookup, Given, ThirdTerm}
 use Rattle.compare.specs.Comparing.{Comparison, both, noFile, refusedBy as refusedAs, Left, bothRead, comparing}
 use Rattle.lookup.specs.declared.Lookup.{Lookup}
-use Rattle.lookup.specs.declared.Lookup.the-variants.{Found, Nothing, Refused}
+use Rattle.lookup.specs.Replies.{LiesIn}
 
 -- the parts of an answer above its status, from bit 16 on and from bit 32 on
 abbrev pub from16 : ℕ
@@ -57,9 +57,7 @@ placeCode (refusedBy k) = k
 
 -- a place in an image's bodies, so that its code fits
 abbrev pub Small : Lookup → Type 0
-Small (Found place size) = place + size ≤ bodyBytes
-Small Nothing = Unit {0}
-Small (Refused k) = Unit {0}
+Small found = LiesIn found bodyBytes
 
 -- 65536 for true and 0 for false
 abbrev pub boolCode : Reply Bool → ℕ

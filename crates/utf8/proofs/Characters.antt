@@ -15,7 +15,7 @@ use Rattle.definition.specs.Value.{Range, table, afterRow, firstRow, character,
 use Rattle.laws.proofs.Lists.{in-range, below-range, above-range, part-rest}
 use Rattle.laws.proofs.Parsing.{many-stop, many-more}
 use Rattle.laws.proofs.Keys.{Gives, after-row-length, character-shrinks}
-use Rattle.utf8.specs.Characters.{trail, rowOf, takenBy, Taken}
+use Rattle.utf8.specs.Characters.{trail, afterLead, takenBy, Taken}
 use Rattle.utf8.specs.declared.Lead.the-variants.{Second, Nothing}
 
 -- ---- The row of a first byte
@@ -58,44 +58,44 @@ module _ (c : ℕ) (t : List ℕ) where
 
 -- the table's rows but the first, each by the byte that its first range begins with; no row has the bytes before C2 and after F4
 module _ (c : ℕ) where
-  pub lead-C2 : 0xC2 ≤ c → c ≤ 0xDF → (t : List ℕ) → firstRow table (c ∷ t) ≡ rowOf (Second 0x80 0xBF 0) t
-  unfolding table rowOf
+  pub lead-C2 : 0xC2 ≤ c → c ≤ 0xDF → (t : List ℕ) → firstRow table (c ∷ t) ≡ afterLead (Second 0x80 0xBF 0) t
+  unfolding table afterLead
   lead-C2 h k t = row-here c t (take 1 table) _ _ (drop 2 table) (omega arith) h k (omega arith)
 
-  pub lead-E0 : 0xE0 ≤ c → c ≤ 0xE0 → (t : List ℕ) → firstRow table (c ∷ t) ≡ rowOf (Second 0xA0 0xBF 1) t
-  unfolding table rowOf
+  pub lead-E0 : 0xE0 ≤ c → c ≤ 0xE0 → (t : List ℕ) → firstRow table (c ∷ t) ≡ afterLead (Second 0xA0 0xBF 1) t
+  unfolding table afterLead
   lead-E0 h k t = row-here c t (take 2 table) _ _ (drop 3 table) (omega arith) h k (omega arith)
 
-  pub lead-E1 : 0xE1 ≤ c → c ≤ 0xEC → (t : List ℕ) → firstRow table (c ∷ t) ≡ rowOf (Second 0x80 0xBF 1) t
-  unfolding table rowOf
+  pub lead-E1 : 0xE1 ≤ c → c ≤ 0xEC → (t : List ℕ) → firstRow table (c ∷ t) ≡ afterLead (Second 0x80 0xBF 1) t
+  unfolding table afterLead
   lead-E1 h k t = row-here c t (take 3 table) _ _ (drop 4 table) (omega arith) h k (omega arith)
 
-  pub lead-ED : 0xED ≤ c → c ≤ 0xED → (t : List ℕ) → firstRow table (c ∷ t) ≡ rowOf (Second 0x80 0x9F 1) t
-  unfolding table rowOf
+  pub lead-ED : 0xED ≤ c → c ≤ 0xED → (t : List ℕ) → firstRow table (c ∷ t) ≡ afterLead (Second 0x80 0x9F 1) t
+  unfolding table afterLead
   lead-ED h k t = row-here c t (take 4 table) _ _ (drop 5 table) (omega arith) h k (omega arith)
 
-  pub lead-EE : 0xEE ≤ c → c ≤ 0xEF → (t : List ℕ) → firstRow table (c ∷ t) ≡ rowOf (Second 0x80 0xBF 1) t
-  unfolding table rowOf
+  pub lead-EE : 0xEE ≤ c → c ≤ 0xEF → (t : List ℕ) → firstRow table (c ∷ t) ≡ afterLead (Second 0x80 0xBF 1) t
+  unfolding table afterLead
   lead-EE h k t = row-here c t (take 5 table) _ _ (drop 6 table) (omega arith) h k (omega arith)
 
-  pub lead-F0 : 0xF0 ≤ c → c ≤ 0xF0 → (t : List ℕ) → firstRow table (c ∷ t) ≡ rowOf (Second 0x90 0xBF 2) t
-  unfolding table rowOf
+  pub lead-F0 : 0xF0 ≤ c → c ≤ 0xF0 → (t : List ℕ) → firstRow table (c ∷ t) ≡ afterLead (Second 0x90 0xBF 2) t
+  unfolding table afterLead
   lead-F0 h k t = row-here c t (take 6 table) _ _ (drop 7 table) (omega arith) h k (omega arith)
 
-  pub lead-F1 : 0xF1 ≤ c → c ≤ 0xF3 → (t : List ℕ) → firstRow table (c ∷ t) ≡ rowOf (Second 0x80 0xBF 2) t
-  unfolding table rowOf
+  pub lead-F1 : 0xF1 ≤ c → c ≤ 0xF3 → (t : List ℕ) → firstRow table (c ∷ t) ≡ afterLead (Second 0x80 0xBF 2) t
+  unfolding table afterLead
   lead-F1 h k t = row-here c t (take 7 table) _ _ (drop 8 table) (omega arith) h k (omega arith)
 
-  pub lead-F4 : 0xF4 ≤ c → c ≤ 0xF4 → (t : List ℕ) → firstRow table (c ∷ t) ≡ rowOf (Second 0x80 0x8F 2) t
-  unfolding table rowOf
+  pub lead-F4 : 0xF4 ≤ c → c ≤ 0xF4 → (t : List ℕ) → firstRow table (c ∷ t) ≡ afterLead (Second 0x80 0x8F 2) t
+  unfolding table afterLead
   lead-F4 h k t = row-here c t (take 8 table) _ _ (drop 9 table) (omega arith) h k (omega arith)
 
-  pub lead-before : 0x80 ≤ c → c < 0xC2 → (t : List ℕ) → firstRow table (c ∷ t) ≡ rowOf Nothing t
-  unfolding table rowOf
+  pub lead-before : 0x80 ≤ c → c < 0xC2 → (t : List ℕ) → firstRow table (c ∷ t) ≡ afterLead Nothing t
+  unfolding table afterLead
   lead-before h k t = rows-below c t (take 1 table) (drop 1 table) (omega arith) ∙ rows-above c t (drop 1 table) (omega arith)
 
-  pub lead-after : 0xF4 < c → (t : List ℕ) → firstRow table (c ∷ t) ≡ rowOf Nothing t
-  unfolding table rowOf firstRow
+  pub lead-after : 0xF4 < c → (t : List ℕ) → firstRow table (c ∷ t) ≡ afterLead Nothing t
+  unfolding table afterLead firstRow
   lead-after h t = rows-below c t table [] (omega arith)
 
 -- ---- The bytes after the first two
@@ -137,16 +137,16 @@ module _ (t : List ℕ) (h : 0 < length t) where
   unfolding characterAt takenBy character firstRow table orElse afterRow
   taken-ascii k = record { parse = ap character (sym by-first) ∙ rw (in-range 0 0x7F (getD t 0 0) (omega arith) (omega arith)) refl; most = h }
 
-  pub taken-none : ((u : List ℕ) → firstRow table (getD t 0 0 ∷ u) ≡ rowOf Nothing u) → Taken t 0
-  unfolding characterAt takenBy character rowOf
+  pub taken-none : ((u : List ℕ) → firstRow table (getD t 0 0 ∷ u) ≡ afterLead Nothing u) → Taken t 0
+  unfolding characterAt takenBy character afterLead
   taken-none told = record { parse = ap character (sym by-first ∙ told (drop 1 t)); most = omega arith }
 
-  module _ (low high more : ℕ) (told : (u : List ℕ) → firstRow table (getD t 0 0 ∷ u) ≡ rowOf (Second low high more) u) where
+  module _ (low high more : ℕ) (told : (u : List ℕ) → firstRow table (getD t 0 0 ∷ u) ≡ afterLead (Second low high more) u) where
     abbrev row : List Range
     row = record { low = low; high = high } ∷ replicate more trail
 
     by-row : (o : Option (List ℕ)) → afterRow row (drop 1 t) ≡ o → characterAt t ≡ character o
-    unfolding characterAt rowOf
+    unfolding characterAt afterLead
     by-row o e = ap character (sym by-first ∙ told (drop 1 t) ∙ e)
 
     no-row : afterRow row (drop 1 t) ≡ none → Taken t 0

@@ -14,9 +14,9 @@ abbrev pub trail : Range
 trail = record { low = 0x80; high = 0xBF }
 
 -- the text after the bytes that a first byte asks for
-unfoldable pub rowOf : Lead → List ℕ → Option (List ℕ)
-rowOf (Second low high more) t = afterRow (record { low = low; high = high } ∷ replicate more trail) t
-rowOf Nothing t = none
+unfoldable pub afterLead : Lead → List ℕ → Option (List ℕ)
+afterLead (Second low high more) t = afterRow (record { low = low; high = high } ∷ replicate more trail) t
+afterLead Nothing t = none
 
 unfoldable pub takenBy : ℕ → List ℕ → Parse (Unit {0})
 takenBy zero t = nothing

@@ -7,7 +7,7 @@ ghost use lib.ListN.{length, drop, replicate};
 ghost use Rattle.definition.specs.Lists.{if_then_else_};
 ghost use Rattle.definition.specs.Bytes.{within};
 ghost use Rattle.definition.specs.Value.{table, afterRow, firstRow, isUtf8};
-ghost use Rattle.utf8.specs.Characters.{trail, rowOf, Taken};
+ghost use Rattle.utf8.specs.Characters.{trail, afterLead, Taken};
 
 // Is a byte from one to another?
 pub fn in_range(low: u8, high: u8, c: u8) -> bool
@@ -25,7 +25,7 @@ enum Lead {
 // The rows of Unicode's table 3-7 but the first, which is ASCII's.
 fn lead_of(c: u8) -> Lead
     requires { ⌜ 128 ≤ c ⌝ }
-    ensures { λ r. ⌜ ((t : List ℕ) → firstRow table (c ∷ t) ≡ rowOf r t) ⌝ }
+    ensures { λ r. ⌜ ((t : List ℕ) → firstRow table (c ∷ t) ≡ afterLead r t) ⌝ }
 {
     match c {
         0xC2..=0xDF => Lead::Second(0x80, 0xBF, 0),

@@ -17,7 +17,7 @@ use Rattle.laws.proofs.Keys.{piece-shrinks}
 use Rattle.values.specs.declared.Stored.{Stored}
 use Rattle.values.specs.declared.Stored.the-variants.{Done, Full}
 use Rattle.values.specs.Pieces.{Yields}
-use Rattle.values.specs.Decoded.{valueAt, restAt, storedAt, Decoded}
+use Rattle.values.specs.Decoded.{decodedAt, restAt, storedAt, Decoded}
 use Rattle.values.proofs.Escapes.{piece-plain}
 
 -- ---- The piece at i of a text
@@ -43,11 +43,11 @@ module _ (t : List ℕ) (i : ℕ) where
 
 -- s holds the value of t up to `end`, and t from i on is left
 pub record Decoding (t s₀ : List ℕ) (at : ℕ) (s : List ℕ) (end i : ℕ) : Type 0 where
-  pub stored : s ≡ paste s₀ at (valueAt t) (end - at)
-  pub left : valueAt (drop i t) ≡ drop (end - at) (valueAt t)
+  pub stored : s ≡ paste s₀ at (decodedAt t) (end - at)
+  pub left : decodedAt (drop i t) ≡ drop (end - at) (decodedAt t)
   pub rest : restAt t ≡ restAt (drop i t)
   pub begun : at ≤ end
-  pub most : end - at ≤ length (valueAt t)
+  pub most : end - at ≤ length (decodedAt t)
   pub in-text : i ≤ length t
   pub in-store : end ≤ length s
   pub kept : length s ≡ length s₀
@@ -56,7 +56,7 @@ pub decoding-first : (t s : List ℕ) (at : ℕ) → at ≤ length s → Decodin
 decoding-first t s at h =
     let z : at - at ≡ 0 = omega arith in
     record {
-      stored = rw z (paste-zero s at (valueAt t));
+      stored = rw z (paste-zero s at (decodedAt t));
       left = rw z refl;
       rest = refl;
       begun = omega arith;
@@ -72,21 +72,21 @@ one-stored : (s₀ v : List ℕ) (at j : ℕ) {s : List ℕ} {end b : ℕ} → s
 one-stored s₀ v at j e p q h k = rw (e, ← p, ← q) (paste-suc s₀ at v j 0 (omega arith) k)
 
 module _ {t s₀ : List ℕ} {at : ℕ} {s : List ℕ} {end i : ℕ} (d : Decoding t s₀ at s end i) where
-  left-length : length (valueAt (drop i t)) ≡ length (valueAt t) - (end - at)
-  left-length = ap length (d .left) ∙ length-drop (end - at) (valueAt t)
+  left-length : length (decodedAt (drop i t)) ≡ length (decodedAt t) - (end - at)
+  left-length = ap length (d .left) ∙ length-drop (end - at) (decodedAt t)
 
   pub decoded : pieceAt (drop i t) ≡ nothing → Decoded t s₀ at s (Done end i)
   unfolding flatten storedAt
   decoded e =
       let m = many-stop pieceAt piece-shrinks (drop i t) e in
-      let v : length (valueAt (drop i t)) ≡ 0 = ap (λ (r : Parsed (List ℕ)). length (flatten (r .items))) m in
+      let v : length (decodedAt (drop i t)) ≡ 0 = ap (λ (r : Parsed (List ℕ)). length (flatten (r .items))) m in
       let r : length (restAt t) ≡ length t - i = ap length (d .rest ∙ ap (λ (r : Parsed (List ℕ)). r .rest) m) ∙ length-drop i t in
-      let k : end - at ≡ length (valueAt t) = omega (arith, left-length, d .most) in
-      let a : end ≡ at + length (valueAt t) = omega (arith, d .begun) in
+      let k : end - at ≡ length (decodedAt t) = omega (arith, left-length, d .most) in
+      let a : end ≡ at + length (decodedAt t) = omega (arith, d .begun) in
       let b : i ≡ length t - length (restAt t) = omega (arith, d .in-text) in
-      let h : length (valueAt t) ≤ length s₀ - at = omega (arith, d .in-store, d .kept) in
+      let h : length (decodedAt t) ≤ length s₀ - at = omega (arith, d .in-store, d .kept) in
       record {
-        answer = rw (le-leb (at + length (valueAt t)) (length s₀) (omega (arith, d .in-store, d .kept)), ← a, ← b) refl;
+        answer = rw (le-leb (at + length (decodedAt t)) (length s₀) (omega (arith, d .in-store, d .kept)), ← a, ← b) refl;
         stored = d .stored ∙ rw (k, min-eq-left h) refl;
       }
 
@@ -95,20 +95,20 @@ module _ {t s₀ : List ℕ} {at : ℕ} {s : List ℕ} {end i : ℕ} (d : Decodi
     piece-fits g = omega (arith, g .inside, length-drop i t, d .in-text)
 
     module _ {b : ℕ} (g : Yields (drop i t) (b ∷ []) n) where
-      next-is : drop (end - at) (valueAt t) ≡ b ∷ valueAt (drop (i + n) t)
+      next-is : drop (end - at) (decodedAt t) ≡ b ∷ decodedAt (drop (i + n) t)
       next-is = sym (d .left) ∙ rw (drop-drop n i t) at (g .value)
 
-      next-less : end - at < length (valueAt t)
-      next-less = omega (arith, ap length next-is, length-drop (end - at) (valueAt t))
+      next-less : end - at < length (decodedAt t)
+      next-less = omega (arith, ap length next-is, length-drop (end - at) (decodedAt t))
 
       pub byte-more : end < length s → Decoding t s₀ at (set s end b) (end + 1) (i + n)
       byte-more k =
-          let e = sym (drop-cons (valueAt t) (end - at) 0 next-less) ∙ next-is in
-          let x : getD (valueAt t) (end - at) 0 ≡ b = cc in
-          let y : valueAt (drop (i + n) t) ≡ drop (suc (end - at)) (valueAt t) = cc in
+          let e = sym (drop-cons (decodedAt t) (end - at) 0 next-less) ∙ next-is in
+          let x : getD (decodedAt t) (end - at) 0 ≡ b = cc in
+          let y : decodedAt (drop (i + n) t) ≡ drop (suc (end - at)) (decodedAt t) = cc in
           let z : end + 1 - at ≡ suc (end - at) = omega (arith, d .begun) in
           record {
-            stored = rw z (one-stored s₀ (valueAt t) at (end - at) (d .stored) (omega (arith, d .begun)) x (omega (arith, d .kept)) next-less);
+            stored = rw z (one-stored s₀ (decodedAt t) at (end - at) (d .stored) (omega (arith, d .begun)) x (omega (arith, d .kept)) next-less);
             left = rw z y;
             rest = d .rest ∙ rw (drop-drop n i t) at (g .rest);
             begun = omega (arith, d .begun);
@@ -121,10 +121,10 @@ module _ {t s₀ : List ℕ} {at : ℕ} {s : List ℕ} {end i : ℕ} (d : Decodi
       pub full : length s ≤ end → Decoded t s₀ at s Full
       unfolding storedAt
       full k =
-          let a : length s₀ - at ≤ length (valueAt t) = omega (arith, next-less, d .kept, d .in-store) in
+          let a : length s₀ - at ≤ length (decodedAt t) = omega (arith, next-less, d .kept, d .in-store) in
           let e : end - at ≡ length s₀ - at = omega (arith, d .kept, d .in-store) in
           record {
-            answer = rw (lt-leb (at + length (valueAt t)) (length s₀) (omega (arith, next-less, d .kept, d .in-store, d .begun))) refl;
+            answer = rw (lt-leb (at + length (decodedAt t)) (length s₀) (omega (arith, next-less, d .kept, d .in-store, d .begun))) refl;
             stored = d .stored ∙ rw (e, min-eq-right a) refl;
           }
 

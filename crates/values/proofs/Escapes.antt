@@ -19,7 +19,7 @@ use Rattle.laws.proofs.Lists.{and-true, all-takeWhile, part-rest, take-run, len
 use Rattle.scan.proofs.Runs.{Passed, passed-more, passed-stop, passed-end}
 use Rattle.laws.proofs.Parsing.{many-more}
 use Rattle.laws.proofs.Keys.{piece-shrinks}
-use Rattle.values.specs.Decoded.{valueAt, restAt}
+use Rattle.values.specs.Decoded.{decodedAt, restAt}
 use Rattle.values.specs.Pieces.{Yields}
 
 -- ---- Eight times a byte, and a number of three digits
@@ -124,7 +124,7 @@ piece-plain [] h e f = absurd (omega arith)
 piece-plain (c ∷ t) h e f = piece-yields (c ∷ t) (c ∷ []) 1 (rw (ne-eqb c newline e, ne-eqb c backslash f) refl) h
 
 -- octal digits are plain
-digits-plain : (ds u : List ℕ) → all isOctal ds ≡ true → (valueAt (ds ++ u) ≡ ds ++ valueAt u) × (restAt (ds ++ u) ≡ restAt u)
+digits-plain : (ds u : List ℕ) → all isOctal ds ≡ true → (decodedAt (ds ++ u) ≡ ds ++ decodedAt u) × (restAt (ds ++ u) ≡ restAt u)
 unfolding all
 digits-plain [] u h = (refl, refl)
 digits-plain (d ∷ ds) u h =

@@ -18,7 +18,7 @@ use Rattle.laws.proofs.Keys.{if-either}
 use Rattle.scan.proofs.Suffixes.{LeavesRest, suffix-cons, many-suffix}
 use Rattle.values.specs.declared.Stored.{Stored}
 use Rattle.values.specs.declared.Stored.the-variants.{Done, Full}
-use Rattle.values.specs.Decoded.{valueAt, restAt, storedAt, Decoded}
+use Rattle.values.specs.Decoded.{decodedAt, restAt, storedAt, Decoded}
 use Rattle.values.proofs.Escapes.{digits, digits-inside}
 
 -- ---- The text after a value is the text from some place on
@@ -57,23 +57,23 @@ rest-suffix t = many-suffix pieceAt piece-leaves t
 
 -- the value of t stands whole in the store from `at` on, up to `end`, and took `taken` bytes of t
 pub record Fits (t store : List ℕ) (at : ℕ) (store′ : List ℕ) (end taken : ℕ) : Type 0 where
-  pub room : at + length (valueAt t) ≤ length store
-  pub ends : end ≡ at + length (valueAt t)
-  pub stored : store′ ≡ paste store at (valueAt t) (length (valueAt t))
+  pub room : at + length (decodedAt t) ≤ length store
+  pub ends : end ≡ at + length (decodedAt t)
+  pub stored : store′ ≡ paste store at (decodedAt t) (length (decodedAt t))
   pub rest : drop taken t ≡ restAt t
   pub inside : taken ≤ length t
 
 module _ {t store : List ℕ} {at : ℕ} {store′ : List ℕ} where
   pub decoded-fits : {end taken : ℕ} → Decoded t store at store′ (Done end taken) → Fits t store at store′ end taken
   unfolding storedAt
-  decoded-fits {end} {taken} d = by (leb (at + length (valueAt t)) (length store)) refl (d .answer)
+  decoded-fits {end} {taken} d = by (leb (at + length (decodedAt t)) (length store)) refl (d .answer)
     where
-      by : (b : Bool) → leb (at + length (valueAt t)) (length store) ≡ b → Done end taken ≡ (if b then Done (at + length (valueAt t)) (length t - length (restAt t)) else Full)
+      by : (b : Bool) → leb (at + length (decodedAt t)) (length store) ≡ b → Done end taken ≡ (if b then Done (at + length (decodedAt t)) (length t - length (restAt t)) else Full)
           → Fits t store at store′ end taken
       by true e f =
-          let room = leb-true (at + length (valueAt t)) (length store) e in
-          let h : length (valueAt t) ≤ length store - at = omega arith in
-          let x : end ≡ at + length (valueAt t) = cc in
+          let room = leb-true (at + length (decodedAt t)) (length store) e in
+          let h : length (decodedAt t) ≤ length store - at = omega arith in
+          let x : end ≡ at + length (decodedAt t) = cc in
           let y : taken ≡ length t - length (restAt t) = cc in
           record {
             room = room;
@@ -84,10 +84,10 @@ module _ {t store : List ℕ} {at : ℕ} {store′ : List ℕ} where
           }
       by false e f = absurd (let z : _≡_ {A = ℕ} 0 1 = cc in omega arith)
 
-  pub decoded-full : Decoded t store at store′ Full → length store < at + length (valueAt t)
+  pub decoded-full : Decoded t store at store′ Full → length store < at + length (decodedAt t)
   unfolding storedAt
-  decoded-full d = by (leb (at + length (valueAt t)) (length store)) refl (d .answer)
+  decoded-full d = by (leb (at + length (decodedAt t)) (length store)) refl (d .answer)
     where
-      by : (b : Bool) → leb (at + length (valueAt t)) (length store) ≡ b → Full ≡ (if b then Done (at + length (valueAt t)) (length t - length (restAt t)) else Full) → length store < at + length (valueAt t)
+      by : (b : Bool) → leb (at + length (decodedAt t)) (length store) ≡ b → Full ≡ (if b then Done (at + length (decodedAt t)) (length t - length (restAt t)) else Full) → length store < at + length (decodedAt t)
       by true e f = absurd (let z : _≡_ {A = ℕ} 0 1 = cc in omega arith)
-      by false e f = leb-false (at + length (valueAt t)) (length store) e
+      by false e f = leb-false (at + length (decodedAt t)) (length store) e

@@ -16,8 +16,8 @@ abbrev pub blanksAt : List ℕ → ℕ
 blanksAt t = length t - length (afterBlanks t)
 
 -- the value, and the text after it
-abbrev pub valueAt : List ℕ → List ℕ
-valueAt t = flatten (many pieceAt t .items)
+abbrev pub decodedAt : List ℕ → List ℕ
+decodedAt t = flatten (many pieceAt t .items)
 
 abbrev pub restAt : List ℕ → List ℕ
 restAt t = many pieceAt t .rest
@@ -25,9 +25,9 @@ restAt t = many pieceAt t .rest
 -- does the value of t fit into a store of so many bytes from `at` on? If so: where it ends there, and how many bytes of t it takes
 unfoldable pub storedAt : List ℕ → ℕ → ℕ → Stored
 storedAt t size at =
-    if leb (at + length (valueAt t)) size then Done (at + length (valueAt t)) (length t - length (restAt t)) else Full
+    if leb (at + length (decodedAt t)) size then Done (at + length (decodedAt t)) (length t - length (restAt t)) else Full
 
 -- the answer, and the store afterwards: as much of the value as there is room for stands in it from `at` on
 pub record Decoded (t store : List ℕ) (at : ℕ) (store′ : List ℕ) (r : Stored) : Type 0 where
   pub answer : r ≡ storedAt t (length store) at
-  pub stored : store′ ≡ paste store at (valueAt t) (min (length (valueAt t)) (length store - at))
+  pub stored : store′ ≡ paste store at (decodedAt t) (min (length (decodedAt t)) (length store - at))

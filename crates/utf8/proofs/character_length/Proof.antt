@@ -8,7 +8,7 @@ use native.Mathlib.Omega.{arith}
 use lib.ListN.{length, getD}
 use borrow.Author.Tests.{not-true, not-false}
 use Rattle.definition.specs.Value.{table, firstRow}
-use Rattle.utf8.specs.Characters.{rowOf}
+use Rattle.utf8.specs.Characters.{afterLead}
 use Rattle.utf8.specs.declared.Lead.the-variants.{Second}
 use Rattle.utf8.proofs.Characters.{taken-ascii, taken-none, taken-short, taken-second, taken-trail, taken-whole, followed}
 use Rattle.utf8.proofs.character_length.Statement.{statement}
@@ -31,7 +31,7 @@ begun c = c .before .before .before .before .before .before
 -- what the row says of the first byte
 told : (c : tie.After-row) (u : List ℕ)
     → firstRow table (getD (begun c .args .text .now) 0 0 ∷ u)
-    ≡ rowOf (Second (c .row .given .0 .0) (c .row .given .0 .1 .0) (c .row .given .0 .1 .1 .0)) u
+    ≡ afterLead (Second (c .row .given .0 .0) (c .row .given .0 .1 .0) (c .row .given .0 .1 .1 .0)) u
 told c = rw (c .row .given .1) at (c .before .before .lead-of .ensures)
 
 returns-3 : tie.Need-returns-3
