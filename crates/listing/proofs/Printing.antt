@@ -1,16 +1,18 @@
 -- From the answer of the reading call to what is written. Assumes nothing.
+use mathlib.Core.Bool.{false}
 use mathlib.Core.List.{List, [], _∷_, _++_, append-assoc}
 use mathlib.Core.Path.{_≡_, refl, ap, sym, _∙_}
 use Prim.Native.Nat.{ℕ, zero, suc, _+_, _*_, _≤_, _<_}
 use native.Mathlib.Omega.{arith}
 use lib.ListN.{length, getD, length-append, length-map}
 use Rattle.definition.specs.Lists.{ascii, zeroes}
-use Rattle.definition.specs.Limits.{contentsWords, bodyBytes, mostEntries, rowWords}
+use Rattle.definition.specs.Limits.{textBytes, contentsWords, bodyBytes, mostEntries, rowWords}
 use Rattle.definition.specs.Text.{Entry}
 use Rattle.definition.specs.Including.{Entered, opensOf}
-use Rattle.definition.specs.Image.{Row, keyOf, keyAt, keyEnd, rowsIn, rowsFrom, countOf, contentsOf, storeOf, writtenOver, imageContents, imageBodies}
+use Rattle.definition.specs.Image.{Row, keyOf, keyAt, keyEnd, rowsIn, rowsFrom, countOf, contentsOf, storeOf, writtenOver, imageContents, imageBodies, tooShort}
 use Rattle.definition.specs.Evaluation.{noFiles}
 use Rattle.definition.specs.Reading.{accepted, refused, Outcome, outcome, reading, plain, readEntries, met}
+use borrow.Author.Tests.{lt-ltb}
 use Rattle.laws.proofs.Lists.{slice-at}
 use Rattle.laws.proofs.Image.{rowsAt, length-zeroes, written-long, contents-fit, image-rows, image-count}
 use Rattle.laws.proofs.Limits.{used-store}
@@ -19,7 +21,7 @@ use Rattle.image.specs.Rows.{rowStart, rowAt}
 use Rattle.image.proofs.Rows.{row-is}
 use Rattle.printing.specs.Putting.{Appends}
 use Rattle.printing.proofs.Pieces.{piece-of, then-piece, piece-counts}
-use Rattle.listing.specs.Listing.{entryLine, entryLines, wordLine, written, printed, rowLines, Listable, listBytes, Lists}
+use Rattle.listing.specs.Listing.{entryLine, entryLines, wordLine, written, printed, rowLines, Listable, listBytes, Lists, RefusesLong}
 use Rattle.listing.proofs.Lines.{entry-most, word-most}
 
 -- ---- The lines of entries
@@ -136,3 +138,13 @@ refused-printed text c b k e = rw (← e)
 pub refused-lists : (text : List ℕ) {c b : List ℕ} {k : ℕ} {out o₁ : List ℕ} {e₁ : ℕ} → outcome (refused k) c b ≡ reading text noFiles words bytes
     → Appends (wordLine (ascii "refused") k) out 0 o₁ e₁ → Lists text out o₁ e₁
 refused-lists text {c} {b} {k} e p = let puts = piece-of (refused-printed text c b k e) p in record { puts = puts; counts = piece-counts puts }
+
+-- a text that is too long
+long-printed : (text : List ℕ) → textBytes < length text → wordLine (ascii "refused") 2 ≡ printed text
+unfolding printed written reading
+long-printed text h =
+    let short : tooShort (zeroes contentsWords) (zeroes bodyBytes) ≡ false = rw (length-zeroes contentsWords, length-zeroes bodyBytes) in
+    rw (short, lt-ltb textBytes (length text) h)
+
+pub refuses-long : {out out′ : List ℕ} {r : ℕ} → Appends (wordLine (ascii "refused") 2) out 0 out′ r → RefusesLong out out′ r
+refuses-long p = record { puts = p; counts = piece-counts p; long = long-printed }

@@ -4,7 +4,7 @@ use mathlib.Core.Path.{_≡_}
 use Prim.Native.Nat.{ℕ, _+_, _≤_, _<_}
 use lib.ListN.{length}
 use Rattle.definition.specs.Lists.{ascii, zeroes}
-use Rattle.definition.specs.Limits.{contentsWords, bodyBytes}
+use Rattle.definition.specs.Limits.{textBytes, contentsWords, bodyBytes}
 use Rattle.definition.specs.Text.{Entry}
 use Rattle.definition.specs.Image.{Row, keyOf, keyAt, keyEnd, countOf, rowsIn}
 use Rattle.definition.specs.Evaluation.{noFiles}
@@ -56,3 +56,9 @@ listBytes = 65536
 pub record Lists (text out out′ : List ℕ) (r : ℕ) : Type 0 where
   pub puts : Appends (printed text) out 0 out′ r
   pub counts : Counts r out′
+
+-- the same for every text that is longer than a main text may be
+pub record RefusesLong (out out′ : List ℕ) (r : ℕ) : Type 0 where
+  pub puts : Appends (wordLine (ascii "refused") 2) out 0 out′ r
+  pub counts : Counts r out′
+  pub long : (text : List ℕ) → textBytes < length text → wordLine (ascii "refused") 2 ≡ printed text

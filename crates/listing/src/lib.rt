@@ -4,9 +4,8 @@ ghost use Prim.Native.Nat.{_+_, _≤_};
 ghost use lib.ListN.{length};
 ghost use Rattle.definition.specs.Image.{rowsIn};
 ghost use Rattle.printing.specs.Putting.{Appends};
-ghost use Rattle.listing.specs.Listing.{entryLine, rowLines, wordLine, printed, Listable, listBytes, Lists};
+ghost use Rattle.listing.specs.Listing.{entryLine, rowLines, wordLine, printed, Listable, listBytes, Lists, RefusesLong};
 use image::row_at;
-use limits::BODY_BYTES;
 use limits::CONTENTS_WORDS;
 use printing::put;
 use printing::put_number;
@@ -60,7 +59,7 @@ pub fn list(text: &[u8], out: &mut [u8]) -> usize
     ensures { λ r. ⌜ Lists (now (text .entry)) (now (out .entry)) (now (out .exit)) r ⌝ }
 {
     let mut contents = [0; CONTENTS_WORDS];
-    let mut bodies = [0; BODY_BYTES];
+    let mut bodies = [0; 32768];
     let answer = reader::read(text, b"\0\0", &mut contents, &mut bodies);
     match answer {
         Answer::Accepted(entries, _) => {
@@ -69,4 +68,12 @@ pub fn list(text: &[u8], out: &mut [u8]) -> usize
         }
         Answer::Refused(number) => put_word(b"refused", number as usize, out),
     }
+}
+
+// Puts what is written for a text that is longer than a main text may be.
+pub fn refuse_long(out: &mut [u8]) -> usize
+    requires { ⌜ listBytes ≤ length (now out) ⌝ }
+    ensures { λ r. ⌜ RefusesLong (now (out .entry)) (now (out .exit)) r ⌝ }
+{
+    put_word(b"refused", 2, out)
 }
