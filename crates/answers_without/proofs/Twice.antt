@@ -2,6 +2,7 @@
 use mathlib.Core.List.{List}
 use mathlib.Core.Path.{_≡_, refl, ap}
 use Prim.Native.Nat.{ℕ}
+use lib.ListN.{length}
 use Rattle.definition.specs.Lists.{zeroes}
 use Rattle.definition.specs.Limits.{archiveBytes, contentsWords, bodyBytes}
 use Rattle.definition.specs.ThirdTerm.{Case, withFile, withoutFile}
