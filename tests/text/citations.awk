@@ -103,7 +103,7 @@ FILENAME ~ /\.antt$/ {
 }
 
 FILENAME ~ /\.(rt|rs|c|h)$/ {
-    among = /^(pub )?(struct|enum) .*{$/ || among && !/^}/
+    among = /^(pub )?(struct|enum) .*[{]$/ || among && !/^}/
     line = $0
     sub(/^ *(pub(\([a-z]+\))? )?(static |inline |const |extern "C" |unsafe |void \*?|uint64_t )*/, "", line)
     if (line ~ /^(fn|struct|enum|type|trait|mod|const) / || $0 ~ /^(pub )?const [A-Z]/) {

@@ -77,7 +77,7 @@ function given_back(e, from,    parts, n, i, key, out) {
         return given_back(parts[1], from)
     }
     if (parts[0] == "record" && n == 1) {
-        sub(/^ {/, "", parts[1])
+        sub(/^ [{]/, "", parts[1])
         sub(/}$/, "", parts[1])
         n = cut(parts[1], ";", parts)
         for (i = 1; i <= n; i++) {
@@ -186,7 +186,7 @@ function kept(key) {
     return in_cases(key, "given back")
 }
 
-function in_cases(key, what,    n, lines, i, j, f, sides, pats, miss, out) {
+function in_cases(key, what,    n, lines, i, j, f, pats, miss, out) {
     if ((key, what) in known)
         return known[key, what]
     known[key, what] = " "
@@ -330,7 +330,7 @@ function take_in(path, item, at,    s, name, key, n, parts, i) {
             sub(/^ : /, " ", s)
             n = cut(s, "→", parts)
             for (i = 1; i < n; i++)
-                if (parts[i] !~ /^ {/) {
+                if (parts[i] !~ /^ [{]/) {
                     ofType[key, ++arity[key]] = parts[i]
                     sub(/^ /, "", ofType[key, arity[key]])
                 }
@@ -410,10 +410,10 @@ FNR == 1 {
 /^ghost use / {
     import(FILENAME, $0)
 }
-/^(pub )?struct [A-Za-z]+ *{/ {
+/^(pub )?struct [A-Za-z]+ *[{]/ {
     struct = $0
     sub(/^(pub )?struct /, "", struct)
-    sub(/ *{.*/, "", struct)
+    sub(/ *[{].*/, "", struct)
     structs[struct] = structs[struct] " " FILENAME
     next
 }
@@ -426,12 +426,12 @@ struct != "" && /:/ {
     sub(/^ *(pub )?/, "", field)
     fields[FILENAME, struct] = fields[FILENAME, struct] " " field
 }
-/^ *pub (extern "C" )?fn / {
+/^ *pub (const |unsafe )*(extern "C" )?fn / {
     head = " "
 }
 head != "" {
     head = head " " $0
-    if ($0 ~ /^ *{$/ || ($0 ~ /{$/ && head !~ / ensures | requires /)) {
+    if ($0 ~ /^ *[{]$/ || ($0 ~ /[{]$/ && head !~ / ensures | requires /)) {
         heads[++count] = head
         source[count] = FILENAME
         head = ""
