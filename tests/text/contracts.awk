@@ -63,7 +63,7 @@ function bare(e,    args) {
 
 # The tokens that a value of e gives back: e itself, what a constructor, a record or a list holds, what an `if` decides by, and the
 # arguments that a definition gives back in each of its cases. `take n t` gives back neither n nor t.
-function given_back(e, from,    parts, n, i, key, out) {
+function given_back(e, from,    parts, n, i, key, all, out) {
     e = bare(e)
     if ((n = cut(e, "∷", parts)) > 1 || (n = cut(e, ",", parts)) > 1) {
         for (i = 1; i <= n; i++)
@@ -89,8 +89,9 @@ function given_back(e, from,    parts, n, i, key, out) {
     if (n == 0)
         return " " parts[0] " "
     key = named(parts[0], from)
+    all = parts[0] ~ /^([A-Z]|some$|now$)/ || kind[key] == "constructor"
     for (i = 1; i <= n; i++)
-        if (parts[0] ~ /^([A-Z]|some$|now$)/ || kind[key] == "constructor" || (key != "" && index(kept(key), " " (i + shift(key, from)) " ")))
+        if (all || (key != "" && index(kept(key), " " (i + shift(key, from)) " ")))
             out = out given_back(parts[i], from)
     return out
 }
@@ -112,8 +113,17 @@ function fixed(e, from,    parts, n, i, out) {
         return fixed(parts[n], from)
     }
     if (cut(e, "≡", parts) == 2)
-        return given_back(parts[1], from) given_back(parts[2], from)
+        return apart(given_back(parts[1], from), parts[2]) apart(given_back(parts[2], from), parts[1])
     return applied(e, from)
+}
+
+# The tokens that do not stand on the other side too, as in `r ≡ r`.
+function apart(tokens, other,    n, t, i, out) {
+    n = split(tokens, t, " ")
+    for (i = 1; i <= n; i++)
+        if (!index(other " ", " " t[i] " "))
+            out = out " " t[i] " "
+    return out
 }
 
 # The same for a name of the specs with its arguments: those that stand where the name's own text fixes them.
