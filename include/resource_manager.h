@@ -103,6 +103,21 @@ uint64_t resource_manager_get_string(const uint16_t *contents, size_t contents_c
                                      size_t bodies_count, const uint8_t *name, size_t name_count,
                                      const uint8_t *class_name, size_t class_count);
 
+/* Bytes that stand somewhere. */
+struct resource_manager_bytes {
+    const uint8_t *start;
+    size_t count;
+};
+
+/*
+ * The value of a query, or else a default. *shown is the default before the call. The answer is that of
+ * resource_manager_get_bytes: with status OK *shown is the value afterwards, where it stands in the bodies, and with
+ * any other status *shown is as it was. An empty value is shown, and not the default.
+ */
+uint64_t resource_manager_show(const uint16_t *contents, size_t contents_count, const uint8_t *bodies,
+                               size_t bodies_count, const uint8_t *name, size_t name_count, const uint8_t *class_name,
+                               size_t class_count, struct resource_manager_bytes *shown);
+
 /* Where a value that was found begins in the bodies. */
 static inline size_t resource_manager_place_of(uint64_t answer)
 {

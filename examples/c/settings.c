@@ -86,6 +86,17 @@ static void show_bytes(const char *name, const char *class_name)
     }
 }
 
+/* A default is shown where there is no value, or where the lookup is refused. */
+static void show_or(const char *name, const char *class_name, const char *otherwise)
+{
+    struct resource_manager_bytes shown;
+    shown.start = bytes_of(otherwise);
+    shown.count = strlen(otherwise);
+    (void)resource_manager_show(contents, RESOURCE_MANAGER_CONTENTS_WORDS, bodies, RESOURCE_MANAGER_BODIES_BYTES,
+                                bytes_of(name), strlen(name), bytes_of(class_name), strlen(class_name), &shown);
+    printf("%s, or else '%s': '%.*s'\n", name, otherwise, (int)shown.count, (const char *)shown.start);
+}
+
 static void show_bool(const char *name, const char *class_name)
 {
     uint64_t answer = resource_manager_get_bool(contents, RESOURCE_MANAGER_CONTENTS_WORDS, bodies,
@@ -149,6 +160,8 @@ int main(void)
     show_bytes("reader.search.range", "Reader.Search.Range");
     show_bytes("library.search.range", "Library.Search.Range");
     show_bytes("reader.margin", "Reader.Margin");
+    show_or("reader.margin", "Reader.Margin", "narrow");
+    show_or("reader.font.family", "Reader.Font.Family", "Sans");
     show_bool("reader.hyphenation", "");
     show_number("reader.font.size", "Reader.Font.Size");
     show_number("reader.font.family", "Reader.Font.Family");

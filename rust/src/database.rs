@@ -96,6 +96,21 @@ impl Database {
         unrefused(self.try_get_bytes(resource_name, resource_class))
     }
 
+    /// The value of a query, as bytes, or else the default: where there is no value, and where the query is
+    /// [refused](Self#refused-lookups). It never panics.
+    ///
+    /// ```
+    /// # use resource_manager::Database;
+    /// let database = Database::new_from_data(b"*family: Serif\n*slant:")?;
+    /// assert_eq!(database.get_bytes_or("font.family", "", b"Sans"), b"Serif");
+    /// assert_eq!(database.get_bytes_or("font.slant", "", b"upright"), b"");
+    /// assert_eq!(database.get_bytes_or("font.weight", "", b"normal"), b"normal");
+    /// # Ok::<(), resource_manager::Error>(())
+    /// ```
+    pub fn get_bytes_or<'a>(&'a self, resource_name: &str, resource_class: &str, default: &'a [u8]) -> &'a [u8] {
+        ffi::show(self.image(), resource_name.as_bytes(), resource_class.as_bytes(), default)
+    }
+
     /// The value of a query, as a string; none if it is not UTF-8.
     ///
     /// # Panics

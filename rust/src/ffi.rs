@@ -14,6 +14,13 @@ type Lookup = unsafe extern "C" fn(
     class_count: usize,
 ) -> u64;
 
+/// A slice as it stands in memory.
+#[repr(C)]
+struct Bytes {
+    start: *const u8,
+    count: usize,
+}
+
 extern "C" {
     fn resource_manager_read(
         text: *const u8,
@@ -35,6 +42,18 @@ extern "C" {
         name_count: usize,
         class: *const u8,
         class_count: usize,
+    ) -> u64;
+
+    fn resource_manager_show(
+        contents: *const u16,
+        contents_count: usize,
+        bodies: *const u8,
+        bodies_count: usize,
+        name: *const u8,
+        name_count: usize,
+        class: *const u8,
+        class_count: usize,
+        shown: *mut Bytes,
     ) -> u64;
 
     fn resource_manager_get_string(
@@ -142,6 +161,27 @@ pub(crate) fn read(text: &[u8], archive: &[u8], contents: &mut [u16], bodies: &m
 pub(crate) fn get_bytes(image: Image, name: &[u8], class: &[u8]) -> u64 {
     // SAFETY: this is one of the lookups of the library.
     unsafe { look_up(resource_manager_get_bytes, image, name, class) }
+}
+
+/// The value's bytes, a part of the bodies; or else the default, for none and for a refusal.
+pub(crate) fn show<'a>(Image { contents, bodies }: Image<'a>, name: &[u8], class: &[u8], default: &'a [u8]) -> &'a [u8] {
+    let mut shown = Bytes { start: default.as_ptr(), count: default.len() };
+    // SAFETY: as for the other lookups; `shown` is lent for writing. The call is proved to leave the default there, or a part
+    // of the bodies, and both live for 'a.
+    unsafe {
+        resource_manager_show(
+            contents.as_ptr(),
+            contents.len(),
+            bodies.as_ptr(),
+            bodies.len(),
+            name.as_ptr(),
+            name.len(),
+            class.as_ptr(),
+            class.len(),
+            &mut shown,
+        );
+        std::slice::from_raw_parts(shown.start, shown.count)
+    }
 }
 
 /// As `get_bytes`, and none for a value that is not UTF-8.

@@ -24,6 +24,33 @@ fn none_is_not_an_empty_value() {
 }
 
 #[test]
+fn a_default_is_for_none_and_for_a_refusal() {
+    let database = Database::new_from_data(b"a:\nb:value").unwrap();
+    let default = &b"default"[..];
+    assert_eq!(database.get_bytes_or("b", "", default), b"value");
+    assert_eq!(database.get_bytes_or("a", "", default), b"");
+    for none in ["c", ".b", ""] {
+        assert_eq!(database.get_bytes_or(none, "", default), default, "{none}");
+    }
+    for refused in ["a".repeat(1_025), "a.".repeat(33)] {
+        assert!(database.try_get_bytes(&refused, "").is_err());
+        assert_eq!(database.get_bytes_or(&refused, "", default), default);
+        assert_eq!(database.get_bytes_or("b", &refused, default), default);
+    }
+}
+
+#[test]
+fn what_is_shown_is_lent() {
+    let database = Database::new_from_data(b"a:\nb:value").unwrap();
+    let default = b"default".to_vec();
+    for name in ["a", "b"] {
+        let value = database.get_bytes(name, "").unwrap().as_ptr_range();
+        assert_eq!(database.get_bytes_or(name, "", &default).as_ptr_range(), value, "{name}");
+    }
+    assert_eq!(database.get_bytes_or("c", "", &default).as_ptr_range(), default.as_ptr_range());
+}
+
+#[test]
 fn name_and_class_are_told_apart() {
     let database = Database::new_from_data(b"a.b: lower\na.B: upper").unwrap();
     assert_eq!(database.get_string("a.b", "A.B"), Some("lower"));

@@ -18,7 +18,7 @@
 
 /* Where the room for each thing that is lent ends. */
 static uint8_t *text_end, *shelf_end, *contents_end, *bodies_end, *name_end, *class_end;
-static uint8_t *struck_end, *contents_without_end, *bodies_without_end;
+static uint8_t *struck_end, *contents_without_end, *bodies_without_end, *default_end;
 static size_t text_count, shelf_count;
 static size_t contents_count = RESOURCE_MANAGER_CONTENTS_WORDS, bodies_count = RESOURCE_MANAGER_BODIES_BYTES;
 static int checks;
@@ -161,8 +161,29 @@ static uint64_t get_value(const uint16_t *contents, size_t words, const uint8_t 
                                       &number);
 }
 
+static struct resource_manager_bytes shown;
+
+/* resource_manager_show in the shape of the others; what it shows is left in `shown`, and is where its answer says. */
+static uint64_t show(const uint16_t *contents, size_t words, const uint8_t *bodies, size_t bytes, const uint8_t *name,
+                     size_t name_count, const uint8_t *class_name, size_t class_count)
+{
+    uint64_t answer;
+    memcpy(default_end - 4, "else", 4);
+    shown.start = default_end - 4;
+    shown.count = 4;
+    answer = resource_manager_show(contents, words, bodies, bytes, name, name_count, class_name, class_count, &shown);
+    if (resource_manager_status_of(answer) == RESOURCE_MANAGER_OK) {
+        expect("what is shown is the value", shown.start == bodies + resource_manager_place_of(answer), 1);
+        expect("and all of it", shown.count, resource_manager_length_of(answer));
+    } else {
+        expect("what is shown is the default", shown.start == default_end - 4, 1);
+        expect("and all of it", shown.count, 4);
+    }
+    return answer;
+}
+
 static lookup *const lookups[] = {resource_manager_get_bytes, resource_manager_get_string, resource_manager_get_bool,
-                                  get_value};
+                                  get_value, show};
 
 /* How much too short the buffers of a comparison are that no other call takes. */
 static size_t short_struck, short_contents, short_bodies;
@@ -397,6 +418,26 @@ static void booleans(void)
     a_boolean("a:9223372036854775808", RESOURCE_MANAGER_NONE);
 }
 
+/* What a query shows: a value, an empty value, and the default for none and for each refusal. */
+static void shows(void)
+{
+    set_shelf(NULL, 0);
+    set_text("", 0, "a:value\nb:");
+    expect("a reading", read_it(), accepted(2, 0));
+    expect("a value", ask(show, "a", ""), ask(resource_manager_get_bytes, "a", ""));
+    expect("its bytes", (uint64_t)memcmp(shown.start, "value", 5), 0);
+    expect("an empty value", ask(show, "b", ""), (uint64_t)(2 + 5 + 2) << 16);
+    expect("no value", ask(show, "c", ""), RESOURCE_MANAGER_NONE);
+    expect("the default's bytes", (uint64_t)memcmp(shown.start, "else", 4), 0);
+    expect("a malformed name", ask(show, ".a", ""), RESOURCE_MANAGER_NONE);
+    expect("a longer name", ask(show, repeated("", 'a', RESOURCE_MANAGER_QUERY_BYTES + 1, ""), ""),
+           RESOURCE_MANAGER_LONG_QUERY);
+    expect("a part more", ask(show, parts(RESOURCE_MANAGER_QUERY_PARTS + 1, ""), ""),
+           RESOURCE_MANAGER_MANY_QUERY_PARTS);
+    lent_contents()[0] = RESOURCE_MANAGER_ENTRIES + 1;
+    expect("no image", ask(show, "a", ""), RESOURCE_MANAGER_NO_IMAGE);
+}
+
 /* Two files with a value each: the second's counts, and the first's if the second is struck off. */
 static void set_comparison(void)
 {
@@ -466,6 +507,7 @@ static void *all(void *unused)
     images();
     numbers();
     booleans();
+    shows();
     comparisons();
     refused_comparisons();
     return unused;
@@ -476,7 +518,7 @@ int main(void)
     pthread_attr_t small;
     pthread_t thread;
     uint8_t **ends[] = {&text_end, &shelf_end, &contents_end, &bodies_end, &name_end, &class_end,
-                        &struck_end, &contents_without_end, &bodies_without_end};
+                        &struck_end, &contents_without_end, &bodies_without_end, &default_end};
     size_t n;
     for (n = 0; n < sizeof ends / sizeof ends[0]; n++) {
         *ends[n] = fenced();

@@ -1,5 +1,12 @@
 //! The calls of the static library `libresource_manager.a`, for Rust.
 
+/// A slice as it stands in memory.
+#[repr(C)]
+struct Bytes {
+    start: *const u8,
+    length: usize,
+}
+
 // A slice passes as a pointer and a count of elements.
 extern "C" {
     fn resource_manager_read(
@@ -22,6 +29,18 @@ extern "C" {
         name_length: usize,
         class: *const u8,
         class_length: usize,
+    ) -> u64;
+
+    fn resource_manager_show(
+        contents: *const u16,
+        contents_length: usize,
+        bodies: *const u8,
+        bodies_length: usize,
+        name: *const u8,
+        name_length: usize,
+        class: *const u8,
+        class_length: usize,
+        shown: *mut Bytes,
     ) -> u64;
 
     fn resource_manager_get_string(
@@ -150,6 +169,29 @@ lookup! {
 lookup! {
     /// 65536 for true, 0 for false, 65535 for none, or the refusal's number.
     get_bool_word, resource_manager_get_bool
+}
+
+/// The word of `get_bytes_word`; `shown`, which is lent as the default, is the value's bytes afterwards if
+/// there is a value.
+pub fn show_word<'a>(contents: &[u16], bodies: &'a [u8], name: &[u8], class: &[u8], shown: &mut &'a [u8]) -> u64 {
+    let mut part = Bytes { start: shown.as_ptr(), length: shown.len() };
+    // SAFETY: as for the other lookups; `part` is lent for writing. The call is proved to leave the default there or
+    // a part of the bodies, and both live as long as `shown` says.
+    unsafe {
+        let word = resource_manager_show(
+            contents.as_ptr(),
+            contents.len(),
+            bodies.as_ptr(),
+            bodies.len(),
+            name.as_ptr(),
+            name.len(),
+            class.as_ptr(),
+            class.len(),
+            &mut part,
+        );
+        *shown = std::slice::from_raw_parts(part.start, part.length);
+        word
+    }
 }
 
 /// 0 with the number in `out`; or, with `out` as it was, 65534 if the value is not a number, 65535 for

@@ -1,98 +1,104 @@
--- The walk over the files of an archive, and the judging of one by it. Assumes nothing.
-use mathlib.Core.Bool.{Bool, true, false, _&&_, and-false, and-assoc}
-use mathlib.Core.List.{List, [], _∷_, map}
+-- The walk over the files of an archive by their lengths. Assumes nothing.
+use mathlib.Core.Bool.{Bool, true, false, _&&_, and-false}
+use mathlib.Core.List.{List, [], _∷_, _++_, append-assoc}
 use mathlib.Core.Path.{_≡_, refl, sym, ap, _∙_}
-use Prim.Native.Nat.{ℕ, suc, _+_, _-_, _*_, _≤_, _<_}
+use Prim.Native.Nat.{ℕ, suc, _+_, _-_, _≤_, _<_}
 use native.Mathlib.Nat.{sub-zero}
 use native.Mathlib.Omega.{arith}
 use native.Mathlib.Decide.{decLt}
-use mir.Syntax.{w8}
-use mir.Val.{Fits}
-use lib.Dec.{eqb, leb, ltb}
-use lib.ListN.{length, take, drop, getD, length-drop, drop-of-length-le}
-use lib.Seq.{getD-drop, drop-drop, drop-cons}
-use borrow.Author.Tests.{leb-true, le-leb, lt-leb, lt-ltb, eq-eqb, ne-eqb}
-use Rattle.definition.specs.Lists.{all, isEmpty, lower}
-use Rattle.definition.specs.Limits.{archiveBytes, archiveFiles}
-use Rattle.definition.specs.Archive.{File, numberAt, filesFrom, filesOf, split, isNamePart, isFileName, rising, laidOut}
-use Rattle.laws.proofs.Lists.{not-both, and-true, getD-all}
+use lib.Dec.{eqb, leb}
+use lib.ListN.{length, take, drop, length-append, length-drop, drop-of-length-le}
+use lib.Seq.{getD-drop, drop-drop, drop-cons, take-add, length-take-le}
+use borrow.Author.Tests.{leb-true, le-leb, lt-leb, eq-eqb, ne-eqb}
+use Rattle.definition.specs.Lists.{isEmpty}
+use Rattle.definition.specs.Archive.{File, bodiesOf, numberAt, filesFrom, filesOf, laidOut}
+use Rattle.laws.proofs.Lists.{and-true}
 use Rattle.laws.proofs.Archive.{laidOut-archive}
-use Rattle.laws.proofs.Walked.{fits, fitsFrom, fits-archive, files-fit, number-from}
-use Rattle.archive.specs.Walk.{risingFrom}
+use Rattle.laws.proofs.Walked.{fits, fitsFrom, files-fit, number-from}
+use Rattle.archive.specs.declared.Member.{Member}
+use Rattle.archive.specs.Walk.{lengthsAt, nameStart, memberAt, fileIn}
 
 -- ---- What is left of the walk
 
 -- the files from file j on, whose names and bodies stand from `at` on
 unfoldable pub filesLeft : List ℕ → ℕ → ℕ → ℕ → List File
-filesLeft s count at j = filesFrom (count - j) (drop (2 + 4 * j) s) (drop at s)
+filesLeft s count at j = filesFrom (count - j) (drop (lengthsAt j) s) (drop at s)
 
 -- are what follows `at` just those names and bodies?
 unfoldable pub fitsLeft : List ℕ → ℕ → ℕ → ℕ → Bool
-fitsLeft s count at j = fitsFrom (count - j) (drop (2 + 4 * j) s) (drop at s)
+fitsLeft s count at j = fitsFrom (count - j) (drop (lengthsAt j) s) (drop at s)
 
+-- file j of `count` is next, and all their lengths stand in s
 pub record Standing (s : List ℕ) (count at j : ℕ) : Type 0 where
   pub j-most : j ≤ count
-  pub rows-in : 2 + 4 * count ≤ length s
+  pub few : count < 65536
+  pub rows-in : lengthsAt count ≤ length s
   pub at-most : at ≤ length s
-
-abbrev pub fileHere : List ℕ → ℕ → ℕ → ℕ → File
-fileHere s at n m = record { name = take n (drop at s); body = take m (drop (at + n) s) }
 
 number-drop : (s : List ℕ) (a i : ℕ) → numberAt (drop a s) i ≡ numberAt s (a + i)
 number-drop s a i = let e : a + (i + 1) ≡ a + i + 1 = omega arith in rw (getD-drop a s i 0, getD-drop a s (i + 1) 0, e) refl
 
-module _ (s : List ℕ) (r at j : ℕ) where
-  files-row : filesFrom (suc r) (drop (2 + 4 * j) s) (drop at s)
-      ≡ fileHere s at (numberAt s (2 + 4 * j)) (numberAt s (4 + 4 * j))
-      ∷ filesFrom r (drop (2 + 4 * (j + 1)) s) (drop (at + (numberAt s (2 + 4 * j) + numberAt s (4 + 4 * j))) s)
+-- one file on, by its two lengths
+module _ (s : List ℕ) (r at j n m : ℕ) (en : numberAt s (lengthsAt j) ≡ n) (em : numberAt s (lengthsAt j + 2) ≡ m) where
+  e0 : numberAt (drop (lengthsAt j) s) 0 ≡ n
+  e0 = let z : lengthsAt j + 0 ≡ lengthsAt j = omega arith in number-drop s (lengthsAt j) 0 ∙ ap (numberAt s) z ∙ en
+
+  e2 : numberAt (drop (lengthsAt j) s) 2 ≡ m
+  e2 = number-drop s (lengthsAt j) 2 ∙ em
+
+  e4 : drop 4 (drop (lengthsAt j) s) ≡ drop (lengthsAt (j + 1)) s
+  e4 = let z : lengthsAt j + 4 ≡ lengthsAt (j + 1) = omega arith in drop-drop 4 (lengthsAt j) s ∙ ap (λ i. drop i s) z
+
+  on : drop (n + m) (drop at s) ≡ drop (at + n + m) s
+  on = let z : at + (n + m) ≡ at + n + m = omega arith in drop-drop (n + m) at s ∙ ap (λ i. drop i s) z
+
+  files-row : filesFrom (suc r) (drop (lengthsAt j) s) (drop at s)
+      ≡ record { name = take (at + n - at) (drop at s); body = take (at + n + m - (at + n)) (drop (at + n) s) }
+      ∷ filesFrom r (drop (lengthsAt (j + 1)) s) (drop (at + n + m) s)
   unfolding filesFrom
   files-row =
-      let e0 : 2 + 4 * j + 0 ≡ 2 + 4 * j = omega arith in
-      let e1 : 2 + 4 * j + 2 ≡ 4 + 4 * j = omega arith in
-      let e2 : 2 + 4 * j + 4 ≡ 2 + 4 * (j + 1) = omega arith in
-      simp (number-drop s (2 + 4 * j) 0, number-drop s (2 + 4 * j) 2, drop-drop, e0, e1, e2)
+      let z : at + n - at ≡ n = omega arith in
+      let y : at + n + m - (at + n) ≡ m = omega arith in
+      rw (e0, e2, e4, on, z, y, drop-drop n at s) refl
 
-  fits-row : fitsFrom (suc r) (drop (2 + 4 * j) s) (drop at s)
-      ≡ (leb (numberAt s (2 + 4 * j) + numberAt s (4 + 4 * j)) (length s - at)
-      && fitsFrom r (drop (2 + 4 * (j + 1)) s) (drop (at + (numberAt s (2 + 4 * j) + numberAt s (4 + 4 * j))) s))
+  fits-row : fitsFrom (suc r) (drop (lengthsAt j) s) (drop at s) ≡ (leb (n + m) (length s - at) && fitsFrom r (drop (lengthsAt (j + 1)) s) (drop (at + n + m) s))
   unfolding fitsFrom
-  fits-row =
-      let e0 : 2 + 4 * j + 0 ≡ 2 + 4 * j = omega arith in
-      let e1 : 2 + 4 * j + 2 ≡ 4 + 4 * j = omega arith in
-      let e2 : 2 + 4 * j + 4 ≡ 2 + 4 * (j + 1) = omega arith in
-      simp (number-drop s (2 + 4 * j) 0, number-drop s (2 + 4 * j) 2, drop-drop, length-drop, e0, e1, e2)
+  fits-row = rw (e0, e2, e4, on, length-drop at s) refl
 
--- one file on
-module _ (s : List ℕ) (count at j : ℕ) (h : j < count) (n m : ℕ) (en : n ≡ numberAt s (2 + 4 * j)) (em : m ≡ numberAt s (4 + 4 * j)) where
+module _ (s : List ℕ) (count at j : ℕ) (h : j < count) where
   down : count - j ≡ suc (count - (j + 1))
   down = omega arith
 
-  pub files-turn : filesLeft s count at j ≡ fileHere s at n m ∷ filesLeft s count (at + (n + m)) (j + 1)
+  abbrev here : Member
+  here = memberAt s j at
+
+  files-here : filesLeft s count at j ≡ fileIn s here ∷ filesLeft s count (here .end) (j + 1)
   unfolding filesLeft
-  files-turn = rw (down, en, em) (files-row s (count - (j + 1)) at j)
+  files-here = rw down (files-row s (count - (j + 1)) at j (numberAt s (lengthsAt j)) (numberAt s (lengthsAt j + 2)) refl refl)
 
-  pub fits-turn : fitsLeft s count at j ≡ (leb (n + m) (length s - at) && fitsLeft s count (at + (n + m)) (j + 1))
+  fits-here : fitsLeft s count at j ≡ (leb (numberAt s (lengthsAt j) + numberAt s (lengthsAt j + 2)) (length s - at) && fitsLeft s count (here .end) (j + 1))
   unfolding fitsLeft
-  fits-turn = rw (down, en, em) (fits-row s (count - (j + 1)) at j)
+  fits-here = rw down (fits-row s (count - (j + 1)) at j (numberAt s (lengthsAt j)) (numberAt s (lengthsAt j + 2)) refl refl)
 
-  pub fits-over : length s - at < n + m → fitsLeft s count at j ≡ false
-  fits-over k = rw (fits-turn, lt-leb (n + m) (length s - at) k) refl
+  module _ (m : Member) (e : m ≡ memberAt s j at) (k : at ≤ length s) where
+    end-is : m .end ≡ at + (numberAt s (lengthsAt j) + numberAt s (lengthsAt j + 2))
+    end-is = ap (λ x. x .end) e ∙ omega arith
 
-  pub fits-on : n + m ≤ length s - at → fitsLeft s count at j ≡ fitsLeft s count (at + (n + m)) (j + 1)
-  fits-on k = rw (fits-turn, le-leb (n + m) (length s - at) k) refl
+    pub fits-over : length s < m .end → fitsLeft s count at j ≡ false
+    fits-over l = rw (fits-here, lt-leb (numberAt s (lengthsAt j) + numberAt s (lengthsAt j + 2)) (length s - at) (omega (arith, end-is))) refl
 
-  module _ (f : fitsLeft s count at j ≡ true) where
-    both : (leb (n + m) (length s - at) ≡ true) × (fitsLeft s count (at + (n + m)) (j + 1) ≡ true)
-    both = and-true (leb (n + m) (length s - at)) (fitsLeft s count (at + (n + m)) (j + 1)) (sym fits-turn ∙ f)
+    pub fits-on : m .end ≤ length s → fitsLeft s count at j ≡ fitsLeft s count (m .end) (j + 1)
+    fits-on l =
+        rw (fits-here, le-leb (numberAt s (lengthsAt j) + numberAt s (lengthsAt j + 2)) (length s - at) (omega (arith, end-is)))
+        (ap (λ x. fitsLeft s count (x .end) (j + 1)) (sym e))
 
-    pub row-in : at ≤ length s → at + (n + m) ≤ length s
-    row-in k = omega (arith, leb-true (n + m) (length s - at) (both .0))
-
-    pub fits-next : fitsLeft s count (at + (n + m)) (j + 1) ≡ true
-    fits-next = both .1
+    fits-both : fitsLeft s count at j ≡ true → (m .end ≤ length s) × (fitsLeft s count (m .end) (j + 1) ≡ true)
+    fits-both f =
+        let b = and-true (leb (numberAt s (lengthsAt j) + numberAt s (lengthsAt j + 2)) (length s - at)) (fitsLeft s count (here .end) (j + 1)) (sym fits-here ∙ f) in
+        (omega (arith, end-is, leb-true (numberAt s (lengthsAt j) + numberAt s (lengthsAt j + 2)) (length s - at) (b .0)), ap (λ x. fitsLeft s count (x .end) (j + 1)) e ∙ b .1)
 
 module _ (s : List ℕ) (count at j : ℕ) (h : count ≤ j) where
-  pub files-end : filesLeft s count at j ≡ []
+  files-end : filesLeft s count at j ≡ []
   unfolding filesLeft filesFrom
   files-end = let e : count - j ≡ 0 = omega arith in rw e refl
 
@@ -109,125 +115,121 @@ module _ (s : List ℕ) (count at j : ℕ) (h : count ≤ j) where
 
 -- from the first file on
 module _ (s : List ℕ) (count : ℕ) (ec : count ≡ numberAt s 0) where
-  pub files-first : filesOf s ≡ filesLeft s count (2 + 4 * count) 0
-  unfolding filesOf filesLeft
-  files-first = rw (ec, sub-zero (numberAt s 0)) refl
-
-  pub fits-few : length s < 2 + 4 * count → fits s ≡ false
+  pub fits-few : length s < lengthsAt count → fits s ≡ false
   unfolding fits
-  fits-few h = rw (← ec, lt-leb (2 + 4 * count) (length s) h, and-false (leb 2 (length s))) refl
+  fits-few h = rw (← ec, lt-leb (lengthsAt count) (length s) h, and-false (leb 2 (length s))) refl
 
-  pub fits-first : 2 ≤ length s → 2 + 4 * count ≤ length s → fits s ≡ fitsLeft s count (2 + 4 * count) 0
+  pub fits-first : 2 ≤ length s → lengthsAt count ≤ length s → fits s ≡ fitsLeft s count (lengthsAt count) 0
   unfolding fits fitsLeft
-  fits-first h k = rw (← ec, le-leb 2 (length s) h, le-leb (2 + 4 * count) (length s) k, sub-zero count) refl
+  fits-first h k = rw (← ec, le-leb 2 (length s) h, le-leb (lengthsAt count) (length s) k, sub-zero count) refl
 
 pub fits-none : (s : List ℕ) → length s < 2 → fits s ≡ false
 unfolding fits
 fits-none s h = rw (lt-leb 2 (length s) h) refl
 
 -- what fits has room for its lengths
-pub fits-room : (s : List ℕ) → fits s ≡ true → (2 ≤ length s) × (2 + 4 * numberAt s 0 ≤ length s)
+pub fits-room : (s : List ℕ) → fits s ≡ true → (2 ≤ length s) × (lengthsAt (numberAt s 0) ≤ length s)
 unfolding fits
 fits-room s h =
-    let p = and-true (leb 2 (length s) && leb (2 + 4 * numberAt s 0) (length s)) (fitsFrom (numberAt s 0) (drop 2 s) (drop (2 + 4 * numberAt s 0) s)) h in
-    let q = and-true (leb 2 (length s)) (leb (2 + 4 * numberAt s 0) (length s)) (p .0) in
-    (leb-true 2 (length s) (q .0), leb-true (2 + 4 * numberAt s 0) (length s) (q .1))
+    let p = and-true (leb 2 (length s) && leb (lengthsAt (numberAt s 0)) (length s)) (fitsFrom (numberAt s 0) (drop 2 s) (drop (lengthsAt (numberAt s 0)) s)) h in
+    let q = and-true (leb 2 (length s)) (leb (lengthsAt (numberAt s 0)) (length s)) (p .0) in
+    (leb-true 2 (length s) (q .0), leb-true (lengthsAt (numberAt s 0)) (length s) (q .1))
 
 pub laid-fits : (s : List ℕ) → laidOut s ≡ true → fits s ≡ true
 laid-fits s h = ap fits (sym (laidOut-archive s h)) ∙ files-fit (filesOf s)
 
-pub fits-left : (s : List ℕ) (count : ℕ) → count ≡ numberAt s 0 → fits s ≡ true → fitsLeft s count (2 + 4 * count) 0 ≡ true
-fits-left s count ec h =
-    let r = fits-room s h in
-    sym (fits-first s count ec (r .0) (rw ec (r .1))) ∙ h
-
--- ---- Names that rise
-
-shuffle : (a b c d : Bool) → (a && b && (c && d)) ≡ (a && c && (b && d))
-shuffle true true c d = refl
-shuffle true false true d = refl
-shuffle true false false d = refl
-shuffle false b c d = refl
-
-rising-last : (last : List ℕ) (fs : List File) → risingFrom last fs ≡ (all (λ f. isFileName (f .name)) fs && rising (last ∷ map (λ f. f .name) fs))
-unfolding risingFrom all rising
-rising-last last [] = refl
-rising-last last (f ∷ fs) =
-    rw (rising-last (f .name) fs)
-    (shuffle (isFileName (f .name)) (lower last (f .name)) (all (λ g. isFileName (g .name)) fs) (rising (map (λ g. g .name) (f ∷ fs))))
-
-name-some : (n : List ℕ) → isFileName n ≡ true → lower [] n ≡ true
-unfolding isFileName split all isNamePart isEmpty lower
-name-some [] h = absurd (not-both h refl)
-name-some (c ∷ n) h = refl
-
--- the first name stands above the empty one
-rising-all : (fs : List File) → risingFrom [] fs ≡ (all (λ f. isFileName (f .name)) fs && rising (map (λ f. f .name) fs))
-unfolding all rising
-rising-all [] = rising-last [] []
-rising-all (f ∷ fs) = rising-last [] (f ∷ fs) ∙ at (isFileName (f .name)) refl
-  where
-    at : (b : Bool) → isFileName (f .name) ≡ b
-        → (b && all (λ g. isFileName (g .name)) fs && (lower [] (f .name) && rising (map (λ g. g .name) (f ∷ fs))))
-        ≡ (b && all (λ g. isFileName (g .name)) fs && rising (map (λ g. g .name) (f ∷ fs)))
-    at true e = rw (name-some (f .name) e) refl
-    at false e = refl
-
--- a part of the archive as the borrow checker gives it
-pub part-name : (s : List ℕ) (at n : ℕ) → take (at + n - at) (drop at s) ≡ take n (drop at s)
-part-name s at n = let e : at + n - at ≡ n = omega arith in rw e refl
-
-module _ (last s : List ℕ) (count at j : ℕ) (h : j < count) (n m : ℕ) (en : n ≡ numberAt s (2 + 4 * j)) (em : m ≡ numberAt s (4 + 4 * j)) where
-  pub rising-turn : risingFrom last (filesLeft s count at j)
-      ≡ (isFileName (take (at + n - at) (drop at s)) && lower last (take (at + n - at) (drop at s))
-      && risingFrom (take (at + n - at) (drop at s)) (filesLeft s count (at + (n + m)) (j + 1)))
-  unfolding risingFrom
-  rising-turn = rw (files-turn s count at j h n m en em, part-name s at n) refl
-
-  pub rising-bad : isFileName (take (at + n - at) (drop at s)) ≡ false → risingFrom last (filesLeft s count at j) ≡ false
-  rising-bad e = rw (rising-turn, e) refl
-
-  module _ (e : isFileName (take (at + n - at) (drop at s)) ≡ true) where
-    pub rising-low : lower last (take (at + n - at) (drop at s)) ≡ false → risingFrom last (filesLeft s count at j) ≡ false
-    rising-low l = rw (rising-turn, e, l) refl
-
-    pub rising-next : lower last (take (at + n - at) (drop at s)) ≡ true
-        → risingFrom last (filesLeft s count at j) ≡ risingFrom (take (at + n - at) (drop at s)) (filesLeft s count (at + (n + m)) (j + 1))
-    rising-next l = rw (rising-turn, e, l) refl
-
-pub rising-end : (last s : List ℕ) (count at j : ℕ) → count ≤ j → risingFrom last (filesLeft s count at j) ≡ true
-unfolding risingFrom
-rising-end last s count at j h = rw (files-end s count at j h) refl
-
--- ---- An archive
-
 pub length-files : (s : List ℕ) → length (filesOf s) ≡ numberAt s 0
 unfolding filesOf
-length-files s = number-from (numberAt s 0) (drop 2 s) (drop (2 + 4 * numberAt s 0) s)
+length-files s = number-from (numberAt s 0) (drop 2 s) (drop (lengthsAt (numberAt s 0)) s)
 
--- what the borrow checker knows of a slice of bytes
-pub bytes-all : (s : List ℕ) → ((i : ℕ) → Fits w8 (getD s i 0)) → all (λ c. ltb c 256) s ≡ true
-bytes-all s f = getD-all (λ c. ltb c 256) s 0 (λ i h. lt-ltb (getD s i 0) 256 (f i .fits))
+pub rows-room : (s : List ℕ) → laidOut s ≡ true → lengthsAt (length (filesOf s)) ≤ length s
+rows-room s h = omega (arith, length-files s, fits-room s (laid-fits s h))
 
-module _ (s : List ℕ) where
-  pub laid-long : archiveBytes < length s → laidOut s ≡ false
-  unfolding laidOut
-  laid-long h = rw (lt-leb (length s) archiveBytes h) refl
+-- ---- The walk over an archive that fits
 
-  module _ (bytes : all (λ c. ltb c 256) s ≡ true) where
-    pub laid-unfit : fits s ≡ false → laidOut s ≡ false
-    unfolding laidOut
-    laid-unfit f = rw (sym (fits-archive s bytes) ∙ f, and-false (leb (length s) archiveBytes)) refl
+-- a part from a up to e, as the borrow checker gives it
+pub part-size : (s : List ℕ) (a e : ℕ) → e ≤ length s → length (take (e - a) (drop a s)) ≡ e - a
+part-size s a e h = length-take-le (e - a) (drop a s) (rw length-drop (omega arith))
 
-    module _ (h : length s ≤ archiveBytes) (f : fits s ≡ true) (count : ℕ) (ec : count ≡ numberAt s 0) where
-      laid-is : laidOut s ≡ (leb count archiveFiles && risingFrom [] (filesOf s))
-      unfolding laidOut
-      laid-is =
-          rw (le-leb (length s) archiveBytes h, sym (fits-archive s bytes) ∙ f, length-files s ∙ sym ec, rising-all (filesOf s))
-          (and-assoc (leb count archiveFiles) (all (λ g. isFileName (g .name)) (filesOf s)) (rising (map (λ g. g .name) (filesOf s))))
+pub bodies-append : (fs gs : List File) → bodiesOf (fs ++ gs) ≡ bodiesOf fs ++ bodiesOf gs
+unfolding bodiesOf
+bodies-append [] gs = refl
+bodies-append (f ∷ fs) gs = rw (bodies-append fs gs) (sym (append-assoc (f .name ++ f .body) (bodiesOf fs) (bodiesOf gs)))
 
-      pub laid-many : archiveFiles < count → laidOut s ≡ false
-      laid-many k = rw (laid-is, lt-leb count archiveFiles k) refl
+-- file j is next, and its name starts at `at`
+pub record Walking (s : List ℕ) (count at j : ℕ) : Type 0 where
+  pub standing : Standing s count at j
+  pub many : length (filesOf s) ≡ count
+  pub fit : fitsLeft s count at j ≡ true
+  pub left : drop j (filesOf s) ≡ filesLeft s count at j
+  pub place : at ≡ nameStart j s
 
-      pub laid-few : count ≤ archiveFiles → laidOut s ≡ risingFrom [] (filesOf s)
-      laid-few k = rw (laid-is, le-leb count archiveFiles k) refl
+pub walking-first : (s : List ℕ) (count : ℕ) → (count ≡ numberAt s 0) × (count < 65536) → fits s ≡ true → Walking s count (lengthsAt count) 0
+unfolding filesOf filesLeft nameStart bodiesOf
+walking-first s count ec h =
+    let r = fits-room s h in
+    record {
+      standing = omega (arith, ec .0, ec .1, r .1);
+      many = length-files s ∙ sym (ec .0);
+      fit = sym (fits-first s count (ec .0) (r .0) (rw (ec .0) (r .1))) ∙ h;
+      left = rw (ec .0, sub-zero (numberAt s 0)) refl;
+      place = omega (arith, ec .0, length-files s);
+    }
+
+-- where a file stands
+pub record Stands (s : List ℕ) (start : ℕ) (m : Member) : Type 0 where
+  pub begins : m .start ≡ start
+  pub name-in : start ≤ m .body
+  pub body-in : m .body ≤ m .end
+  pub end-in : m .end ≤ length s
+
+module _ {s : List ℕ} {count at j : ℕ} (w : Walking s count at j) where
+  pub walking-end : count ≤ j → drop j (filesOf s) ≡ []
+  walking-end h = w .left ∙ files-end s count at j h
+
+  module _ (h : j < count) {m : Member} (e : m ≡ memberAt s j at) where
+    both : (m .end ≤ length s) × (fitsLeft s count (m .end) (j + 1) ≡ true)
+    both = fits-both s count at j h m e (w .standing .at-most) (w .fit)
+
+    pub walking-in : Stands s at m
+    walking-in = record {
+      begins = ap (λ x. x .start) e;
+      name-in = omega (arith, ap (λ x. x .body) e);
+      body-in = omega (arith, ap (λ x. x .body) e, ap (λ x. x .end) e);
+      end-in = both .0;
+    }
+
+    turned : filesLeft s count at j ≡ fileIn s m ∷ filesLeft s count (m .end) (j + 1)
+    turned = files-here s count at j h ∙ ap (λ x. fileIn s x ∷ filesLeft s count (x .end) (j + 1)) (sym e)
+
+    left-next : drop (j + 1) (filesOf s) ≡ filesLeft s count (m .end) (j + 1)
+    left-next = sym (drop-drop 1 j (filesOf s)) ∙ ap (drop 1) (w .left ∙ turned)
+
+    -- the file is the next, and the others follow
+    pub walking-turn : drop j (filesOf s) ≡ fileIn s m ∷ drop (j + 1) (filesOf s)
+    walking-turn = w .left ∙ turned ∙ ap (λ fs. fileIn s m ∷ fs) (sym left-next)
+
+    pub walking-sizes : (m .body ≡ at + length (fileIn s m .name)) × (m .end ≡ at + length (fileIn s m .name) + length (fileIn s m .body))
+    walking-sizes =
+        let i = walking-in in
+        let a = part-size s (m .start) (m .body) (omega arith) in
+        let b = part-size s (m .body) (m .end) (i .end-in) in
+        (omega arith, omega arith)
+
+    place-next : m .end ≡ nameStart (j + 1) s
+    unfolding nameStart bodiesOf
+    place-next =
+        let f = fileIn s m in
+        let more : take (j + 1) (filesOf s) ≡ take j (filesOf s) ++ f ∷ [] = take-add j 1 (filesOf s) ∙ ap (λ fs. take j (filesOf s) ++ take 1 fs) walking-turn in
+        omega (arith, w .place, walking-sizes, ap (λ fs. length (bodiesOf fs)) more, ap length (bodies-append (take j (filesOf s)) (f ∷ [])), length-append (bodiesOf (take j (filesOf s))) (bodiesOf (f ∷ [])), length-append (f .name ++ f .body) [], length-append (f .name) (f .body))
+
+    pub walking-next : Walking s count (m .end) (j + 1)
+    walking-next =
+        let t = w .standing in
+        record {
+          standing = record { j-most = omega arith; few = t .few; rows-in = t .rows-in; at-most = both .0 };
+          many = w .many;
+          fit = both .1;
+          left = left-next;
+          place = place-next;
+        }

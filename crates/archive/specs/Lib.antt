@@ -1,3 +1,2 @@
 -- What the contracts of this crate cite besides the definition.
-pub mod Names
 pub mod Walk

@@ -1,147 +1,23 @@
--- Folders, the comparing of names in place, and what a search finds. Assumes nothing.
+-- The search of an archive: a row's name and a path, the walk, and what a caller learns. Assumes nothing.
 use mathlib.Core.Bool.{Bool, true, false, _&&_, and-false}
 use mathlib.Core.List.{List, [], _∷_, _++_, append-assoc}
 use mathlib.Core.Option.{some, none}
 use mathlib.Core.Path.{_≡_, refl, sym, ap, _∙_}
-use Prim.Native.Nat.{ℕ, zero, suc, _+_, _-_, _*_, _≤_, _<_}
+use Prim.Native.Nat.{ℕ, suc, _+_, _-_, _≤_, _<_}
 use native.Mathlib.Omega.{arith}
-use lib.Dec.{eqb}
-use lib.ListN.{length, take, drop, getD, length-append, length-drop, List·getD-append}
-use lib.Seq.{getD-drop, getD-take, getD-append-seam, drop-cons, drop-drop, length-take-le, take-add}
-use borrow.Author.Tests.{eq-eqb, ne-eqb, eqb-true, eqb-false}
-use Rattle.definition.specs.Lists.{if_then_else_, any, isEmpty, same}
+use lib.ListN.{length, take, drop, length-append, length-drop}
+use lib.Seq.{drop-at, take-at, drop-drop, length-take-le, take-add}
+use Rattle.definition.specs.Lists.{if_then_else_, isEmpty, same}
 use Rattle.definition.specs.Bytes.{slash}
-use Rattle.definition.specs.Archive.{numberAt, filesOf, laidOut, folderOf, pathOf, bodyOf}
-use Rattle.laws.proofs.Lists.{not-both, any-getD, same-eq, same-lengths, same-append, same-from-equal, same-from-other, same-from-end}
+use Rattle.definition.specs.Archive.{File, bodiesOf, numberAt, filesOf, laidOut, pathOf, bodyOf}
+use Rattle.laws.proofs.Lists.{same-eq, same-lengths, same-append}
+use Rattle.laws.proofs.Archive.{length-archive, archive-bodies, laidOut-archive}
+use Rattle.archive.specs.declared.Member.{Member}
+use Rattle.archive.specs.Walk.{lengthsAt, memberAt, fileIn}
+use Rattle.archive.proofs.Walk.{laid-fits, length-files, Walking, Stands, walking-first, walking-in, walking-turn, walking-next, walking-end, walking-sizes}
 use Rattle.archive_find.specs.declared.Found.{Found}
 use Rattle.archive_find.specs.declared.Found.the-variants.{At, Nothing}
-use Rattle.archive_find.specs.Finding.{stem, bodyAt, Finds}
-use Rattle.archive.proofs.Walk.{Standing, filesLeft, fitsLeft, files-first, files-turn, files-end, laid-fits, fits-room, fits-left, row-in, fits-next}
-
--- ---- The folder of a name
-
-any-cons : (c : ℕ) (t : List ℕ) → (slash ≡ c → ⊥) → any (eqb slash) (c ∷ t) ≡ any (eqb slash) t
-unfolding any
-any-cons c t h = rw (ne-eqb slash c h) refl
-
-pub folder-none : (n : List ℕ) → any (eqb slash) n ≡ false → folderOf n ≡ []
-unfolding folderOf any
-folder-none [] h = refl
-folder-none (c ∷ t) h = at (eqb slash c) (any (eqb slash) t) h
-  where
-    at : (a b : Bool) → mathlib.Core.Bool._||_ a b ≡ false → (if b then c ∷ folderOf t else []) ≡ []
-    at true b e = absurd (not-both refl e)
-    at false true e = absurd (not-both refl e)
-    at false false e = refl
-
-folder-at : (n : List ℕ) (i : ℕ) → i < length n → getD n i 0 ≡ slash → any (eqb slash) (drop (suc i) n) ≡ false → folderOf n ≡ take i n
-unfolding folderOf
-folder-at [] i h e k = absurd (omega arith)
-folder-at (c ∷ t) zero h e k = rw k refl
-folder-at (c ∷ t) (suc i) h e k =
-    rw (any-getD (eqb slash) t i 0 (omega arith) (eq-eqb slash (getD t i 0) (sym e)), folder-at t i (omega arith) e k) refl
-
-module _ (n : List ℕ) (i : ℕ) (h : 0 < i) (k : i ≤ length n) (none-after : any (eqb slash) (drop i n) ≡ false) where
-  next-is : suc (i - 1) ≡ i
-  next-is = omega arith
-
-  pub folder-here : getD n (i - 1) 0 ≡ slash → folderOf n ≡ take (i - 1) n
-  folder-here e = folder-at n (i - 1) (omega arith) e (rw next-is none-after)
-
-  pub folder-back : (getD n (i - 1) 0 ≡ slash → ⊥) → any (eqb slash) (drop (i - 1) n) ≡ false
-  folder-back e =
-      let l : i - 1 < length n = omega arith in
-      rw (drop-cons n (i - 1) 0 l, any-cons (getD n (i - 1) 0) (drop (suc (i - 1)) n) (λ q. e (sym q)), next-is) none-after
-
--- ---- What stands at a place, compared with k
-
-pub record Matching (s k : List ℕ) (at i : ℕ) : Type 0 where
-  pub i-most : i ≤ length k
-  pub inside : at + length k ≤ length s
-  pub so-far : same (take (length k) (drop at s)) k ≡ same (drop i (take (length k) (drop at s))) (drop i k)
-
-pub matching-first : (s k : List ℕ) (at : ℕ) → at + length k ≤ length s → Matching s k at 0
-matching-first s k at h = record { i-most = omega arith; inside = h; so-far = refl }
-
-module _ {s k : List ℕ} {at i : ℕ} (m : Matching s k at i) where
-  long : length (take (length k) (drop at s)) ≡ length k
-  long = length-take-le (length k) (drop at s) (rw length-drop (omega (arith, m .inside)))
-
-  pub matching-all : length k ≤ i → same (take (length k) (drop at s)) k ≡ true
-  matching-all h = m .so-far ∙ same-from-end (take (length k) (drop at s)) k i (omega (arith, long)) h
-
-  module _ (h : i < length k) where
-    byte : getD (take (length k) (drop at s)) i 0 ≡ getD s (at + i) 0
-    byte = getD-take (length k) (drop at s) i 0 h ∙ getD-drop at s i 0
-
-    pub matching-off : (getD s (at + i) 0 ≡ getD k i 0 → ⊥) → same (take (length k) (drop at s)) k ≡ false
-    matching-off f = m .so-far ∙ same-from-other (take (length k) (drop at s)) k i (omega (arith, long)) h (λ q. f (sym byte ∙ q))
-
-    pub matching-on : getD s (at + i) 0 ≡ getD k i 0 → Matching s k at (i + 1)
-    matching-on e = record {
-      i-most = omega arith;
-      inside = m .inside;
-      so-far = m .so-far ∙ same-from-equal (take (length k) (drop at s)) k i (omega (arith, long)) h (byte ∙ e);
-    }
-
--- ---- A folder and its `/`
-
-stem-some : (f : List ℕ) → 0 < length f → stem f ≡ f ++ slash ∷ []
-unfolding stem isEmpty
-stem-some [] h = absurd (omega arith)
-stem-some (c ∷ f) h = refl
-
-pub stem-none : (f : List ℕ) → length f ≡ 0 → stem f ≡ []
-unfolding stem isEmpty
-stem-none [] h = refl
-stem-none (c ∷ f) h = absurd (omega arith)
-
-pub stem-length : (f : List ℕ) → (length f ≡ 0 → ⊥) → length (stem f) ≡ length f + 1
-stem-length f h =
-    let l : 0 < length f = omega arith in
-    rw (stem-some f l) (length-append f (slash ∷ []))
-
-pub stem-long : (f : List ℕ) → (length f ≤ length (stem f)) × (length (stem f) ≤ length f + 1)
-unfolding stem isEmpty
-stem-long [] = omega arith
-stem-long (c ∷ f) = omega (arith, length-append f (slash ∷ []))
-
-stem-byte : (f : List ℕ) (i : ℕ) → i < length f → getD (stem f) i 0 ≡ getD f i 0
-stem-byte f i h =
-    let l : 0 < length f = omega arith in
-    rw (stem-some f l) (List·getD-append f (slash ∷ []) 0 i h)
-
-stem-slash : (f : List ℕ) (i : ℕ) → 0 < i → i ≡ length f → getD (stem f) i 0 ≡ slash
-stem-slash f i h e =
-    let l : 0 < length f = omega arith in
-    rw (stem-some f l, e) (getD-append-seam f slash [] 0)
-
-module _ (f : List ℕ) {s : List ℕ} {at i : ℕ} (m : Matching s (stem f) at i) where
-  module _ (h : i < length f) where
-    in-stem : i < length (stem f)
-    in-stem = omega (arith, stem-long f)
-
-    pub folder-off : (getD s (at + i) 0 ≡ getD f i 0 → ⊥) → same (take (length (stem f)) (drop at s)) (stem f) ≡ false
-    folder-off e = matching-off m in-stem (λ q. e (q ∙ stem-byte f i h))
-
-    pub folder-on : getD s (at + i) 0 ≡ getD f i 0 → Matching s (stem f) at (i + 1)
-    folder-on e = matching-on m in-stem (e ∙ sym (stem-byte f i h))
-
-  pub folder-empty : length f ≤ i → i ≡ 0 → same (take (length (stem f)) (drop at s)) (stem f) ≡ true
-  folder-empty h e = matching-all m (let l : length f ≡ 0 = omega arith in omega (arith, ap length (stem-none f l)))
-
-  pub folder-slash : i ≡ length f → (i ≡ 0 → ⊥) → same (take (length (stem f)) (drop at s)) (stem f) ≡ eqb (getD s (at + i) 0) slash
-  folder-slash e z = at-slash (eqb (getD s (at + i) 0) slash) refl
-    where
-      h : length (stem f) ≡ i + 1
-      h = let l : length f ≡ 0 → ⊥ = (λ q. z (e ∙ q)) in omega (arith, stem-length f l)
-
-      b : getD (stem f) i 0 ≡ slash
-      b = stem-slash f i (omega arith) e
-
-      at-slash : (t : Bool) → eqb (getD s (at + i) 0) slash ≡ t → same (take (length (stem f)) (drop at s)) (stem f) ≡ t
-      at-slash true q = matching-all (matching-on m (omega (arith, h)) (eqb-true (getD s (at + i) 0) slash q ∙ sym b)) (omega (arith, h))
-      at-slash false q = matching-off m (omega (arith, h)) (λ w. eqb-false (getD s (at + i) 0) slash q (w ∙ b))
+use Rattle.archive_find.specs.Finding.{stem, memberOf, findFrom, findIn, numberOf}
 
 -- ---- A row's name and a path
 
@@ -175,75 +51,155 @@ module _ (s f k : List ℕ) (from n before : ℕ) (eb : before ≡ length (stem 
 
 -- ---- The search
 
-module _ (path s : List ℕ) (count at j : ℕ) (h : j < count) (n m : ℕ) (en : n ≡ numberAt s (2 + 4 * j)) (em : m ≡ numberAt s (4 + 4 * j)) where
-  body-turn : bodyOf (filesLeft s count at j) path
-      ≡ (if same (take n (drop at s)) path then some (take m (drop (at + n) s)) else bodyOf (filesLeft s count (at + (n + m)) (j + 1)) path)
-  unfolding bodyOf
-  body-turn = rw (files-turn s count at j h n m en em) refl
-
-  body-next : same (take n (drop at s)) path ≡ false → bodyOf (filesLeft s count at j) path ≡ bodyOf (filesLeft s count (at + (n + m)) (j + 1)) path
-  body-next e = rw (body-turn, e) refl
-
-  body-hit : same (take n (drop at s)) path ≡ true → bodyOf (filesLeft s count at j) path ≡ some (take m (drop (at + n) s))
-  body-hit e = rw (body-turn, e) refl
-
-body-end : (path s : List ℕ) (count at j : ℕ) → count ≤ j → bodyOf (filesLeft s count at j) path ≡ none
-unfolding bodyOf
-body-end path s count at j h = rw (files-end s count at j h) refl
-
 -- before file j nothing was found
 pub record Searching (s path : List ℕ) (count : ℕ) (found : Found) (at j : ℕ) : Type 0 where
-  pub standing : Standing s count at j
-  pub fitting : fitsLeft s count at j ≡ true
+  pub walk : Walking s count at j
   pub nothing : found ≡ Nothing
-  pub left : bodyOf (filesOf s) path ≡ bodyOf (filesLeft s count at j) path
+  pub left : findIn s path ≡ findFrom j at (drop j (filesOf s)) path
 
-pub searching-first : (s path : List ℕ) (count : ℕ) → laidOut s ≡ true → count ≡ numberAt s 0 → Searching s path count Nothing (2 + 4 * count) 0
-searching-first s path count h ec =
-    let f = laid-fits s h in
-    let r = fits-room s f in
-    record {
-      standing = omega arith;
-      fitting = fits-left s count ec f;
-      nothing = refl;
-      left = ap (λ fs. bodyOf fs path) (files-first s count ec);
-    }
+pub searching-first : (s path : List ℕ) (count : ℕ) → laidOut s ≡ true → (count ≡ numberAt s 0) × (count < 65536)
+    → Searching s path count Nothing (lengthsAt count) 0
+unfolding findIn
+searching-first s path count h ec = record {
+  walk = walking-first s count ec (laid-fits s h);
+  nothing = refl;
+  left = rw (length-files s, ec .0) refl;
+}
 
 module _ {s path : List ℕ} {count : ℕ} {found : Found} {at j : ℕ} (l : Searching s path count found at j) where
-  pub searching-none : count ≤ j → Finds s path found
-  unfolding bodyAt
-  searching-none h = rw (l .nothing) (record { body = sym (l .left ∙ body-end path s count at j h); stands = tt })
+  pub searching-none : count ≤ j → found ≡ findIn s path
+  unfolding findFrom
+  searching-none h = l .nothing ∙ sym (l .left ∙ ap (λ fs. findFrom j at fs path) (walking-end (l .walk) h))
 
-  module _ (h : j < count) (n m : ℕ) (en : n ≡ numberAt s (2 + 4 * j)) (em : m ≡ numberAt s (4 + 4 * j)) where
-    pub file-in : at + (n + m) ≤ length s
-    file-in = row-in s count at j h n m en em (l .fitting) (l .standing .at-most)
+  module _ (h : j < count) {m : Member} (e : m ≡ memberAt s j at) where
+    pub file-in : Stands s at m
+    file-in = walking-in (l .walk) h e
 
-    pub searching-next : same (take n (drop at s)) path ≡ false → Searching s path count found (at + (n + m)) (j + 1)
-    searching-next e = record {
-      standing = record { j-most = omega arith; rows-in = l .standing .rows-in; at-most = file-in };
-      fitting = fits-next s count at j h n m en em (l .fitting);
+    turn : findIn s path
+        ≡ (if same (fileIn s m .name) path then At (memberOf j at (fileIn s m)) else findFrom (j + 1) (memberOf j at (fileIn s m) .end) (drop (j + 1) (filesOf s)) path)
+    unfolding findFrom
+    turn = l .left ∙ ap (λ fs. findFrom j at fs path) (walking-turn (l .walk) h e)
+
+    pub searching-next : same (fileIn s m .name) path ≡ false → Searching s path count found (m .end) (j + 1)
+    searching-next f = record {
+      walk = walking-next (l .walk) h e;
       nothing = l .nothing;
-      left = l .left ∙ body-next path s count at j h n m en em e;
+      left =
+          turn ∙ ap (λ (b : Bool). if b then At (memberOf j at (fileIn s m)) else findFrom (j + 1) (memberOf j at (fileIn s m) .end) (drop (j + 1) (filesOf s)) path) f
+          ∙ ap (λ x. findFrom (j + 1) x (drop (j + 1) (filesOf s)) path) (sym (walking-sizes (l .walk) h e .1));
     }
 
-    pub searching-found : same (take n (drop at s)) path ≡ true → Finds s path (At at n m)
-    unfolding bodyAt
-    searching-found e = record {
-      body = sym (l .left ∙ body-hit path s count at j h n m en em e);
-      stands = (same-eq (take n (drop at s)) path e, omega (arith, file-in));
-    }
+    pub searching-found : same (fileIn s m .name) path ≡ true → At m ≡ findIn s path
+    searching-found f =
+        let z = walking-sizes (l .walk) h e in
+        let p : m ≡ memberOf j at (fileIn s m) = (λ i. record { number = e i .number; start = e i .start; body = z .0 i; end = z .1 i }) in
+        ap At p
+        ∙ sym (turn ∙ ap (λ (b : Bool). if b then At (memberOf j at (fileIn s m)) else findFrom (j + 1) (memberOf j at (fileIn s m) .end) (drop (j + 1) (filesOf s)) path) f)
 
 -- ---- What a caller learns
 
-module _ {s path : List ℕ} {r : Found} (f : Finds s path r) where
+-- the file of that name among some, and where it stands
+pub record FoundAt (s : List ℕ) (fs : List File) (path : List ℕ) (m : Member) : Type 0 where
+  pub body : bodyOf fs path ≡ some (fileIn s m .body)
+  pub name : fileIn s m .name ≡ path
+  pub inside : Stands s (m .start) m
+
+abbrev pub Finds : List ℕ → List File → List ℕ → Found → Type 0
+Finds s fs path (At m) = FoundAt s fs path m
+Finds s fs path Nothing = bodyOf fs path ≡ none
+
+-- what a file's name and body are, in bytes that go on with them
+module _ (s : List ℕ) (j at : ℕ) (f : File) (fs : List File) (h : at ≤ length s) (e : drop at s ≡ bodiesOf (f ∷ fs)) where
+  cut : drop at s ≡ f .name ++ (f .body ++ bodiesOf fs)
+  unfolding bodiesOf
+  cut = e ∙ append-assoc (f .name) (f .body) (bodiesOf fs)
+
+  long : length s ≡ at + length (f .name) + length (f .body) + length (bodiesOf fs)
+  long = omega (arith, length-drop at s, ap length cut, length-append (f .name) (f .body ++ bodiesOf fs), length-append (f .body) (bodiesOf fs))
+
+  after-name : drop (at + length (f .name)) s ≡ f .body ++ bodiesOf fs
+  after-name = sym (drop-drop (length (f .name)) at s) ∙ ap (drop (length (f .name))) cut ∙ drop-at (f .name) (f .body ++ bodiesOf fs) (length (f .name)) refl
+
+  after-file : drop (memberOf j at f .end) s ≡ bodiesOf fs
+  after-file = sym (drop-drop (length (f .body)) (at + length (f .name)) s) ∙ ap (drop (length (f .body))) after-name ∙ drop-at (f .body) (bodiesOf fs) (length (f .body)) refl
+
+  name-is : fileIn s (memberOf j at f) .name ≡ f .name
+  name-is = let z : at + length (f .name) - at ≡ length (f .name) = omega arith in rw (z, cut) (take-at (f .name) (f .body ++ bodiesOf fs) (length (f .name)) refl)
+
+  body-is : fileIn s (memberOf j at f) .body ≡ f .body
+  body-is =
+      let z : at + length (f .name) + length (f .body) - (at + length (f .name)) ≡ length (f .body) = omega arith in
+      rw (z, after-name) (take-at (f .body) (bodiesOf fs) (length (f .body)) refl)
+
+  stands : Stands s at (memberOf j at f)
+  stands = record { begins = refl; name-in = omega arith; body-in = omega arith; end-in = omega (arith, long) }
+
+find-from : (s : List ℕ) (j at : ℕ) (fs : List File) (path : List ℕ) → at ≤ length s → drop at s ≡ bodiesOf fs → Finds s fs path (findFrom j at fs path)
+unfolding findFrom bodyOf
+find-from s j at [] path h e = refl
+find-from s j at (f ∷ fs) path h e =
+    pick (same (f .name) path) refl (find-from s (j + 1) (memberOf j at f .end) fs path (stands s j at f fs h e .end-in) (after-file s j at f fs h e))
+  where
+    onward : (r : Found) → same (f .name) path ≡ false → Finds s fs path r → Finds s (f ∷ fs) path r
+    onward (At m) q g = record { body = rw q (g .body); name = g .name; inside = g .inside }
+    onward Nothing q g = rw q g
+
+    pick : (b : Bool) → same (f .name) path ≡ b → Finds s fs path (findFrom (j + 1) (memberOf j at f .end) fs path)
+        → Finds s (f ∷ fs) path (if b then At (memberOf j at f) else findFrom (j + 1) (memberOf j at f .end) fs path)
+    pick true q g = record {
+      body = rw q (ap some (sym (body-is s j at f fs h e)));
+      name = name-is s j at f fs h e ∙ same-eq (f .name) path q;
+      inside = stands s j at f fs h e;
+    }
+    pick false q g = onward (findFrom (j + 1) (memberOf j at f .end) fs path) q g
+
+pub find-finds : (s path : List ℕ) → laidOut s ≡ true → Finds s (filesOf s) path (findIn s path)
+unfolding findIn
+find-finds s path h =
+    let x = laidOut-archive s h in
+    let k = lengthsAt (length (filesOf s)) in
+    find-from s 0 k (filesOf s) path (omega (arith, length-archive (filesOf s), ap length x)) (ap (drop k) (sym x) ∙ archive-bodies (filesOf s))
+
+module _ (s path : List ℕ) {r : Found} (h : laidOut s ≡ true) (f : r ≡ findIn s path) where
   pub found-none : r ≡ Nothing → bodyOf (filesOf s) path ≡ none
-  unfolding bodyAt
-  found-none e = sym (f .body) ∙ ap (bodyAt s) e
+  found-none e = rw (sym f ∙ e) at (find-finds s path h)
 
-  module _ (a n m : ℕ) (e : r ≡ At a n m) where
-    pub found-body : bodyOf (filesOf s) path ≡ some (take m (drop (a + n) s))
-    unfolding bodyAt
-    found-body = sym (f .body) ∙ ap (bodyAt s) e
+  pub found-at : {m : Member} → r ≡ At m → FoundAt s (filesOf s) path m
+  found-at e = rw (sym f ∙ e) at (find-finds s path h)
 
-    pub found-stands : (take n (drop a s) ≡ path) × (a + n + m ≤ length s)
-    found-stands = rw e at (f .stands)
+-- ---- The number of a file
+
+unfoldable numbered : ℕ → Found → ℕ
+numbered k (At m) = m .number
+numbered k Nothing = k
+
+number-from : (j at : ℕ) (fs : List File) (n : List ℕ) → numbered (j + length fs) (findFrom j at fs n) ≡ j + numberOf n fs
+unfolding findFrom numberOf numbered
+number-from j at [] n = refl
+number-from j at (f ∷ fs) n = pick (same (f .name) n) (number-from (j + 1) (memberOf j at f .end) fs n)
+  where
+    pick : (b : Bool) → numbered (j + 1 + length fs) (findFrom (j + 1) (memberOf j at f .end) fs n) ≡ j + 1 + numberOf n fs
+        → numbered (j + suc (length fs)) (if b then At (memberOf j at f) else findFrom (j + 1) (memberOf j at f .end) fs n)
+        ≡ j + (if b then 0 else suc (numberOf n fs))
+    pick true ih = omega arith
+    pick false ih =
+        let e : j + suc (length fs) ≡ j + 1 + length fs = omega arith in
+        let g : j + 1 + numberOf n fs ≡ j + suc (numberOf n fs) = omega arith in
+        ap (λ k. numbered k (findFrom (j + 1) (memberOf j at f .end) fs n)) e ∙ ih ∙ g
+
+module _ (s n : List ℕ) {r : Found} (e : r ≡ findIn s (pathOf [] n)) where
+  number-is : numbered (length (filesOf s)) r ≡ numberOf n (filesOf s)
+  unfolding findIn pathOf isEmpty
+  number-is =
+      let z : 0 + length (filesOf s) ≡ length (filesOf s) = omega arith in
+      let y : 0 + numberOf n (filesOf s) ≡ numberOf n (filesOf s) = omega arith in
+      ap (numbered (length (filesOf s))) e ∙ ap (λ k. numbered k (findFrom 0 (lengthsAt (length (filesOf s))) (filesOf s) n)) (sym z)
+      ∙ number-from 0 (lengthsAt (length (filesOf s))) (filesOf s) n ∙ y
+
+  pub number-found : {m : Member} → r ≡ At m → m .number ≡ numberOf n (filesOf s)
+  unfolding numbered
+  number-found q = sym (ap (numbered (length (filesOf s))) q) ∙ number-is
+
+  pub number-off : r ≡ Nothing → length (filesOf s) ≡ numberOf n (filesOf s)
+  unfolding numbered
+  number-off q = sym (ap (numbered (length (filesOf s))) q) ∙ number-is

@@ -1,12 +1,12 @@
 -- What a search of an archive answers.
 use mathlib.Core.List.{List, [], _∷_, _++_}
-use mathlib.Core.Option.{Option, some, none}
-use mathlib.Core.Path.{_≡_}
-use Prim.Native.Nat.{ℕ, _+_, _≤_}
-use lib.ListN.{length, take, drop}
-use Rattle.definition.specs.Lists.{if_then_else_, isEmpty}
+use Prim.Native.Nat.{ℕ, suc, _+_}
+use lib.ListN.{length}
+use Rattle.definition.specs.Lists.{if_then_else_, isEmpty, same}
 use Rattle.definition.specs.Bytes.{slash}
-use Rattle.definition.specs.Archive.{filesOf, bodyOf}
+use Rattle.definition.specs.Archive.{File, filesOf}
+use Rattle.archive.specs.Walk.{lengthsAt}
+use Rattle.archive.specs.declared.Member.{Member}
 use Rattle.archive_find.specs.declared.Found.{Found}
 use Rattle.archive_find.specs.declared.Found.the-variants.{At, Nothing}
 
@@ -14,16 +14,20 @@ use Rattle.archive_find.specs.declared.Found.the-variants.{At, Nothing}
 unfoldable pub stem : List ℕ → List ℕ
 stem folder = if isEmpty folder then [] else folder ++ slash ∷ []
 
--- the body that an answer shows
-unfoldable pub bodyAt : List ℕ → Found → Option (List ℕ)
-bodyAt s (At a n m) = some (take m (drop (a + n) s))
-bodyAt s Nothing = none
+-- file j, whose name starts at `start`: its name, and then its body
+abbrev pub memberOf : ℕ → ℕ → File → Member
+memberOf j start f = record { number = j; start = start; body = start + length (f .name); end = start + length (f .name) + length (f .body) }
 
--- a file found has that name, and stands in the archive
-abbrev pub Stands : List ℕ → List ℕ → Found → Type 0
-Stands s path (At a n m) = (take n (drop a s) ≡ path) × (a + n + m ≤ length s)
-Stands s path Nothing = Unit
+-- the first that has that name, of files whose first is file j and starts at `start`
+unfoldable pub findFrom : ℕ → ℕ → List File → List ℕ → Found
+findFrom j start [] path = Nothing
+findFrom j start (f ∷ fs) path = if same (f .name) path then At (memberOf j start f) else findFrom (j + 1) (memberOf j start f .end) fs path
 
-pub record Finds (s path : List ℕ) (r : Found) : Type 0 where
-  pub body : bodyAt s r ≡ bodyOf (filesOf s) path
-  pub stands : Stands s path r
+-- the first file of an archive that has that name, where it stands
+unfoldable pub findIn : List ℕ → List ℕ → Found
+findIn s path = findFrom 0 (lengthsAt (length (filesOf s))) (filesOf s) path
+
+-- the number of the file of that name, counted from 0, or the number of files
+unfoldable pub numberOf : List ℕ → List File → ℕ
+numberOf n [] = 0
+numberOf n (f ∷ fs) = if same (f .name) n then 0 else suc (numberOf n fs)

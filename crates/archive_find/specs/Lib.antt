@@ -1,3 +1,2 @@
 -- What the contracts of this crate cite besides the definition.
 pub mod Finding
-pub mod Striking

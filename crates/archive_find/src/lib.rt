@@ -1,24 +1,25 @@
-// Document 01's shelf, once it is judged: folders, the search, and one file removed.
-use archive::word_at;
+// Document 01's shelf, once it is judged: folders, and the search.
 ghost use mathlib.Core.Path.{_≡_};
 ghost use mathlib.Core.Bool.{true};
-ghost use Prim.Native.Nat.{_+_, _≤_, _<_};
+ghost use Prim.Native.Nat.{_+_, _≤_};
 ghost use lib.ListN.{length, take, drop};
-ghost use lib.Seq.{paste};
 ghost use Rattle.definition.specs.Lists.{same};
-ghost use Rattle.definition.specs.Archive.{filesOf, laidOut, struckOff, folderOf, pathOf};
-ghost use Rattle.archive_find.specs.Finding.{stem, Finds};
-ghost use Rattle.archive_find.specs.Striking.{placeOf};
+ghost use Rattle.definition.specs.Archive.{filesOf, laidOut, folderOf, pathOf};
+ghost use Rattle.archive_find.specs.Finding.{stem, findIn, numberOf};
+use archive::Member;
+use archive::file_count;
+use archive::lengths_at;
+use archive::member_at;
 
-// Where a file stands: its name starts at .0 and is .1 long, and its body follows and is .2 long.
+// The file that a search found.
 pub enum Found {
-    At(usize, usize, usize),
+    At(Member),
     Nothing,
 }
 
-// The name before its last `/`, or empty.
+// The name before its last `/`, or empty: a front of the name itself.
 pub fn folder_of(name: &[u8]) -> &[u8]
-    ensures { λ r. ⌜ now r ≡ folderOf (now (name .entry)) ⌝ }
+    ensures { λ r. ⌜ (now r ≡ folderOf (now (name .entry))) × (r .ptr ≡ name .entry .ptr) ⌝ }
 {
     let mut i = name.len();
     while 0 < i {
@@ -62,24 +63,23 @@ fn in_folder(archive: &[u8], at: usize, folder: &[u8]) -> bool
 // The file that an include of `name` from `folder` looks for. The name is compared before the folder, which the rows near by share.
 pub fn find(archive: &[u8], folder: &[u8], name: &[u8]) -> Found
     requires { ⌜ laidOut (now archive) ≡ true ⌝ }
-    ensures { λ r. ⌜ Finds (now (archive .entry)) (pathOf (now (folder .entry)) (now (name .entry))) r ⌝ }
+    ensures { λ r. ⌜ r ≡ findIn (now (archive .entry)) (pathOf (now (folder .entry)) (now (name .entry))) ⌝ }
 {
-    let count = word_at(archive, 0);
+    let count = file_count(archive);
     let before = stem_len(folder);
     let long = before + name.len();
     let mut found = Found::Nothing;
-    let mut at = 2 + 4 * count;
+    let mut at = lengths_at(count);
     let mut j = 0;
     'rows: while j < count {
-        let n = word_at(archive, 2 + 4 * j);
-        let m = word_at(archive, 4 + 4 * j);
-        let from = at;
-        at += n + m;
+        let member = member_at(archive, j, at);
+        let start = member.start;
+        at = member.end;
         j += 1;
-        if n != long {
+        if member.body - start != long {
             continue 'rows;
         }
-        let own = from + before;
+        let own = start + before;
         let mut i = 0;
         'bytes: while i < name.len() {
             if archive[own + i] != name[i] {
@@ -87,48 +87,23 @@ pub fn find(archive: &[u8], folder: &[u8], name: &[u8]) -> Found
             }
             i += 1;
         }
-        if !in_folder(archive, from, folder) {
+        if !in_folder(archive, start, folder) {
             continue 'rows;
         }
-        found = Found::At(from, n, m);
+        found = Found::At(member);
         break 'rows;
     }
     found
 }
 
-// Where the name of a file begins, counting files from 0.
-fn place_of(archive: &[u8], file: usize) -> usize
-    requires { ⌜ (laidOut (now archive) ≡ true) × (file < length (filesOf (now archive))) ⌝ }
-    ensures { λ r. ⌜ r ≡ placeOf file (now (archive .entry)) ⌝ }
+// The number of the file of that name, counted from 0, or the number of files.
+pub fn number_of(archive: &[u8], name: &[u8]) -> usize
+    requires { ⌜ laidOut (now archive) ≡ true ⌝ }
+    ensures { λ r. ⌜ r ≡ numberOf (now (name .entry)) (filesOf (now (archive .entry))) ⌝ }
 {
-    let count = word_at(archive, 0);
-    let mut at = 2 + 4 * count;
-    let mut j = 0;
-    while j < file {
-        let n = word_at(archive, 2 + 4 * j);
-        let m = word_at(archive, 4 + 4 * j);
-        at += n + m;
-        j += 1;
+    let found = find(archive, &name[..0], name);
+    match found {
+        Found::At(member) => member.number,
+        Found::Nothing => file_count(archive),
     }
-    at
-}
-
-// The archive without one file, copied into `out`: the number of bytes written. Those past it stay.
-pub fn strike_off(archive: &[u8], file: usize, out: &mut [u8]) -> usize
-    requires { ⌜ (laidOut (now archive) ≡ true) × (file < length (filesOf (now archive))) × (length (struckOff file (now archive)) ≤ length (now out)) ⌝ }
-    ensures { λ r. ⌜ (r ≡ length (struckOff file (now (archive .entry)))) × (now (out .exit) ≡ paste (now (out .entry)) 0 (struckOff file (now (archive .entry))) r) ⌝ }
-{
-    let less = word_at(archive, 0) - 1;
-    let row = 2 + 4 * file;
-    let next = row + 4;
-    let at = place_of(archive, file);
-    let size = word_at(archive, row) + word_at(archive, row + 2);
-    let rest = at + size;
-    out[0] = (less % 256) as u8;
-    out[1] = (less / 256) as u8;
-    scan::copy_in(&archive[2..row], out, 2);
-    // the lengths of the later files, and then the earlier files themselves
-    scan::copy_in(&archive[next..at], out, row);
-    scan::copy_in(&archive[rest..], out, at - 4);
-    archive.len() - 4 - size
 }

@@ -11,7 +11,7 @@ use Rattle.definition.specs.Reading.{Answer, accepted, refused, outcome, readin
 use Rattle.definition.specs.Lookup.{Reply, given, noValue, refused as refusedReply, Place, getBytes}
 use Rattle.definition.specs.Value.{toBool, isUtf8}
 use Rattle.definition.specs.Evaluation.{definition, noFiles, file}
-use Rattle.definition.specs.Numbers.{copies, contents, bodies, name, include, look}
+use Rattle.bounds.specs.Lookups.{copies, contents, bodies, name, include, look}
 
 numberOf : Answer → ℕ
 numberOf (accepted n o) = 0

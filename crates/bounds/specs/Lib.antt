@@ -1,2 +1,3 @@
 -- Examples of the definition at document 01's limits.
+mod Lookups
 mod Bounds

@@ -10,7 +10,7 @@ use lib.Seq.{paste, take-at, take-length}
 use borrow.Author.Tests.{lt-ltb, le-ltb}
 use Rattle.definition.specs.Lists.{if_then_else_}
 use Rattle.definition.specs.Limits.{contentsWords, bodyBytes}
-use Rattle.definition.specs.Archive.{laidOut, filesOf, struckOff, numberAt}
+use Rattle.definition.specs.Archive.{laidOut, filesOf, struckOff}
 use Rattle.definition.specs.Image.{tooShort}
 use Rattle.definition.specs.Reading.{Answer, accepted, refused, Outcome, outcome, reading}
 use Rattle.definition.specs.Lookup.{Reply, given, noValue, refused as refusedLookup, Place, getBytes}
@@ -18,95 +18,129 @@ use Rattle.definition.specs.ThirdTerm.{Case, withFile, withoutFile, lookup, isA
 use Rattle.laws.proofs.Lists.{not-both}
 use Rattle.laws.proofs.Reading.{accepted-reads}
 use Rattle.laws.proofs.ThirdTerm.{third-term}
-use Rattle.archive.proofs.Walk.{length-files}
-use Rattle.archive_find.proofs.Striking.{rows-room}
 use Rattle.lookup.specs.declared.Lookup.{Lookup}
 use Rattle.lookup.specs.Replies.{replied}
+use Rattle.reader.specs.Said.{said}
+use Rattle.reader.specs.declared.Answer as reader
 use Rattle.compare.specs.declared.Compared.{Compared}
-use Rattle.compare.specs.Comparing.{Comparison, both, noFile, refusedBy, Left, answering, noRoom, onlyFirst, bothRead, afterFirst, comparing, Term, Promise, compared, leaving, SecondOf}
+use Rattle.compare.specs.Comparing.{Comparison, both, noFile, refusedBy, Left, answering, noRoom, onlyFirst, bothRead, afterFirst, comparing, Promise, compared, leaving, SecondOf}
+
+-- a reading's answer, once it is told
+pub read-is : (r s : reader.Answer) (c b : List ℕ) (o : Outcome) → outcome (said r) c b ≡ o → r ≡ s → outcome (said s) c b ≡ o
+read-is r s c b o e f = rw f at e
 
 -- an archive that was read with is laid out
 pub read-laidOut : (text archive contents bodies c b : List ℕ) (n o : ℕ) → outcome (accepted n o) c b ≡ reading text archive contents bodies → laidOut archive ≡ true
 read-laidOut text archive contents bodies c b n o e = accepted-reads text archive contents bodies (rw (← e) refl) .isLaidOut
 
 -- its front, as what was copied there
-pub front-copied : (d s : List ℕ) → length s ≤ length d → take (length s) (paste d 0 s (length s)) ≡ s
+front-copied : (d s : List ℕ) → length s ≤ length d → take (length s) (paste d 0 s (length s)) ≡ s
 front-copied d s h = rw (take-length s) (take-at s (drop (0 + length s) d) (length s) refl)
+
+-- a reading with what was struck off
+pub second-read : (r : reader.Answer) (text archive : List ℕ) (file n : ℕ) (struck contents bodies struck′ contents′ bodies′ : List ℕ)
+    → length (struckOff file archive) ≤ length struck → n ≡ length (struckOff file archive) → struck′ ≡ paste struck 0 (struckOff file archive) n
+    → outcome (said r) contents′ bodies′ ≡ reading text (take n struck′) contents bodies → SecondOf r text archive file struck contents bodies struck′ contents′ bodies′
+second-read r text archive file n struck contents bodies struck′ contents′ bodies′ h e copied read =
+    let left = rw e at copied in
+    record { struckOff-left = left; read = rw (e, left, front-copied struck (struckOff file archive) h) at read }
 
 module _ (c : Case) (struck : List ℕ) where
   pub short-struck : length struck < length (c .archive) → noRoom c struck ≡ comparing c struck
   unfolding comparing
   short-struck h = rw (lt-ltb (length struck) (length (c .archive)) h) refl
 
-  module _ (room : length (c .archive) ≤ length struck) where
-    pub short-contents : length (c .contents′) < contentsWords → noRoom c struck ≡ comparing c struck
+  pub short-contents : length (c .archive) ≤ length struck → length (c .contents′) < contentsWords → noRoom c struck ≡ comparing c struck
+  unfolding comparing
+  short-contents room h = rw (le-ltb (length struck) (length (c .archive)) room, lt-ltb (length (c .contents′)) contentsWords h) refl
+
+  pub short-bodies : length (c .archive) ≤ length struck → contentsWords ≤ length (c .contents′) → length (c .bodies′) < bodyBytes → noRoom c struck ≡ comparing c struck
+  unfolding comparing
+  short-bodies room long h =
+      rw (le-ltb (length struck) (length (c .archive)) room, le-ltb (length (c .contents′)) contentsWords long, lt-ltb (length (c .bodies′)) bodyBytes h) refl
+
+  -- there is room for the archive and for the second reading
+  pub record Room : Type 0 where
+    pub archive : length (c .archive) ≤ length struck
+    pub contents : contentsWords ≤ length (c .contents′)
+    pub bodies : bodyBytes ≤ length (c .bodies′)
+
+  module _ (room : Room) where
+    first-done : afterFirst c struck (withFile c .answer) ≡ comparing c struck
     unfolding comparing
-    short-contents h = rw (le-ltb (length struck) (length (c .archive)) room, lt-ltb (length (c .contents′)) contentsWords h) refl
+    first-done =
+        rw (le-ltb (length struck) (length (c .archive)) (room .archive), le-ltb (length (c .contents′)) contentsWords (room .contents), le-ltb (length (c .bodies′)) bodyBytes (room .bodies)) refl
 
-    module _ (long : contentsWords ≤ length (c .contents′)) where
-      pub short-bodies : length (c .bodies′) < bodyBytes → noRoom c struck ≡ comparing c struck
-      unfolding comparing
-      short-bodies h =
-          rw (le-ltb (length struck) (length (c .archive)) room, le-ltb (length (c .contents′)) contentsWords long, lt-ltb (length (c .bodies′)) bodyBytes h) refl
-
-      module _ (long′ : bodyBytes ≤ length (c .bodies′)) where
-        first-done : afterFirst c struck (withFile c .answer) ≡ comparing c struck
-        unfolding comparing
-        first-done =
-            rw (le-ltb (length struck) (length (c .archive)) room, le-ltb (length (c .contents′)) contentsWords long, le-ltb (length (c .bodies′)) bodyBytes long′) refl
-
-        pub first-refused : (k : ℕ) (c₁ b₁ : List ℕ) → outcome (refused k) c₁ b₁ ≡ withFile c
-            → record { answer = refusedBy k; struck = struck; contents = c₁; bodies = b₁; contents′ = c .contents′; bodies′ = c .bodies′ } ≡ comparing c struck
-        unfolding afterFirst
-        first-refused k c₁ b₁ e =
-            rw (ap (λ (x : Outcome). x .contents) e, ap (λ (x : Outcome). x .bodies) e, ← first-done, ← ap (λ (x : Outcome). x .answer) e) refl
-
-        module _ (n o : ℕ) (c₁ b₁ : List ℕ) (e : outcome (accepted n o) c₁ b₁ ≡ withFile c) where
-          pub no-file : length (filesOf (c .archive)) ≤ c .file
-              → record { answer = noFile; struck = struck; contents = c₁; bodies = b₁; contents′ = c .contents′; bodies′ = c .bodies′ } ≡ comparing c struck
-          unfolding afterFirst
-          no-file h =
-              rw (ap (λ (x : Outcome). x .contents) e, ap (λ (x : Outcome). x .bodies) e, ← first-done, ← ap (λ (x : Outcome). x .answer) e, le-ltb (c .file) (length (filesOf (c .archive))) h) refl
-
-          pub both-left : c .file < length (filesOf (c .archive))
-              → (r : Compared) (with-it without : Lookup) (s₂ c₂ b₂ : List ℕ)
-              → SecondOf (c .text) (c .archive) (c .file) struck (c .contents′) (c .bodies′) s₂ c₂ b₂
-              → replied with-it ≡ getBytes c₁ b₁ (c .name) (c .class) → replied without ≡ getBytes c₂ b₂ (c .name) (c .class)
-              → compared r ≡ answering (replied with-it) (replied without)
-              → leaving r s₂ c₁ b₁ c₂ b₂ ≡ comparing c struck
-          unfolding afterFirst
-          both-left h r with-it without s₂ c₂ b₂ second a b d =
-              rw (d, a, b, ap (λ (x : Outcome). x .contents) e, ap (λ (x : Outcome). x .bodies) e, second .struckOff-left, second .contents-left, second .bodies-left, ← first-done, ← ap (λ (x : Outcome). x .answer) e, lt-ltb (c .file) (length (filesOf (c .archive))) h) refl
-
-  -- ---- Both answers are the lookups'
-
-  module _ (a b : Reply Place) where
-    abbrev Lookups : Type 0
-    Lookups = (a ≡ lookup c (withFile c)) × (b ≡ lookup c (withoutFile c))
-
-    answering-both : (x y : Reply Place) → answering x y ≡ both a b → (a ≡ x) × (b ≡ y)
-    unfolding answering
-    answering-both (given p) y e = (cc, cc)
-    answering-both noValue y e = (cc, cc)
-    answering-both (refusedLookup k) y e = absurd (let z : _≡_ {A = ℕ} 0 1 = cc in omega arith)
-
-    after-both : (r : Answer) → afterFirst c struck r .answer ≡ both a b → Lookups
+    pub first-refused : (k : ℕ) (c₁ b₁ : List ℕ) → outcome (refused k) c₁ b₁ ≡ withFile c
+        → record { answer = refusedBy k; struck = struck; contents = c₁; bodies = b₁; contents′ = c .contents′; bodies′ = c .bodies′ } ≡ comparing c struck
     unfolding afterFirst
-    after-both (refused k) e = absurd (let z : _≡_ {A = ℕ} 0 1 = cc in omega arith)
-    after-both (accepted n o) e = at (ltb (c .file) (length (filesOf (c .archive)))) e
-      where
-        at : (t : Bool) → (if t then bothRead c struck else onlyFirst c struck noFile) .answer ≡ both a b → Lookups
-        at true e = answering-both (lookup c (withFile c)) (lookup c (withoutFile c)) e
-        at false e = absurd (let z : _≡_ {A = ℕ} 0 1 = cc in omega arith)
+    first-refused k c₁ b₁ e =
+        rw (ap (λ (x : Outcome). x .contents) e, ap (λ (x : Outcome). x .bodies) e, ← first-done, ← ap (λ (x : Outcome). x .answer) e) refl
 
-    pub both-lookups : comparing c struck .answer ≡ both a b → Lookups
-    unfolding comparing
-    both-lookups = at (ltb (length struck) (length (c .archive))) (tooShort (c .contents′) (c .bodies′))
+    module _ (n o : ℕ) (c₁ b₁ : List ℕ) (e : outcome (accepted n o) c₁ b₁ ≡ withFile c) where
+      pub no-file : length (filesOf (c .archive)) ≤ c .file
+          → record { answer = noFile; struck = struck; contents = c₁; bodies = b₁; contents′ = c .contents′; bodies′ = c .bodies′ } ≡ comparing c struck
+      unfolding afterFirst
+      no-file h =
+          rw (ap (λ (x : Outcome). x .contents) e, ap (λ (x : Outcome). x .bodies) e, ← first-done, ← ap (λ (x : Outcome). x .answer) e, le-ltb (c .file) (length (filesOf (c .archive))) h) refl
+
+      pub both-left : c .file < length (filesOf (c .archive))
+          → (r : Compared) (with-it without : Lookup) (second : reader.Answer) (s₂ c₂ b₂ : List ℕ)
+          → SecondOf second (c .text) (c .archive) (c .file) struck (c .contents′) (c .bodies′) s₂ c₂ b₂
+          → replied with-it ≡ getBytes c₁ b₁ (c .name) (c .class) → replied without ≡ getBytes c₂ b₂ (c .name) (c .class)
+          → compared r ≡ answering (replied with-it) (replied without) (said second)
+          → leaving r s₂ c₁ b₁ c₂ b₂ ≡ comparing c struck
+      unfolding afterFirst
+      both-left h r with-it without second s₂ c₂ b₂ made a b d =
+          rw (d, a, b, ap (λ (x : Outcome). x .contents) e, ap (λ (x : Outcome). x .bodies) e, made .struckOff-left, ap (λ (x : Outcome). x .answer) (made .read), ap (λ (x : Outcome). x .contents) (made .read), ap (λ (x : Outcome). x .bodies) (made .read), ← first-done, ← ap (λ (x : Outcome). x .answer) e, lt-ltb (c .file) (length (filesOf (c .archive))) h) refl
+
+  -- ---- A call that answers both has made both readings and both lookups
+
+  module _ (after : Left) (a b : Reply Place) (second : Answer) (e : after .answer ≡ both a b second) where
+    pub record Made : Type 0 where
+      pub made : after ≡ bothRead c struck
+      pub first-looked : a ≡ lookup c (withFile c)
+      pub second-looked : b ≡ lookup c (withoutFile c)
+      pub second-read : second ≡ withoutFile c .answer
+
+    answering-both : (x y : Reply Place) (z : Answer) → both a b second ≡ answering x y z → (a ≡ x) × (b ≡ y) × (second ≡ z)
+    unfolding answering
+    answering-both (given p) y z e = (cc, cc, cc)
+    answering-both noValue y z e = (cc, cc, cc)
+    answering-both (refusedLookup k) y z e = absurd (let z : _≡_ {A = ℕ} 0 1 = cc in omega arith)
+
+    -- a call that leaves `other` answers something else
+    other : (l : Left) (d : Comparison) → after ≡ l → l .answer ≡ d → (both a b second ≡ d → ⊥) → Made
+    other l d f g differs = absurd (differs (sym e ∙ ap (λ (x : Left). x .answer) f ∙ g))
+
+    not-refused : (k : ℕ) → both a b second ≡ refusedBy k → ⊥
+    not-refused k f = let z : _≡_ {A = ℕ} 0 1 = cc in omega arith
+
+    not-none : both a b second ≡ noFile → ⊥
+    not-none f = let z : _≡_ {A = ℕ} 0 1 = cc in omega arith
+
+    both-made : after ≡ bothRead c struck → Made
+    both-made f =
+        let d = answering-both _ _ _ (sym e ∙ ap (λ (l : Left). l .answer) f) in
+        record { made = f; first-looked = d .0; second-looked = d .1; second-read = d .2 }
+
+    after-both : (r : Answer) → after ≡ afterFirst c struck r → Made
+    unfolding afterFirst
+    after-both (refused k) f = other _ _ f refl (not-refused k)
+    after-both (accepted n o) f = at (ltb (c .file) (length (filesOf (c .archive)))) f
       where
-        at : (t u : Bool) → (if t then noRoom c struck else if u then noRoom c struck else afterFirst c struck (withFile c .answer)) .answer ≡ both a b → Lookups
-        at true u e = absurd (let z : _≡_ {A = ℕ} 0 1 = cc in omega arith)
-        at false true e = absurd (let z : _≡_ {A = ℕ} 0 1 = cc in omega arith)
-        at false false e = after-both (withFile c .answer) e
+        at : (t : Bool) → after ≡ (if t then bothRead c struck else onlyFirst c struck noFile) → Made
+        at true f = both-made f
+        at false f = other _ _ f refl not-none
+
+    pub answered-both : after ≡ comparing c struck → Made
+    unfolding comparing
+    answered-both = at (ltb (length struck) (length (c .archive))) (tooShort (c .contents′) (c .bodies′))
+      where
+        at : (t u : Bool) → after ≡ (if t then noRoom c struck else if u then noRoom c struck else afterFirst c struck (withFile c .answer)) → Made
+        at true u f = other _ _ f refl (not-refused 1)
+        at false true f = other _ _ f refl (not-refused 1)
+        at false false f = after-both (withFile c .answer) f
 
   -- ---- The third term
 
@@ -115,11 +149,11 @@ module _ (c : Case) (struck : List ℕ) where
   accepted-both (accepted n o) e h = rw (lt-ltb (c .file) (length (filesOf (c .archive))) h) refl
   accepted-both (refused k) e h = absurd (not-both e refl)
 
-  answers-both : (a b : Reply Place) → ((k : ℕ) → a ≡ refusedLookup k → ⊥) → answering a b ≡ both a b
+  answers-both : (a b : Reply Place) (second : Answer) → ((k : ℕ) → a ≡ refusedLookup k → ⊥) → answering a b second ≡ both a b second
   unfolding answering
-  answers-both (given p) b h = refl
-  answers-both noValue b h = refl
-  answers-both (refusedLookup k) b h = absurd (h k refl)
+  answers-both (given p) b second h = refl
+  answers-both noValue b second h = refl
+  answers-both (refusedLookup k) b second h = absurd (h k refl)
 
   given-both : Given c → length (c .archive) ≤ length struck → comparing c struck ≡ bothRead c struck
   unfolding comparing
@@ -134,7 +168,7 @@ module _ (c : Case) (struck : List ℕ) where
         let t = third-term c g in
         record {
           made = m;
-          answers = ap (λ (l : Left). l .answer) m ∙ answers-both (lookup c (withFile c)) (lookup c (withoutFile c)) (t .firstAnswers);
+          answers = ap (λ (l : Left). l .answer) m ∙ answers-both _ _ _ (t .firstAnswers);
           term = t;
         };
   }

@@ -8,16 +8,18 @@ use lib.Seq.{paste}
 use Rattle.definition.specs.Lists.{if_then_else_}
 use Rattle.definition.specs.Archive.{filesOf, struckOff}
 use Rattle.definition.specs.Image.{tooShort}
-use Rattle.definition.specs.Reading.{Answer, accepted, refused, Outcome, reading}
+use Rattle.definition.specs.Reading.{Answer, accepted, refused, Outcome, outcome, reading}
 use Rattle.definition.specs.Lookup.{Reply, given, noValue, refused as refusedLookup, Place}
 use Rattle.definition.specs.ThirdTerm.{Case, withFile, withoutFile, lookup, Given, ThirdTerm}
 use Rattle.lookup.specs.Replies.{replied}
+use Rattle.reader.specs.Said.{said}
+use Rattle.reader.specs.declared.Answer as reader
 use Rattle.compare.specs.declared.Compared.{Compared}
 use Rattle.compare.specs.declared.Compared.the-variants.{Both, NoFile, Refused}
 
--- both answers, or no such file, or a number of document 01's table
+-- both lookups' answers and the second reading's, or no such file, or a number of document 01's table
 pub data Comparison : Type 0 where
-  both : Reply Place → Reply Place → Comparison
+  both : Reply Place → Reply Place → Answer → Comparison
   noFile : Comparison
   refusedBy : ℕ → Comparison
 
@@ -31,10 +33,10 @@ pub record Left : Type 0 where
   pub bodies′ : List ℕ
 
 -- 9 and 10 refuse the call; both lookups are of one query and meet them alike
-unfoldable pub answering : Reply Place → Reply Place → Comparison
-answering (given p) b = both (given p) b
-answering noValue b = both noValue b
-answering (refusedLookup k) b = refusedBy k
+unfoldable pub answering : Reply Place → Reply Place → Answer → Comparison
+answering (given p) b second = both (given p) b second
+answering noValue b second = both noValue b second
+answering (refusedLookup k) b second = refusedBy k
 
 module _ (c : Case) (struck : List ℕ) where
   -- 1 for less room than the archive takes, or for short buffers of the second reading; nothing has changed
@@ -47,7 +49,7 @@ module _ (c : Case) (struck : List ℕ) where
 
   abbrev pub bothRead : Left
   bothRead = record {
-    answer = answering (lookup c (withFile c)) (lookup c (withoutFile c));
+    answer = answering (lookup c (withFile c)) (lookup c (withoutFile c)) (withoutFile c .answer);
     struck = paste struck 0 (struckOff (c .file) (c .archive)) (length (struckOff (c .file) (c .archive)));
     contents = withFile c .contents;
     bodies = withFile c .bodies;
@@ -65,11 +67,11 @@ module _ (c : Case) (struck : List ℕ) where
       if tooShort (c .contents′) (c .bodies′) then noRoom else
       afterFirst (withFile c .answer)
 
-  -- the third term, of a call that leaves these: both readings and both lookups are made, the answer is both lookups', and they
-  -- are as the term says
+  -- the third term, of a call that leaves these: both readings and both lookups are made, the answer is both lookups' and the
+  -- second reading's, and they are as the term says
   pub record Term (after : Left) : Type 0 where
     pub made : after ≡ bothRead
-    pub answers : after .answer ≡ both (lookup c (withFile c)) (lookup c (withoutFile c))
+    pub answers : after .answer ≡ both (lookup c (withFile c)) (lookup c (withoutFile c)) (withoutFile c .answer)
     pub term : ThirdTerm c
 
   -- what the call promises: its answer and every buffer, of any arguments, refusals included; and the term, with nothing given
@@ -79,18 +81,17 @@ module _ (c : Case) (struck : List ℕ) where
     pub third-term : Given c → length (c .archive) ≤ length struck → Term after
 
 abbrev pub compared : Compared → Comparison
-compared (Both a b) = both (replied a) (replied b)
+compared (Both a b second) = both (replied a) (replied b) (said second)
 compared NoFile = noFile
 compared (Refused k) = refusedBy k
 
 abbrev pub leaving : Compared → List ℕ → List ℕ → List ℕ → List ℕ → List ℕ → Left
 leaving r s c b c′ b′ = record { answer = compared r; struck = s; contents = c; bodies = b; contents′ = c′; bodies′ = b′ }
 
--- what striking off and the second reading leave
-pub record SecondOf (text archive : List ℕ) (file : ℕ) (struck contents bodies struck′ contents′ bodies′ : List ℕ) : Type 0 where
+-- what striking off and the second reading answer and leave
+pub record SecondOf (r : reader.Answer) (text archive : List ℕ) (file : ℕ) (struck contents bodies struck′ contents′ bodies′ : List ℕ) : Type 0 where
   pub struckOff-left : struck′ ≡ paste struck 0 (struckOff file archive) (length (struckOff file archive))
-  pub contents-left : contents′ ≡ reading text (struckOff file archive) contents bodies .contents
-  pub bodies-left : bodies′ ≡ reading text (struckOff file archive) contents bodies .bodies
+  pub read : outcome (said r) contents′ bodies′ ≡ reading text (struckOff file archive) contents bodies
 
 abbrev pub asked : List ℕ → List ℕ → ℕ → List ℕ → List ℕ → List ℕ → List ℕ → List ℕ → List ℕ → Case
 asked text archive file name class contents bodies contents′ bodies′ = record {

@@ -6,18 +6,19 @@ ghost use lib.ListN.{length};
 ghost use Rattle.definition.specs.Archive.{laidOut, filesOf};
 ghost use Rattle.compare.specs.Comparing.{asked, leaving, Promise, SecondOf, compared, answering};
 ghost use Rattle.lookup.specs.Replies.{replied};
-use archive::word_at;
-use archive_find::strike_off;
-use image::BODY_BYTES;
-use image::CONTENTS_WORDS;
+ghost use Rattle.reader.specs.Said.{said};
+use archive::file_count;
+use archive_edit::strike_off;
+use limits::BODY_BYTES;
+use limits::CONTENTS_WORDS;
 use lookup::Lookup;
 use lookup::get_bytes;
 use reader::Answer;
 use reader::read;
 
-// The answers of both lookups, that the archive has no such file, or the number that refuses the call.
+// The answers of both lookups and of the second reading, that the archive has no such file, or the number that refuses the call.
 pub enum Compared {
-    Both(Lookup, Lookup),
+    Both(Lookup, Lookup, Answer),
     NoFile,
     Refused(u8),
 }
@@ -30,22 +31,22 @@ fn read_without(
     struck: &mut [u8],
     contents: &mut [u16],
     bodies: &mut [u8],
-)
+) -> Answer
     requires { ⌜ (laidOut (now archive) ≡ true) × (file < length (filesOf (now archive))) × (length (now archive) ≤ length (now struck)) ⌝ }
-    ensures { λ r. ⌜ SecondOf (now (text .entry)) (now (archive .entry)) file (now (struck .entry)) (now (contents .entry)) (now (bodies .entry)) (now (struck .exit)) (now (contents .exit)) (now (bodies .exit)) ⌝ }
+    ensures { λ r. ⌜ SecondOf r (now (text .entry)) (now (archive .entry)) file (now (struck .entry)) (now (contents .entry)) (now (bodies .entry)) (now (struck .exit)) (now (contents .exit)) (now (bodies .exit)) ⌝ }
 {
     let n = strike_off(archive, file, struck);
     let without = &struck[..n];
-    read(text, without, contents, bodies);
+    read(text, without, contents, bodies)
 }
 
 // Both answers; a number that refuses the first lookup refuses the second too.
-fn answering(with_it: Lookup, without: Lookup) -> Compared
-    ensures { λ r. ⌜ compared r ≡ answering (replied «with_it») (replied without) ⌝ }
+fn answering(with_it: Lookup, without: Lookup, second: Answer) -> Compared
+    ensures { λ r. ⌜ compared r ≡ answering (replied «with_it») (replied without) (said second) ⌝ }
 {
     match with_it {
-        Lookup::Found(place, size) => Compared::Both(Lookup::Found(place, size), without),
-        Lookup::Nothing => Compared::Both(Lookup::Nothing, without),
+        Lookup::Found(_, _) => Compared::Both(with_it, without, second),
+        Lookup::Nothing => Compared::Both(with_it, without, second),
         Lookup::Refused(number) => Compared::Refused(number),
     }
 }
@@ -79,10 +80,10 @@ pub fn compare_without(
     match first {
         Answer::Refused(number) => Compared::Refused(number),
         Answer::Accepted(_, _) => {
-            if file >= word_at(archive, 0) {
+            if file >= file_count(archive) {
                 return Compared::NoFile;
             }
-            read_without(
+            let second = read_without(
                 text,
                 archive,
                 file,
@@ -92,7 +93,7 @@ pub fn compare_without(
             );
             let with_it = get_bytes(contents, bodies, name, class);
             let without = get_bytes(contents_without, bodies_without, name, class);
-            answering(with_it, without)
+            answering(with_it, without, second)
         }
     }
 }

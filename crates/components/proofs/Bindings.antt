@@ -11,7 +11,7 @@ use lib.Seq.{drop-cons}
 use borrow.Author.Tests.{ne-eqb}
 use Rattle.definition.specs.Lists.{any, takeWhile}
 use Rattle.definition.specs.Bytes.{dot, star, isBinding}
-use Rattle.laws.proofs.Lists.{run-more, run-stop, run-end}
+use Rattle.scan.proofs.Runs.{Passed, passed-none, passed-more, passed-stop, passed-end}
 use Rattle.components.specs.Parts.{Bound}
 
 abbrev isLoose : List ℕ → Bool
@@ -19,12 +19,11 @@ isLoose t = any (eqb star) (takeWhile isBinding t)
 
 -- i bytes of the run are passed, and l says whether one is a `*`
 pub record Binding-at (t : List ℕ) (l : Bool) (i : ℕ) : Type 0 where
-  pub most : i ≤ length t
-  pub len : length (takeWhile isBinding t) ≡ i + length (takeWhile isBinding (drop i t))
+  pub run : Passed isBinding t i
   pub loose : isLoose t ≡ (l || isLoose (drop i t))
 
 pub binding-first : (t : List ℕ) → Binding-at t false 0
-binding-first t = record { most = omega arith; len = omega arith; loose = refl }
+binding-first t = record { run = passed-none isBinding t; loose = refl }
 
 dot-binds : (c : ℕ) → c ≡ dot → isBinding c ≡ true
 unfolding isBinding
@@ -38,28 +37,28 @@ none-binds : (c : ℕ) → (c ≡ dot → ⊥) → (c ≡ star → ⊥) → isBi
 unfolding isBinding
 none-binds c p q = rw (ne-eqb c dot p, ne-eqb c star q) refl
 
--- where no binding stands the run is over
-run-over : (t : List ℕ) → length (takeWhile isBinding t) ≡ 0 → isLoose t ≡ false
+-- where the run is over no `*` is left
+run-over : (t : List ℕ) (i : ℕ) → length (takeWhile isBinding (drop i t)) ≡ 0 → isLoose (drop i t) ≡ false
 unfolding any
-run-over t e = at (takeWhile isBinding t) e
+run-over t i e = at (takeWhile isBinding (drop i t)) e
   where
     at : (u : List ℕ) → length u ≡ 0 → any (eqb star) u ≡ false
     at [] h = refl
     at (x ∷ u) h = absurd (omega arith)
 
 module _ {t : List ℕ} {l : Bool} {i : ℕ} (b : Binding-at t l i) where
-  over : length (takeWhile isBinding (drop i t)) ≡ 0 → Bound t (record { loose = l; len = i })
+  over : i ≡ length (takeWhile isBinding t) → Bound t (record { loose = l; len = i })
   over e = record {
-    loose = sym (b .loose ∙ ap (λ (x : Bool). l || x) (run-over (drop i t) e) ∙ or-false l);
-    len = omega (arith, b .len);
+    loose = sym (b .loose ∙ ap (λ (x : Bool). l || x) (run-over t i (omega (arith, b .run .same))) ∙ or-false l);
+    len = e;
   }
 
   pub binding-end : length t ≤ i → Bound t (record { loose = l; len = i })
-  binding-end h = over (run-end isBinding t i h)
+  binding-end h = over (passed-end isBinding t (b .run) h)
 
   module _ (h : i < length t) where
     pub binding-stop : (getD t i 0 ≡ dot → ⊥) → (getD t i 0 ≡ star → ⊥) → Bound t (record { loose = l; len = i })
-    binding-stop p q = over (run-stop isBinding t i 0 h (none-binds _ p q))
+    binding-stop p q = over (passed-stop isBinding t (b .run) h (none-binds _ p q))
 
     pub binding-dot : getD t i 0 ≡ dot → Binding-at t l (i + 1)
     unfolding takeWhile any
@@ -67,8 +66,7 @@ module _ {t : List ℕ} {l : Bool} {i : ℕ} (b : Binding-at t l i) where
         let k = dot-binds (getD t i 0) e in
         let same : isLoose (drop i t) ≡ isLoose (drop (i + 1) t) = rw (add-one, drop-cons t i 0 h, k, e) refl in
         record {
-          most = omega arith;
-          len = omega (arith, b .len, run-more isBinding t i 0 h k);
+          run = passed-more isBinding t (b .run) h k;
           loose = b .loose ∙ ap (λ (x : Bool). l || x) same;
         }
 
@@ -78,7 +76,6 @@ module _ {t : List ℕ} {l : Bool} {i : ℕ} (b : Binding-at t l i) where
         let k = star-binds (getD t i 0) e in
         let true-here : isLoose (drop i t) ≡ true = rw (drop-cons t i 0 h, k, e) refl in
         record {
-          most = omega arith;
-          len = omega (arith, b .len, run-more isBinding t i 0 h k);
+          run = passed-more isBinding t (b .run) h k;
           loose = b .loose ∙ ap (λ (x : Bool). l || x) true-here ∙ or-true l;
         }

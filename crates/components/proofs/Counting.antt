@@ -8,7 +8,7 @@ use lib.ListN.{length, length-append}
 use Rattle.definition.specs.Parsing.{Parsed, many}
 use Rattle.definition.specs.Text.{Part, partAt, isNamed, endsInName}
 use Rattle.laws.proofs.Lists.{Suffix, suffix-whole, suffix-part, length-part-rest}
-use Rattle.components.specs.Parts.{partsFirst, keyFirst, componentOf, partOf, bytesOf, Parted, Counted}
+use Rattle.components.specs.Parts.{partsOf, keyFirst, componentOf, partOf, bytesOf, Parted, componentsAt}
 use Rattle.components.specs.declared.Next.{Next}
 use Rattle.components.proofs.Turns.{past, parts-over, key-over, parts-turn, key-turn, bytes-length}
 
@@ -34,9 +34,9 @@ is-named false w = refl
 
 -- u is left of t, and what is before u has been counted
 pub record Counting (t u : List ℕ) (count size : ℕ) (named : Bool) : Type 0 where
-  pub count-is : length (partsFirst t) ≡ count + length (partsFirst u)
+  pub count-is : length (partsOf t) ≡ count + length (partsOf u)
   pub size-is : length (keyFirst t) ≡ size + length (keyFirst u)
-  pub named-is : endsInName (partsFirst t) ≡ endsAfter named (partsFirst u)
+  pub named-is : endsInName (partsOf t) ≡ endsAfter named (partsOf u)
   pub rest-is : many partAt t .rest ≡ many partAt u .rest
   pub left : Suffix u t
   -- each part takes a byte or more, and its key is at most twice as long
@@ -47,7 +47,7 @@ pub counting-first : (t : List ℕ) → Counting t t 0 0 false
 counting-first t = record {
   count-is = omega arith;
   size-is = omega arith;
-  named-is = ends-first (partsFirst t);
+  named-is = ends-first (partsOf t);
   rest-is = refl;
   left = suffix-whole t;
   count-most = omega arith;
@@ -66,22 +66,20 @@ module _ {t u : List ℕ} {count size : ℕ} {named : Bool} (c : Counting t u co
         named-is =
             c .named-is
             ∙ ap (λ (m : Parsed Part). endsAfter named (m .items)) turn
-            ∙ ends-cons (partOf u r) (partsFirst (past u r))
-            ∙ ap (λ (b : Bool). endsAfter b (partsFirst (past u r))) (is-named (r .named) (bytesOf u r));
+            ∙ ends-cons (partOf u r) (partsOf (past u r))
+            ∙ ap (λ (b : Bool). endsAfter b (partsOf (past u r))) (is-named (r .named) (bytesOf u r));
         rest-is = c .rest-is ∙ ap (λ (m : Parsed Part). m .rest) turn;
         left = suffix-part (c .left) (r .end) (p .inside);
         count-most = omega (arith, c .count-most, left, p .inside);
         size-most = omega (arith, c .size-most, left, p .inside);
       }
 
-  pub counting-done : r .end ≤ r .start → Counted t (record { count = count; size = size; named = named; end = length t - length u })
-  unfolding endsAfter
+  pub counting-done : r .end ≤ r .start → (record { count = count; size = size; named = named; end = length t - length u }) ≡ componentsAt t
+  unfolding endsAfter componentsAt
   counting-done h =
       let over = parts-over p h in
-      record {
-        count = omega (arith, c .count-is, ap (λ (m : Parsed Part). length (m .items)) over);
-        size = omega (arith, c .size-is, ap length (key-over p h));
-        named = sym (c .named-is ∙ ap (λ (m : Parsed Part). endsAfter named (m .items)) over);
-        rest = c .left .same ∙ sym (c .rest-is ∙ ap (λ (m : Parsed Part). m .rest) over);
-        inside = omega arith;
-      }
+      let a : length (partsOf t) ≡ count = omega (arith, c .count-is, ap (λ (m : Parsed Part). length (m .items)) over) in
+      let b : length (keyFirst t) ≡ size = omega (arith, c .size-is, ap length (key-over p h)) in
+      let d : endsInName (partsOf t) ≡ named = c .named-is ∙ ap (λ (m : Parsed Part). endsAfter named (m .items)) over in
+      let e : many partAt t .rest ≡ u = c .rest-is ∙ ap (λ (m : Parsed Part). m .rest) over in
+      rw (a, b, d, e) refl

@@ -5,3 +5,4 @@ mod Parts
 mod Turns
 mod Counting
 mod Writing
+pub mod Rests

@@ -10,7 +10,7 @@ use Rattle.definition.specs.Text.{bindingOf, componentAt, partAt}
 use Rattle.laws.proofs.Lists.{part-rest, drop-run, length-takeWhile-le}
 use Rattle.components.specs.Parts.{bindingIf, Bound, Begun, partOf, Parted}
 use Rattle.components.specs.declared.Run.{Run}
-use Rattle.components.specs.declared.Found.{Found}
+use Rattle.components.specs.declared.Component.{Component}
 use Rattle.components.specs.declared.Next.{Next}
 
 module _ (t : List ℕ) (r : Run) (b : Bound t r) where
@@ -22,7 +22,7 @@ module _ (t : List ℕ) (r : Run) (b : Bound t r) where
   unfolding partAt bindingOf
   part-split = rw (b .loose, b .len, drop-run isBinding t) refl
 
-  module _ (f : Found) (g : Begun (take (length t - r .len) (drop (r .len) t)) f) where
+  module _ (f : Component) (g : Begun (take (length t - r .len) (drop (r .len) t)) f) where
     abbrev next : Next
     next = record { loose = r .loose; named = f .named; start = r .len; end = r .len + f .len }
 

@@ -11,7 +11,7 @@ use Rattle.definition.specs.Image.{bindingByte, keyOf}
 use Rattle.laws.proofs.Lists.{part-rest}
 use Rattle.laws.proofs.Parsing.{many-stop, many-more}
 use Rattle.laws.proofs.Keys.{part-shrinks}
-use Rattle.components.specs.Parts.{partsFirst, keyFirst, bindingIf, bytesOf, partOf, Parted}
+use Rattle.components.specs.Parts.{partsOf, keyFirst, bindingIf, bytesOf, partOf, Parted}
 use Rattle.components.specs.declared.Next.{Next}
 
 -- what is left after a part
@@ -27,7 +27,7 @@ module _ {t : List ℕ} {r : Next} (p : Parted t r) where
   key-over h = ap (λ (m : Parsed Part). keyOf (m .items)) (parts-over h)
 
   module _ (h : r .start < r .end) where
-    pub parts-turn : many partAt t ≡ parsed (partOf t r ∷ partsFirst (past t r)) (many partAt (past t r) .rest)
+    pub parts-turn : many partAt t ≡ parsed (partOf t r ∷ partsOf (past t r)) (many partAt (past t r) .rest)
     parts-turn =
         many-more partAt part-shrinks t (partOf t r) (past t r)
         (p .some h ∙ ap (Rattle.definition.specs.Parsing.found (partOf t r)) (sym (part-rest t (r .end))))

@@ -12,17 +12,17 @@ use Rattle.components.specs.declared.Next.{Next}
 use Rattle.components.proofs.Turns.{past, key-over, key-turn, bytes-length}
 
 -- all of s, into d from `at` on
-abbrev pub put : List ℕ → ℕ → List ℕ → List ℕ
-put d at s = paste d at s (length s)
+abbrev pub pasted : List ℕ → ℕ → List ℕ → List ℕ
+pasted d at s = paste d at s (length s)
 
 -- a byte, and k bytes after it
-put-part : (d : List ℕ) (at b : ℕ) (xs ys : List ℕ) (k : ℕ) → length xs ≡ k → at + (1 + k + length ys) ≤ length d
-    → put (put (set d at b) (at + 1) xs) (at + (1 + k)) ys ≡ put d at (b ∷ xs ++ ys)
-put-part d at b xs ys k e h = rw (← e) (paste-cons d at b xs ys (omega arith))
+pasted-part : (d : List ℕ) (at b : ℕ) (xs ys : List ℕ) (k : ℕ) → length xs ≡ k → at + (1 + k + length ys) ≤ length d
+    → pasted (pasted (set d at b) (at + 1) xs) (at + (1 + k)) ys ≡ pasted d at (b ∷ xs ++ ys)
+pasted-part d at b xs ys k e h = rw (← e) (paste-cons d at b xs ys (omega arith))
 
 -- u is left of t, and what is before u has been written into what was d₀
 pub record Writing (t d₀ : List ℕ) (at₀ : ℕ) (u d : List ℕ) (at : ℕ) : Type 0 where
-  pub same : put d at (keyFirst u) ≡ put d₀ at₀ (keyFirst t)
+  pub same : pasted d at (keyFirst u) ≡ pasted d₀ at₀ (keyFirst t)
   pub fits : at + length (keyFirst u) ≤ length d
   pub long : length d ≡ length d₀
 
@@ -30,10 +30,10 @@ pub writing-first : (t d : List ℕ) (at : ℕ) → at + length (keyFirst t) ≤
 writing-first t d at h = record { same = refl; fits = h; long = refl }
 
 module _ {t d₀ : List ℕ} {at₀ : ℕ} {u d : List ℕ} {at : ℕ} (w : Writing t d₀ at₀ u d at) {r : Next} (p : Parted u r) where
-  pub writing-done : r .end ≤ r .start → d ≡ put d₀ at₀ (keyFirst t)
+  pub writing-done : r .end ≤ r .start → d ≡ pasted d₀ at₀ (keyFirst t)
   writing-done h =
       paste-zero d at []
-      ∙ ap (put d at) (sym (key-over p h))
+      ∙ ap (pasted d at) (sym (key-over p h))
       ∙ w .same
 
   module _ (h : r .start < r .end) where
@@ -46,7 +46,7 @@ module _ {t d₀ : List ℕ} {at₀ : ℕ} {u d : List ℕ} {at : ℕ} (w : Writ
     pub copy-room : (b : ℕ) → at + 1 + length (bytesOf u r) ≤ length (set d at b)
     copy-room b = omega (arith, part-room, bytes-length p h, length-set d at b)
 
-    pub writing-next : (b : ℕ) → b ≡ bindingByte (bindingIf (r .loose)) → (e : List ℕ) → e ≡ put (set d at b) (at + 1) (bytesOf u r)
+    pub writing-next : (b : ℕ) → b ≡ bindingByte (bindingIf (r .loose)) → (e : List ℕ) → e ≡ pasted (set d at b) (at + 1) (bytesOf u r)
         → Writing t d₀ at₀ (past u r) e (at + (1 + (r .end - r .start)))
     writing-next b f e g =
         let n = bytes-length p h in
@@ -56,9 +56,9 @@ module _ {t d₀ : List ℕ} {at₀ : ℕ} {u d : List ℕ} {at : ℕ} (w : Writ
         ∙ length-set d at b in
         record {
           same =
-              ap (λ (l : List ℕ). put l (at + (1 + (r .end - r .start))) (keyFirst (past u r))) g
-              ∙ put-part d at b (bytesOf u r) (keyFirst (past u r)) (r .end - r .start) n (omega (arith, part-room))
-              ∙ ap (put d at) (ap (λ (x : ℕ). x ∷ bytesOf u r ++ keyFirst (past u r)) f ∙ sym (key-turn p h))
+              ap (λ (l : List ℕ). pasted l (at + (1 + (r .end - r .start))) (keyFirst (past u r))) g
+              ∙ pasted-part d at b (bytesOf u r) (keyFirst (past u r)) (r .end - r .start) n (omega (arith, part-room))
+              ∙ ap (pasted d at) (ap (λ (x : ℕ). x ∷ bytesOf u r ++ keyFirst (past u r)) f ∙ sym (key-turn p h))
               ∙ w .same;
           fits = omega (arith, part-room, long);
           long = long ∙ w .long;

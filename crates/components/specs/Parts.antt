@@ -11,7 +11,7 @@ use Rattle.definition.specs.Bytes.{star, isBinding}
 use Rattle.definition.specs.Text.{Binding, tight, loose, Component, wildcard, name, Part, componentAt, partAt, endsInName}
 use Rattle.definition.specs.Image.{componentBytes, keyOf}
 use Rattle.components.specs.declared.Run.{Run}
-use Rattle.components.specs.declared.Found.{Found}
+use Rattle.components.specs.declared.Component as code
 use Rattle.components.specs.declared.Next.{Next}
 use Rattle.components.specs.declared.Components.{Components}
 
@@ -28,7 +28,7 @@ unfoldable pub componentOf : Bool → List ℕ → Component
 componentOf named w = if named then name w else wildcard
 
 -- the component at the front of t, whatever binds it
-pub record Begun (t : List ℕ) (r : Found) : Type 0 where
+pub record Begun (t : List ℕ) (r : code.Component) : Type 0 where
   pub none : r .len ≤ 0 → (b : Binding) → componentAt b t ≡ nothing
   pub some : 0 < r .len → (b : Binding)
       → componentAt b t ≡ found (record { binding = b; component = componentOf (r .named) (take (r .len) t) }) (drop (r .len) t)
@@ -50,15 +50,17 @@ pub record Parted (t : List ℕ) (r : Next) : Type 0 where
   pub inside : r .end ≤ length t
 
 -- the parts at the front of a text, and the key that writes them
-abbrev pub partsFirst : List ℕ → List Part
-partsFirst t = many partAt t .items
+abbrev pub partsOf : List ℕ → List Part
+partsOf t = many partAt t .items
 
 abbrev pub keyFirst : List ℕ → List ℕ
-keyFirst t = keyOf (partsFirst t)
+keyFirst t = keyOf (partsOf t)
 
-pub record Counted (t : List ℕ) (r : Components) : Type 0 where
-  pub count : r .count ≡ length (partsFirst t)
-  pub size : r .size ≡ length (keyFirst t)
-  pub named : r .named ≡ endsInName (partsFirst t)
-  pub rest : drop (r .end) t ≡ many partAt t .rest
-  pub inside : r .end ≤ length t
+-- what the code answers of them
+unfoldable pub componentsAt : List ℕ → Components
+componentsAt t = record {
+  count = length (partsOf t);
+  size = length (keyFirst t);
+  named = endsInName (partsOf t);
+  end = length t - length (many partAt t .rest);
+}

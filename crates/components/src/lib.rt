@@ -5,7 +5,7 @@ ghost use Prim.Native.Nat.{_+_, _≤_};
 ghost use lib.ListN.{length};
 ghost use lib.Seq.{paste};
 ghost use Rattle.definition.specs.Image.{bindingByte};
-ghost use Rattle.components.specs.Parts.{bindingIf, keyFirst, Bound, Begun, Parted, Counted};
+ghost use Rattle.components.specs.Parts.{bindingIf, keyFirst, componentsAt, Bound, Begun, Parted};
 
 // Bindings, one after another: is one a `*`, and how many are there?
 struct Run {
@@ -14,7 +14,7 @@ struct Run {
 }
 
 // A component: is it a name, and how long is it? Where there is none its length is 0.
-struct Found {
+struct Component {
     named: bool,
     len: usize,
 }
@@ -54,30 +54,30 @@ fn parse_binding(text: &[u8]) -> Run
     Run { loose, len: i }
 }
 
-fn next_component_name(text: &[u8]) -> Found
+fn next_component_name(text: &[u8]) -> Component
     ensures { λ r. ⌜ Begun (now (text .entry)) r ⌝ }
 {
     if text.len() == 0 {
-        return Found {
+        return Component {
             named: false,
             len: 0,
         };
     }
     let c = text[0];
     if c == b'?' {
-        return Found {
+        return Component {
             named: false,
             len: 1,
         };
     }
     if !scan::allowed_in_quark_name(c) {
-        return Found {
+        return Component {
             named: false,
             len: 0,
         };
     }
     let more = scan::next_component(&text[1..]);
-    Found {
+    Component {
         named: true,
         len: 1 + more,
     }
@@ -98,7 +98,7 @@ fn next_part(text: &[u8]) -> Next
 }
 
 pub fn parse_components(text: &[u8]) -> Components
-    ensures { λ r. ⌜ Counted (now (text .entry)) r ⌝ }
+    ensures { λ r. ⌜ r ≡ componentsAt (now (text .entry)) ⌝ }
 {
     let mut rest = text;
     let mut count: usize = 0;

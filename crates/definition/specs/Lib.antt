@@ -19,5 +19,5 @@ pub mod Evaluation
 mod Examples
 mod NameBytes
 mod Manual
-pub mod Numbers
+mod Numbers
 mod Recorded

@@ -62,3 +62,9 @@ pub record Beats (keys : List (List Part)) (qs : List Position) (i : ℕ) : Type
   pub ranks : Ranks (getD keys i []) qs row
   pub before : (j : ℕ) (other : List ℕ) → j < i → Ranks (getD keys j []) qs other → lower row other ≡ false
   pub after : (j : ℕ) (other : List ℕ) → i < j → j < length keys → Ranks (getD keys j []) qs other → lower other row ≡ true
+
+-- in a list exactly one entry beats the rest if any aligns, else none: a law of the crate `laws` (Ranking.antt: `one-beats`)
+pub record OneBeats (keys : List (List Part)) (qs : List Position) : Type 0 where
+  pub ifAny : (j : ℕ) (row : List ℕ) → j < length keys → Aligned (getD keys j []) qs row
+      → (i : ℕ) × Beats keys qs i × ((k : ℕ) → Beats keys qs k → k ≡ i)
+  pub elseNone : ((j : ℕ) (row : List ℕ) → j < length keys → Aligned (getD keys j []) qs row → ⊥) → (i : ℕ) → Beats keys qs i → ⊥

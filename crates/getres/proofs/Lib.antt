@@ -1,3 +1,2 @@
 -- Laws of getres.
-pub mod Adding
-pub mod Showing
+pub mod Loading

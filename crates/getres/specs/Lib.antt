@@ -1,5 +1,2 @@
--- What the contracts of getres cite beside the definition.
-pub mod Adding
-pub mod Showing
-pub mod Refusals
+-- What the contracts of getres cite.
 pub mod Loading

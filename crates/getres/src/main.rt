@@ -1,8 +1,6 @@
-// getres: the value that a query gets from a main text and its files, and whether striking a file off changes it.
-mod answers;
-mod arguments;
-mod files;
-mod reports;
+// getres: the value that a query gets from a main text and its files, and whether striking a file off changes it. What it tells is
+// in `answers`, what its arguments ask for in `arguments`; here they are read, and what is told is written.
+mod writing;
 
 ghost use mathlib.Core.Path.{_≡_};
 ghost use mathlib.Core.Bool.{true};
@@ -11,29 +9,29 @@ ghost use lib.ListN.{length, take};
 ghost use Rattle.definition.specs.Archive.{laidOut};
 ghost use Rattle.definition.specs.Limits.{archiveBytes};
 ghost use Rattle.io.specs.Counts.{Counts};
-ghost use Rattle.getres.specs.Loading.{Holds, within};
-use answers::look_up;
+ghost use Rattle.getres.specs.Loading.{Holds};
+use answers::answer;
+use answers::answer_twice;
+use archive_edit::Added;
+use archive_edit::add_file;
 use arguments::Plan;
 use arguments::is_whole;
+use arguments::name_end;
 use arguments::nothing_asked;
 use arguments::with_argument;
-use compare::Compared;
-use compare::compare_without;
-use files::Added;
-use files::add_file;
-use files::number_of;
+use input::Input;
+use input::read_all;
 use libc::STDERR_FILENO;
 use libc::STDIN_FILENO;
 use libc::STDOUT_FILENO;
-use lookup::Lookup;
-use reports::complain;
-use reports::fail;
-use reports::print;
-use reports::print_both;
-use reports::refuse;
-use reports::say;
-use reports::write_help;
-use scan::put;
+use limits::ARCHIVE_BYTES;
+use limits::TEXT_BYTES;
+use reports::REPORT_BYTES;
+use scan::copy_in;
+use writing::complain;
+use writing::fail;
+use writing::tell;
+use writing::write_help;
 
 // ---- Arguments
 
@@ -67,52 +65,29 @@ fn read_arguments() -> Plan {
 
 // ---- Files
 
-// What was read: so many bytes, or nothing that can be read.
-enum Input {
-    Bytes(usize),
-    Failed,
-}
-
-// Reads until the end, or until `buffer` is full.
-fn read_all(fd: i32, buffer: &mut [u8]) -> Input
-    ensures { λ r. ⌜ within (length (now (buffer .exit))) r ⌝ }
-{
-    let mut n = 0;
-    while n < buffer.len() {
-        let got = libc::read(fd, &mut buffer[n..]);
-        if got < 0 {
-            return Input::Failed;
-        }
-        let more = io::count(got, &buffer[n..]);
-        if more == 0 {
-            return Input::Bytes(n);
-        }
-        n += more;
-    }
-    Input::Bytes(n)
-}
-
 // Reads a file by its path, and says what cannot be opened or read.
 fn read_path(path: &[u8], buffer: &mut [u8]) -> Input
-    ensures { λ r. ⌜ within (length (now (buffer .exit))) r ⌝ }
+    ensures { λ r. ⌜ Counts (r .size) (now (buffer .exit)) ⌝ }
 {
     let fd = os::open_read(path);
     if fd < 0 {
         fail(path);
-        return Input::Failed;
+        return Input {
+            size: 0,
+            failed: true,
+        };
     }
     let input = read_all(fd, buffer);
-    let Input::Bytes(n) = input else {
+    if input.failed {
         fail(path);
-        return Input::Failed;
-    };
+    }
     libc::close(fd);
-    Input::Bytes(n)
+    input
 }
 
 // Reads the main text, from standard input if its path is `-`.
 fn read_text(i: usize, buffer: &mut [u8]) -> Input
-    ensures { λ r. ⌜ within (length (now (buffer .exit))) r ⌝ }
+    ensures { λ r. ⌜ Counts (r .size) (now (buffer .exit)) ⌝ }
 {
     let mut path = io::buffer();
     let n = argument(i, &mut path);
@@ -120,32 +95,34 @@ fn read_text(i: usize, buffer: &mut [u8]) -> Input
         return read_path(&path[..n], buffer);
     }
     let input = read_all(STDIN_FILENO, buffer);
-    let Input::Bytes(n) = input else {
+    if input.failed {
         fail(b"standard input");
-        return Input::Failed;
-    };
-    Input::Bytes(n)
+    }
+    input
 }
 
 // ---- The archive
 
-// The archive at the start of a buffer, of so many bytes, or none.
-enum Loaded {
-    Size(usize),
-    Failed,
+// The archive at the start of a buffer, of so many bytes, and whether a file of it could not be loaded.
+struct Loaded {
+    size: usize,
+    failed: bool,
 }
 
 // Adds a file to the archive of `size` bytes at the start of `archive`, or says why it cannot.
 fn add(name: &[u8], body: &[u8], archive: &mut [u8], size: usize) -> Loaded
-    requires { ⌜ (archiveBytes ≡ length (now archive)) × (size ≤ archiveBytes) × (laidOut (take size (now archive)) ≡ true) ⌝ }
-    ensures { λ r. ⌜ Holds (now (archive .exit)) r ⌝ }
+    requires { ⌜ (archiveBytes ≡ length (now archive)) × Holds (now archive) size ⌝ }
+    ensures { λ r. ⌜ Holds (now (archive .exit)) (r .size) ⌝ }
 {
-    let mut out = [0; 65536];
+    let mut out = [0; ARCHIVE_BYTES];
     let added = add_file(&archive[..size], name, body, &mut out);
     match added {
         Added::Size(n) => {
-            put(&out[..n], archive, 0);
-            return Loaded::Size(n);
+            copy_in(&out[..n], archive, 0);
+            return Loaded {
+                size: n,
+                failed: false,
+            };
         }
         Added::NotAName => complain(
             name,
@@ -155,49 +132,36 @@ fn add(name: &[u8], body: &[u8], archive: &mut [u8], size: usize) -> Loaded
         Added::TooMany => complain(name, b"refused 3: more than 64 files"),
         Added::TooLarge => complain(name, b"refused 3: the files have more than 65,536 bytes"),
     }
-    Loaded::Failed
+    Loaded { size, failed: true }
 }
 
 fn load_path(name: &[u8], path: &[u8], archive: &mut [u8], size: usize) -> Loaded
-    requires { ⌜ (archiveBytes ≡ length (now archive)) × (size ≤ archiveBytes) × (laidOut (take size (now archive)) ≡ true) ⌝ }
-    ensures { λ r. ⌜ Holds (now (archive .exit)) r ⌝ }
+    requires { ⌜ (archiveBytes ≡ length (now archive)) × Holds (now archive) size ⌝ }
+    ensures { λ r. ⌜ Holds (now (archive .exit)) (r .size) ⌝ }
 {
-    let mut body = [0; 65536];
+    let mut body = [0; ARCHIVE_BYTES];
     let input = read_path(path, &mut body);
-    let Input::Bytes(n) = input else {
-        return Loaded::Failed;
-    };
-    add(name, &body[..n], archive, size)
-}
-
-// The place of the first `=`, or the end.
-fn equals_sign(bytes: &[u8]) -> usize
-    ensures { λ r. ⌜ Counts r (now (bytes .entry)) ⌝ }
-{
-    let mut i = 0;
-    while i < bytes.len() {
-        if bytes[i] == b'=' {
-            return i;
-        }
-        i += 1;
+    if input.failed {
+        return Loaded { size, failed: true };
     }
-    i
+    let n = input.size;
+    add(name, &body[..n], archive, size)
 }
 
 // Loads the file of an argument, `NAME=PATH` or a path that is the name too. No name has a `=`.
 fn load_file(i: usize, archive: &mut [u8], size: usize) -> Loaded
-    requires { ⌜ (archiveBytes ≡ length (now archive)) × (size ≤ archiveBytes) × (laidOut (take size (now archive)) ≡ true) ⌝ }
-    ensures { λ r. ⌜ Holds (now (archive .exit)) r ⌝ }
+    requires { ⌜ (archiveBytes ≡ length (now archive)) × Holds (now archive) size ⌝ }
+    ensures { λ r. ⌜ Holds (now (archive .exit)) (r .size) ⌝ }
 {
     let mut buffer = io::buffer();
     let n = os::arg(i, &mut buffer);
     // one that is too long would name another file
     if os::errno() != 0 {
         fail(b"--file");
-        return Loaded::Failed;
+        return Loaded { size, failed: true };
     }
     let named = &buffer[..n];
-    let at = equals_sign(named);
+    let at = name_end(named);
     if at == named.len() {
         return load_path(named, named, archive, size);
     }
@@ -206,11 +170,14 @@ fn load_file(i: usize, archive: &mut [u8], size: usize) -> Loaded
 
 // Loads the file of an argument, if it names one.
 fn load_argument(plan: Plan, i: usize, archive: &mut [u8], size: usize) -> Loaded
-    requires { ⌜ (archiveBytes ≡ length (now archive)) × (size ≤ archiveBytes) × (laidOut (take size (now archive)) ≡ true) ⌝ }
-    ensures { λ r. ⌜ Holds (now (archive .exit)) r ⌝ }
+    requires { ⌜ (archiveBytes ≡ length (now archive)) × Holds (now archive) size ⌝ }
+    ensures { λ r. ⌜ Holds (now (archive .exit)) (r .size) ⌝ }
 {
     if plan.next != arguments::FILE {
-        return Loaded::Size(size);
+        return Loaded {
+            size,
+            failed: false,
+        };
     }
     load_file(i, archive, size)
 }
@@ -218,88 +185,29 @@ fn load_argument(plan: Plan, i: usize, archive: &mut [u8], size: usize) -> Loade
 // Loads the files of all arguments.
 fn load_files(archive: &mut [u8]) -> Loaded
     requires { ⌜ archiveBytes ≡ length (now archive) ⌝ }
-    ensures { λ r. ⌜ Holds (now (archive .exit)) r ⌝ }
+    ensures { λ r. ⌜ Holds (now (archive .exit)) (r .size) ⌝ }
 {
+    copy_in(b"\0\0", archive, 0);
     let mut plan = nothing_asked();
-    let mut size = put(b"\0\0", archive, 0);
+    let mut size = 2;
     let count = os::arg_count();
     let mut i = 1;
     while i < count {
         let loaded = load_argument(plan, i, archive, size);
-        let Loaded::Size(n) = loaded else {
-            return Loaded::Failed;
-        };
-        size = n;
+        if loaded.failed {
+            return loaded;
+        }
+        size = loaded.size;
         plan = next_argument(plan, i);
         i += 1;
     }
-    Loaded::Size(size)
+    Loaded {
+        size,
+        failed: false,
+    }
 }
 
 // ---- Answers
-
-// The value, none or a refusal.
-fn answer(text: &[u8], archive: &[u8], name: &[u8], class: &[u8]) -> u8 {
-    let mut contents = [0; 1538];
-    let mut bodies = [0; 32768];
-    let found = look_up(text, archive, name, class, &mut contents, &mut bodies);
-    match found {
-        Lookup::Found(place, size) => print(&bodies[place..place + size], 0),
-        Lookup::Nothing => {
-            say(b"no value");
-            1
-        }
-        Lookup::Refused(number) => refuse(number),
-    }
-}
-
-// Both answers, with file `number` and without it, and whether they differ.
-fn answer_twice(
-    text: &[u8],
-    archive: &[u8],
-    number: usize,
-    file: &[u8],
-    name: &[u8],
-    class: &[u8],
-) -> u8
-    requires { ⌜ length (now file) ≤ 4096 ⌝ }
-{
-    let mut struck = [0; 65536];
-    let mut contents = [0; 1538];
-    let mut bodies = [0; 32768];
-    let mut words = [0; 1538];
-    let mut store = [0; 32768];
-    let compared = compare_without(
-        text,
-        archive,
-        number,
-        name,
-        class,
-        &mut struck,
-        &mut contents,
-        &mut bodies,
-        &mut words,
-        &mut store,
-    );
-    match compared {
-        Compared::Both(a, b) => print_both(file, a, &bodies, b, &store),
-        Compared::NoFile => {
-            complain(file, b"not among the files");
-            2
-        }
-        Compared::Refused(number) => refuse(number),
-    }
-}
-
-// With the file that an argument names, and without it.
-fn answer_without(i: usize, text: &[u8], archive: &[u8], name: &[u8], class: &[u8]) -> u8
-    requires { ⌜ laidOut (now archive) ≡ true ⌝ }
-{
-    let mut file = io::buffer();
-    let n = argument(i, &mut file);
-    let number = number_of(archive, &file[..n]);
-    answer_twice(text, archive, number, &file[..n], name, class)
-}
 
 // A class that is not given is empty.
 fn class_argument(i: usize, buffer: &mut [u8]) -> usize
@@ -311,6 +219,25 @@ fn class_argument(i: usize, buffer: &mut [u8]) -> usize
     argument(i, buffer)
 }
 
+// With the file that an argument names, and without it.
+fn answer_without(i: usize, text: &[u8], archive: &[u8], name: &[u8], class: &[u8]) -> u8
+    requires { ⌜ laidOut (now archive) ≡ true ⌝ }
+{
+    let mut out = [0; REPORT_BYTES];
+    let mut file = io::buffer();
+    let n = argument(i, &mut file);
+    let report = answer_twice(text, archive, &file[..n], name, class, &mut out);
+    let size = report.size;
+    tell(report, &out[..size])
+}
+
+fn answer_once(text: &[u8], archive: &[u8], name: &[u8], class: &[u8]) -> u8 {
+    let mut out = [0; REPORT_BYTES];
+    let report = answer(text, archive, name, class, &mut out);
+    let size = report.size;
+    tell(report, &out[..size])
+}
+
 fn answer_plan(plan: Plan, text: &[u8], archive: &[u8]) -> u8
     requires { ⌜ laidOut (now archive) ≡ true ⌝ }
 {
@@ -320,7 +247,7 @@ fn answer_plan(plan: Plan, text: &[u8], archive: &[u8]) -> u8
     let m = class_argument(plan.class, &mut class);
     let without = plan.without;
     if without == 0 {
-        return answer(text, archive, &name[..n], &class[..m]);
+        return answer_once(text, archive, &name[..n], &class[..m]);
     }
     answer_without(without, text, archive, &name[..n], &class[..m])
 }
@@ -328,16 +255,18 @@ fn answer_plan(plan: Plan, text: &[u8], archive: &[u8]) -> u8
 // Reads the files and the text, and answers. The text's buffer has one byte more than a text may have, so that the reading
 // refuses what fills it.
 fn answer_files(plan: Plan) -> u8 {
-    let mut archive = [0; 65536];
+    let mut archive = [0; ARCHIVE_BYTES];
     let loaded = load_files(&mut archive);
-    let Loaded::Size(size) = loaded else {
+    if loaded.failed {
         return 2;
-    };
-    let mut text = [0; 32769];
+    }
+    let mut text = [0; TEXT_BYTES + 1];
     let input = read_text(plan.text, &mut text);
-    let Input::Bytes(n) = input else {
+    if input.failed {
         return 2;
-    };
+    }
+    let size = loaded.size;
+    let n = input.size;
     answer_plan(plan, &text[..n], &archive[..size])
 }
 
@@ -370,6 +299,6 @@ fn main() {
     let status = run(plan);
     let fd = plan.status;
     if fd != 0 {
-        reports::write_status(fd as i32, status);
+        writing::write_status(fd as i32, status);
     }
 }

@@ -3,10 +3,14 @@ use mathlib.Core.List.{List, [], _∷_, _++_, append-nil, append-assoc}
 use mathlib.Core.Path.{_≡_, refl, sym, ap, _∙_}
 use Prim.Native.Nat.{ℕ, suc, _+_, _-_, _≤_, _<_}
 use native.Mathlib.Numerals.{add-one}
+use native.Mathlib.Nat.{sub-zero}
 use native.Mathlib.Omega.{arith}
 use lib.ListN.{length, take, set, length-set}
 use lib.Seq.{take-all, take-suc-set}
 use Rattle.definition.specs.Lists.{zeroes}
+use Rattle.image.specs.Rows.{rowStart}
+use Rattle.image.specs.Running.{closedWords}
+use Rattle.image.specs.declared.Totals.{Totals}
 
 -- clearing the rest of xs from i on comes to clearing xs₀ from `from` on
 pub record Cleared (xs₀ : List ℕ) (from : ℕ) (xs : List ℕ) (i : ℕ) : Type 0 where
@@ -44,3 +48,13 @@ cleared-all {xs₀} {xs} {from} {i} c h =
     ∙ ap (λ (l : List ℕ). l ++ []) (sym (take-all i xs h))
     ∙ ap (λ (n : ℕ). take i xs ++ zeroes n) (sym e)
     ∙ c .same
+
+-- cleared from its front, a buffer is all zeroes
+pub cleared-whole : (xs : List ℕ) {xs′ : List ℕ} → xs′ ≡ take 0 xs ++ zeroes (length xs - 0) → xs′ ≡ zeroes (length xs)
+cleared-whole xs e = e ∙ ap zeroes (sub-zero (length xs))
+
+-- the first two words written, and the words cleared from row n on
+pub closed-words : (s : Totals) (c : List ℕ) {c′ : List ℕ} {n : ℕ}
+    → c′ ≡ take n (set (set c 0 (s .entries)) 1 (s .used)) ++ zeroes (length (set (set c 0 (s .entries)) 1 (s .used)) - n)
+    → n ≡ rowStart (s .entries) → c′ ≡ closedWords s c
+closed-words s c e n = e ∙ rw (n, length-set (set c 0 (s .entries)) 1 (s .used), length-set c 0 (s .entries)) refl

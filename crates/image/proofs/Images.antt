@@ -14,9 +14,10 @@ use Rattle.definition.specs.Text.{Entry}
 use Rattle.definition.specs.Including.{Event, opened, entered, entriesOf}
 use Rattle.definition.specs.Image.{keyOf, rowsOf, storeOf, contentsOf, writtenOver, imageContents, imageBodies}
 use Rattle.definition.specs.Reading as definition
-use Rattle.definition.specs.Reading.{Verdict, within, past, sizeOf, judge, plain, start, accepted, refused, outcome, left}
+use Rattle.definition.specs.Reading.{Verdict, within, past, sizeOf, judge, plain, start, left}
 use Rattle.laws.proofs.Image.{length-rows}
-use Rattle.image.specs.Running.{World, world, Ran, went, stopped, rowOf, stored, put, counted, openOne, andThen, run}
+use Rattle.image.specs.Running.{World, world, Ran, went, stopped, stored, put, counted, openOne, andThen, run, closedWords, closedBytes, finished}
+use Rattle.image.specs.Rows.{rowStart}
 use Rattle.image.specs.declared.Totals.{Totals}
 use Rattle.image.proofs.Runs.{RoomIn, then-went, put-went, open-went, step-room, run-room, size-is}
 
@@ -27,24 +28,24 @@ totalsOf s = record { opens = s .opens; entries = s .entries; used = s .used }
 
 unfoldable pub verdictOf : Ran → Verdict
 verdictOf (went w) = within (totalsOf (w .totals))
-verdictOf (stopped k) = past k
+verdictOf (stopped k c b) = past k
 
-judged : (b : Bool) (k : ℕ) (r : Ran) (next : World → Ran) (j : Verdict) → verdictOf (andThen r next) ≡ j
-    → verdictOf (andThen (if b then stopped k else r) next) ≡ (if b then past k else j)
+judged : (h : Bool) (k : ℕ) (c b : List ℕ) (r : Ran) (next : World → Ran) (j : Verdict) → verdictOf (andThen r next) ≡ j
+    → verdictOf (andThen (if h then stopped k c b else r) next) ≡ (if h then past k else j)
 unfolding verdictOf andThen
-judged true k r next j e = refl
-judged false k r next j e = e
+judged true k c b r next j e = refl
+judged false k c b r next j e = e
 
 pub run-judge : (es : List Event) (w : World) → verdictOf (run w es) ≡ judge (totalsOf (w .totals)) es
 unfolding verdictOf andThen run judge put openOne
 run-judge [] w = refl
 run-judge (opened ch ∷ es) w =
-    judged (leb mostOpens (w .totals .opens)) 4 (went (world (counted (w .totals)) (w .words) (w .bytes))) (λ v. run v es) _
+    judged (leb mostOpens (w .totals .opens)) 4 _ _ (went (world (counted (w .totals)) (w .words) (w .bytes))) (λ v. run v es) _
     (run-judge es (world (counted (w .totals)) (w .words) (w .bytes)))
 run-judge (entered ch e ∷ es) w =
-    judged (ltb mostParts (length (e .parts))) 5 _ (λ v. run v es) _
-    (judged (leb mostEntries (w .totals .entries)) 6 _ (λ v. run v es) _
-    (judged (ltb bodyBytes (w .totals .used + sizeOf e)) 7 (went (stored w e)) (λ v. run v es) _ (run-judge es (stored w e))))
+    judged (ltb mostParts (length (e .parts))) 5 _ _ _ (λ v. run v es) _
+    (judged (leb mostEntries (w .totals .entries)) 6 _ _ _ (λ v. run v es) _
+    (judged (ltb bodyBytes (w .totals .used + sizeOf e)) 7 _ _ (went (stored w e)) (λ v. run v es) _ (run-judge es (stored w e))))
 
 -- ---- The buffers
 
@@ -67,7 +68,7 @@ one-paste q rest b u n e f = rw (← e, ← f, take-append-seam q rest, take-len
 pub record Laid (w : World) (p q restWords restBytes : List ℕ) : Type 0 where
   pub words-are : w .words ≡ p ++ restWords
   pub bytes-are : w .bytes ≡ q ++ restBytes
-  pub p-long : length p ≡ rowOf (w .totals .entries)
+  pub p-long : length p ≡ rowStart (w .totals .entries)
   pub q-long : length q ≡ w .totals .used
 
 laid-is : {w : World} {p p′ q q′ r r′ s s′ : List ℕ} → p ≡ p′ → q ≡ q′ → r ≡ r′ → s ≡ s′ → Laid w p q r s → Laid w p′ q′ r′ s′
@@ -80,7 +81,7 @@ laid-put w e p q r s room few l =
     record {
       words-are =
           rw (l .words-are)
-          (three-sets p r (rowOf (w .totals .entries)) (w .totals .used) (length (keyOf (e .parts))) (length (e .value)) (l .p-long)
+          (three-sets p r (rowStart (w .totals .entries)) (w .totals .used) (length (keyOf (e .parts))) (length (e .value)) (l .p-long)
           (omega (arith, room .words-long, long, length-append p r, l .p-long)));
       bytes-are = rw (l .bytes-are) (one-paste q s (keyOf (e .parts) ++ e .value) (w .totals .used) (sizeOf e) (l .q-long) (size-is e));
       p-long = simp length-append (omega (arith, l .p-long));
@@ -176,37 +177,40 @@ module _ (c b : List ℕ) (hc : length c ≡ contentsWords) (hb : length b ≡ b
     pub used-is : length (storeOf xs) ≡ v .totals .used
     used-is = laid .q-long
 
-    contents-long : length (contentsOf xs) ≡ rowOf (v .totals .entries)
+    contents-long : length (contentsOf xs) ≡ rowStart (v .totals .entries)
     unfolding contentsOf
     contents-long = omega (arith, length-rows 0 xs, entries-are)
 
-    -- the count, the use and the rows, with zeroes behind
-    pub words-finished : take (rowOf (v .totals .entries)) (set (set (v .words) 0 (v .totals .entries)) 1 (v .totals .used)) ++ zeroes (contentsWords - rowOf (v .totals .entries))
-        ≡ imageContents xs c
+    words-closed : closedWords (v .totals) (v .words) ≡ imageContents xs c
     unfolding contentsOf
-    words-finished =
-        rw (laid .words-are, headed c (rowsOf 0 xs) (drop (rowWords * length xs) (drop 2 c)) (v .totals .entries) (v .totals .used) (omega arith), ← entries-are, ← used-is)
+    words-closed =
+        rw (
+          room-after .words-long,
+          laid .words-are,
+          headed c (rowsOf 0 xs) (drop (rowWords * length xs) (drop 2 c)) (v .totals .entries) (v .totals .used) (omega arith),
+          ← entries-are,
+          ← used-is,
+        )
         (zeroed contentsWords (2 + rowWords * length xs) c (contentsOf xs) (drop (rowWords * length xs) (drop 2 c)) hc (omega (arith, length-rows 0 xs)))
 
-    pub bytes-finished : take (v .totals .used) (v .bytes) ++ zeroes (bodyBytes - v .totals .used) ≡ imageBodies xs b
-    bytes-finished =
-        rw (laid .bytes-are) (zeroed bodyBytes (v .totals .used) b (storeOf xs) (drop (length (storeOf xs)) b) hb used-is)
-
-    pub accepted-left : left (judge start es) xs c b
-        ≡ outcome (accepted (v .totals .entries) (v .totals .opens)) (imageContents xs c) (imageBodies xs b)
-    unfolding left verdictOf
-    accepted-left = rw (← run-judge es (world begun c b), e) refl
+    bytes-closed : closedBytes (v .totals) (v .bytes) ≡ imageBodies xs b
+    bytes-closed =
+        rw (room-after .bytes-long, laid .bytes-are) (zeroed bodyBytes (v .totals .used) b (storeOf xs) (drop (length (storeOf xs)) b) hb used-is)
 
   -- 4 to 7 leave the image of no entries
-  pub no-words : zeroes contentsWords ≡ imageContents [] c
+  no-words : zeroes contentsWords ≡ imageContents [] c
   unfolding writtenOver contentsOf rowsOf storeOf
   no-words = rw (none-beyond contentsWords c hc, append-nil (0 ∷ 0 ∷ zeroes (contentsWords - 2))) (two-zeroes contentsWords (omega arith))
 
-  pub no-bytes : zeroes bodyBytes ≡ imageBodies [] b
+  no-bytes : zeroes bodyBytes ≡ imageBodies [] b
   unfolding writtenOver storeOf
   no-bytes = rw (none-beyond bodyBytes b hb, append-nil (zeroes (bodyBytes - 0)), sub-zero bodyBytes) refl
 
-  pub refused-left : (es : List Event) (k : ℕ) → run (world begun c b) es ≡ stopped k
-      → left (judge start es) (plain (entriesOf es)) c b ≡ outcome (refused k) (imageContents [] c) (imageBodies [] b)
-  unfolding left verdictOf
-  refused-left es k e = rw (← run-judge es (world begun c b), e) refl
+  -- a run from the start, whatever it meets, comes to what the definition leaves
+  pub finished-left : (es : List Event) → finished (run (world begun c b) es) ≡ left (judge start es) (plain (entriesOf es)) c b
+  unfolding finished left verdictOf
+  finished-left es = at (run (world begun c b) es) refl
+    where
+      at : (r : Ran) → run (world begun c b) es ≡ r → finished r ≡ left (judge start es) (plain (entriesOf es)) c b
+      at (went v) e = rw (← run-judge es (world begun c b), e, words-closed es v e, bytes-closed es v e) refl
+      at (stopped k c′ b′) e = rw (← run-judge es (world begun c b), e, no-words, no-bytes) refl

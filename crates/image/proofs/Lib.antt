@@ -1,4 +1,5 @@
--- Laws of a reading as the code runs it.
+-- Laws of an image's rows, and of a reading as the code runs it.
+pub mod Rows
 pub mod Runs
 pub mod Images
 pub mod Clearing

@@ -19,12 +19,12 @@ use Rattle.image.specs.Running.{World, world, Room, Ran, went, stopped, 
 then-then : (r : Ran) (f g : World → Ran) → andThen (andThen r f) g ≡ andThen r (λ v. andThen (f v) g)
 unfolding andThen
 then-then (went v) f g = refl
-then-then (stopped k) f g = refl
+then-then (stopped k c b) f g = refl
 
 then-same : (r : Ran) (f g : World → Ran) → ((v : World) → f v ≡ g v) → andThen r f ≡ andThen r g
 unfolding andThen
 then-same (went v) f g e = e v
-then-same (stopped k) f g e = refl
+then-same (stopped k c b) f g e = refl
 
 pub run-append : (xs ys : List Event) (w : World) → run w (xs ++ ys) ≡ andThen (run w xs) (λ v. run v ys)
 unfolding run andThen
@@ -35,31 +35,31 @@ run-append (e ∷ xs) ys w =
 
 -- ---- Where a run went on, so did its steps
 
-stopped-went : {k : ℕ} {v : World} → stopped k ≡ went v → ⊥
+stopped-went : {k : ℕ} {c b : List ℕ} {v : World} → stopped k c b ≡ went v → ⊥
 stopped-went e = let z : _≡_ {A = ℕ} 0 1 = cc in omega arith
 
 pub then-went : (r : Ran) (f : World → Ran) (v : World) → andThen r f ≡ went v → (u : World) × (r ≡ went u) × (f u ≡ went v)
 unfolding andThen
 then-went (went u) f v e = (u, refl, e)
-then-went (stopped k) f v e = absurd (stopped-went e)
+then-went (stopped k c b) f v e = absurd (stopped-went e)
 
-pub passed : (b : Bool) (k : ℕ) (r : Ran) (v : World) → (if b then stopped k else r) ≡ went v → (b ≡ false) × (r ≡ went v)
-passed true k r v e = absurd (stopped-went e)
-passed false k r v e = (refl, e)
+passed : (h : Bool) (k : ℕ) (c b : List ℕ) (r : Ran) {v : World} → (if h then stopped k c b else r) ≡ went v → (h ≡ false) × (r ≡ went v)
+passed true k c b r e = absurd (stopped-went e)
+passed false k c b r e = (refl, e)
 
 -- what `put` stored, and that it fitted
-pub record Stored (w : World) (e : Entry) (v : World) : Type 0 where
+pub record Fitting (w : World) (e : Entry) (v : World) : Type 0 where
   pub is : stored w e ≡ v
   pub few : length (e .parts) ≤ mostParts
   pub entries-less : w .totals .entries < mostEntries
   pub used-fits : w .totals .used + sizeOf e ≤ bodyBytes
 
-pub put-went : (w : World) (e : Entry) (v : World) → put w e ≡ went v → Stored w e v
+pub put-went : (w : World) (e : Entry) (v : World) → put w e ≡ went v → Fitting w e v
 unfolding put
 put-went w e v h =
-    let a = passed (ltb mostParts (length (e .parts))) 5 _ v h in
-    let b = passed (leb mostEntries (w .totals .entries)) 6 _ v (a .1) in
-    let c = passed (ltb bodyBytes (w .totals .used + sizeOf e)) 7 (went (stored w e)) v (b .1) in
+    let a = passed (ltb mostParts (length (e .parts))) 5 _ _ _ h in
+    let b = passed (leb mostEntries (w .totals .entries)) 6 _ _ _ (a .1) in
+    let c = passed (ltb bodyBytes (w .totals .used + sizeOf e)) 7 _ _ _ (b .1) in
     record {
       is = let q : went (stored w e) ≡ went v = c .1 in cc;
       few = ltb-false mostParts (length (e .parts)) (a .0);
@@ -70,7 +70,7 @@ put-went w e v h =
 pub open-went : (w v : World) → openOne w ≡ went v → (world (counted (w .totals)) (w .words) (w .bytes) ≡ v) × (w .totals .opens < mostOpens)
 unfolding openOne
 open-went w v h =
-    let a = passed (leb mostOpens (w .totals .opens)) 4 (went (world (counted (w .totals)) (w .words) (w .bytes))) v h in
+    let a = passed (leb mostOpens (w .totals .opens)) 4 _ _ _ h in
     let q : went (world (counted (w .totals)) (w .words) (w .bytes)) ≡ went v = a .1 in
     (cc, leb-false mostOpens (w .totals .opens) (a .0))
 

@@ -1,16 +1,17 @@
 -- What an event does to the totals and the two buffers. proofs/Images.antt shows that a run leaves what the definition says.
 use mathlib.Core.List.{List, [], _∷_, _++_}
 use mathlib.Core.Path.{_≡_}
-use Prim.Native.Nat.{ℕ, _+_, _*_, _≤_}
+use Prim.Native.Nat.{ℕ, _+_, _-_, _≤_}
 use lib.Dec.{leb, ltb}
-use lib.ListN.{length, set}
+use lib.ListN.{length, take, set}
 use lib.Seq.{paste}
-use Rattle.definition.specs.Lists.{if_then_else_}
-use Rattle.definition.specs.Limits.{mostOpens, mostEntries, mostParts, bodyBytes, contentsWords, rowWords}
+use Rattle.definition.specs.Lists.{if_then_else_, zeroes}
+use Rattle.definition.specs.Limits.{mostOpens, mostEntries, mostParts, bodyBytes, contentsWords}
 use Rattle.definition.specs.Text.{Entry}
 use Rattle.definition.specs.Including.{Event, opened, entered}
-use Rattle.definition.specs.Image.{keyOf}
-use Rattle.definition.specs.Reading.{sizeOf}
+use Rattle.definition.specs.Image.{Row, keyOf}
+use Rattle.definition.specs.Reading.{sizeOf, Outcome, outcome, accepted, refused}
+use Rattle.image.specs.Rows.{rowStart, withRow}
 use Rattle.image.specs.declared.Totals.{Totals}
 use Rattle.image.specs.declared.Step.{Step}
 use Rattle.image.specs.declared.Step.the-variants.{Go, Stop}
@@ -32,30 +33,35 @@ pub record Room (s : Totals) (c b : List ℕ) : Type 0 where
   pub words-long : length c ≡ contentsWords
   pub bytes-long : length b ≡ bodyBytes
 
+-- the totals and the buffers after a run, or the number that refuses it and the buffers as it left them
 pub data Ran : Type 0 where
   went : World → Ran
-  stopped : ℕ → Ran
+  stopped : ℕ → List ℕ → List ℕ → Ran
 
--- where entry n's row stands
-abbrev pub rowOf : ℕ → ℕ
-rowOf n = 2 + rowWords * n
+-- the row of an entry whose key starts at `at`
+abbrev pub rowFor : ℕ → Entry → Row
+rowFor at e = record { start = at; keyLength = length (keyOf (e .parts)); valueLength = length (e .value) }
 
 -- an entry, stored
 abbrev pub stored : World → Entry → World
 stored w e = record {
   totals = record { opens = w .totals .opens; entries = w .totals .entries + 1; used = w .totals .used + sizeOf e };
-  words =
-      set (set (set (w .words) (rowOf (w .totals .entries)) (w .totals .used)) (rowOf (w .totals .entries) + 1) (length (keyOf (e .parts))))
-      (rowOf (w .totals .entries) + 2) (length (e .value));
+  words = withRow (w .words) (w .totals .entries) (rowFor (w .totals .used) e);
   bytes = paste (w .bytes) (w .totals .used) (keyOf (e .parts) ++ e .value) (sizeOf e);
 }
+
+-- the bytes where an entry does not fit: its key if there is room for it, and of its value as much as there is room for
+unfoldable pub cut : World → Entry → List ℕ
+cut w e =
+    if ltb bodyBytes (w .totals .used + length (keyOf (e .parts))) then w .bytes else
+    paste (w .bytes) (w .totals .used) (keyOf (e .parts) ++ e .value) (bodyBytes - w .totals .used)
 
 -- 5, 6, 7
 unfoldable pub put : World → Entry → Ran
 put w e =
-    if ltb mostParts (length (e .parts)) then stopped 5 else
-    if leb mostEntries (w .totals .entries) then stopped 6 else
-    if ltb bodyBytes (w .totals .used + sizeOf e) then stopped 7 else
+    if ltb mostParts (length (e .parts)) then stopped 5 (w .words) (w .bytes) else
+    if leb mostEntries (w .totals .entries) then stopped 6 (w .words) (w .bytes) else
+    if ltb bodyBytes (w .totals .used + sizeOf e) then stopped 7 (w .words) (cut w e) else
     went (stored w e)
 
 -- one open more
@@ -63,7 +69,9 @@ abbrev pub counted : Totals → Totals
 counted s = record { opens = s .opens + 1; entries = s .entries; used = s .used }
 
 unfoldable pub openOne : World → Ran
-openOne w = if leb mostOpens (w .totals .opens) then stopped 4 else went (world (counted (w .totals)) (w .words) (w .bytes))
+openOne w =
+    if leb mostOpens (w .totals .opens) then stopped 4 (w .words) (w .bytes) else
+    went (world (counted (w .totals)) (w .words) (w .bytes))
 
 abbrev pub step : World → Event → Ran
 step w (opened ch) = openOne w
@@ -71,13 +79,28 @@ step w (entered ch e) = put w e
 
 unfoldable pub andThen : Ran → (World → Ran) → Ran
 andThen (went w) next = next w
-andThen (stopped k) next = stopped k
+andThen (stopped k c b) next = stopped k c b
 
 unfoldable pub run : World → List Event → Ran
 run w [] = went w
 run w (e ∷ es) = andThen (step w e) (λ v. run v es)
 
--- a call's answer, with the buffers as it left them; of a refusal only the number is said
+-- a call's answer, with the buffers as it left them
 unfoldable pub answered : Step → List ℕ → List ℕ → Ran
 answered (Go s) c b = went (world s c b)
-answered (Stop k) c b = stopped k
+answered (Stop k) c b = stopped k c b
+
+-- ---- The end of a reading
+
+-- the count and the use before the rows, and zeroes behind them
+abbrev pub closedWords : Totals → List ℕ → List ℕ
+closedWords s c = take (rowStart (s .entries)) (set (set c 0 (s .entries)) 1 (s .used)) ++ zeroes (length c - rowStart (s .entries))
+
+abbrev pub closedBytes : Totals → List ℕ → List ℕ
+closedBytes s b = take (s .used) b ++ zeroes (length b - s .used)
+
+-- what a run comes to, closed
+unfoldable pub finished : Ran → Outcome
+finished (went w) =
+    outcome (accepted (w .totals .entries) (w .totals .opens)) (closedWords (w .totals) (w .words)) (closedBytes (w .totals) (w .bytes))
+finished (stopped k c b) = outcome (refused k) (zeroes contentsWords) (zeroes bodyBytes)

@@ -2,17 +2,11 @@
 ghost use mathlib.Core.Path.{_≡_};
 ghost use mathlib.Core.List.{_++_};
 ghost use Prim.Native.Nat.{_+_, _-_, _≤_, _<_};
-ghost use lib.ListN.{length, take, set};
+ghost use lib.ListN.{length, take, getD};
 ghost use Rattle.definition.specs.Lists.{zeroes};
-
-// Document 01's limits on an image.
-pub const CONTENTS_WORDS: usize = 1538;
-
-pub const BODY_BYTES: usize = 32768;
-
-pub const MOST_ENTRIES: usize = 512;
-
-pub const MOST_PARTS: usize = 16;
+ghost use Rattle.image.specs.Rows.{rowStart, withRow, rowOf, InWords, RowIs};
+ghost use Rattle.image.specs.Running.{Room, closedWords, closedBytes};
+use limits::ROW_WORDS;
 
 // What a reading has met so far: document 01's limits are laid over these.
 pub struct Totals {
@@ -28,7 +22,7 @@ pub enum Step {
 }
 
 // Zeroes the words from `from` on.
-pub fn clear_words(words: &mut [u16], from: usize)
+fn clear_words(words: &mut [u16], from: usize)
     requires { ⌜ from ≤ length (now words) ⌝ }
     ensures { λ _. ⌜ now (words .exit) ≡ take from (now (words .entry)) ++ zeroes (length (now (words .entry)) - from) ⌝ }
 {
@@ -40,7 +34,7 @@ pub fn clear_words(words: &mut [u16], from: usize)
 }
 
 // Zeroes the bytes from `from` on.
-pub fn clear_bytes(bytes: &mut [u8], from: usize)
+fn clear_bytes(bytes: &mut [u8], from: usize)
     requires { ⌜ from ≤ length (now bytes) ⌝ }
     ensures { λ _. ⌜ now (bytes .exit) ≡ take from (now (bytes .entry)) ++ zeroes (length (now (bytes .entry)) - from) ⌝ }
 {
@@ -51,12 +45,69 @@ pub fn clear_bytes(bytes: &mut [u8], from: usize)
     }
 }
 
-// The row at `at`: start, key length, value length.
-pub fn write_row(words: &mut [u16], at: usize, start: u16, key: u16, value: u16)
-    requires { ⌜ at + 2 < length (now words) ⌝ }
-    ensures { λ _. ⌜ now (words .exit) ≡ set (set (set (now (words .entry)) at start) (at + 1) key) (at + 2) value ⌝ }
+// An entry's row: where its key starts among the bodies, and the lengths of key and value. The value stands behind the key.
+pub struct Row {
+    pub start: usize,
+    pub key: usize,
+    pub value: usize,
+}
+
+// Where row `i` begins.
+fn row_start(i: usize) -> usize
+    requires { ⌜ rowStart i ≤ 18446744073709551615 ⌝ }
+    ensures { λ r. ⌜ r ≡ rowStart i ⌝ }
 {
-    words[at] = start;
-    words[at + 1] = key;
-    words[at + 2] = value;
+    2 + ROW_WORDS * i
+}
+
+// A word as a number.
+fn number_at(words: &[u16], at: usize) -> usize
+    requires { ⌜ at < length (now words) ⌝ }
+    ensures { λ r. ⌜ (r ≡ getD (now (words .entry)) at 0) × (r < 65536) ⌝ }
+{
+    words[at] as usize
+}
+
+// Row `i` of an image's words.
+pub fn row_at(words: &[u16], i: usize) -> Row
+    requires { ⌜ rowStart (i + 1) ≤ length (now words) ⌝ }
+    ensures { λ r. ⌜ RowIs (now (words .entry)) i r ⌝ }
+{
+    let at = row_start(i);
+    let start = number_at(words, at);
+    let key = number_at(words, at + 1);
+    let value = number_at(words, at + 2);
+    Row { start, key, value }
+}
+
+// Writes row `i`.
+pub fn write_row(words: &mut [u16], i: usize, row: Row)
+    requires { ⌜ (rowStart (i + 1) ≤ length (now words)) × InWords row ⌝ }
+    ensures { λ _. ⌜ now (words .exit) ≡ withRow (now (words .entry)) i (rowOf row) ⌝ }
+{
+    let at = row_start(i);
+    words[at] = row.start as u16;
+    words[at + 1] = row.key as u16;
+    words[at + 2] = row.value as u16;
+}
+
+// Leaves the image of no entries.
+pub fn empty_image(words: &mut [u16], store: &mut [u8])
+    ensures { λ _. ⌜ (now (words .exit) ≡ zeroes (length (now (words .entry)))) × (now (store .exit) ≡ zeroes (length (now (store .entry)))) ⌝ }
+{
+    clear_words(words, 0);
+    clear_bytes(store, 0);
+}
+
+// Closes an image whose rows are written: the entry count and the bytes used stand before the rows, and all behind is zeroed.
+pub fn close_image(totals: Totals, words: &mut [u16], store: &mut [u8])
+    requires { ⌜ Room totals (now words) (now store) ⌝ }
+    ensures { λ _. ⌜ (now (words .exit) ≡ closedWords totals (now (words .entry))) × (now (store .exit) ≡ closedBytes totals (now (store .entry))) ⌝ }
+{
+    let entries = totals.entries;
+    let used = totals.used;
+    words[0] = entries as u16;
+    words[1] = used as u16;
+    clear_words(words, row_start(entries));
+    clear_bytes(store, used);
 }

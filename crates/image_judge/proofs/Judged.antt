@@ -2,18 +2,20 @@
 use mathlib.Core.Bool.{Bool, true, false, _&&_, not, or-true, and-false, and-assoc}
 use mathlib.Core.List.{List, [], _∷_}
 use mathlib.Core.Path.{_≡_, refl, ap, _∙_}
-use Prim.Native.Nat.{ℕ, zero, suc, _+_, _*_, _≤_, _<_}
+use Prim.Native.Nat.{ℕ, zero, suc, _≤_, _<_}
 use native.Mathlib.Omega.{arith}
 use lib.Dec.{eqb, leb, ltb}
 use lib.ListN.{length, getD, drop}
 use borrow.Author.Tests.{lt-ltb, le-ltb, le-leb, lt-leb, leb-true, not-true}
 use Rattle.definition.specs.Lists.{all}
-use Rattle.definition.specs.Limits.{contentsWords, bodyBytes, rowWords, mostEntries}
+use Rattle.definition.specs.Limits.{contentsWords, bodyBytes, mostEntries}
 use Rattle.definition.specs.Image.{Row, rowsFrom, countOf, usedOf, rowsIn, valueEnd, keyAt, isKey, packed, tooShort, isImage}
 use Rattle.laws.proofs.Lists.{and-true, all-getD}
 use Rattle.laws.proofs.Image.{long-enough}
-use Rattle.image_judge.specs.Rows.{holds, rowAt}
-use Rattle.image_judge.proofs.Rows.{count-rows, row-is, packed-most}
+use Rattle.image.specs.Rows.{rowStart, rowAt}
+use Rattle.image.proofs.Rows.{count-rows, row-is}
+use Rattle.image_judge.specs.Rows.{holds}
+use Rattle.image_judge.proofs.Rows.{packed-most}
 
 -- ---- Judging
 
@@ -68,7 +70,7 @@ pub record Judged (contents bodies : List ℕ) : Type 0 where
   pub bodies-long : bodyBytes ≤ length bodies
   pub count-most : countOf contents ≤ mostEntries
   pub used-most : usedOf contents ≤ bodyBytes
-  pub rows-within : 2 + rowWords * countOf contents ≤ length contents
+  pub rows-within : rowStart (countOf contents) ≤ length contents
   pub row-inside : (i : ℕ) → i < countOf contents → valueEnd (rowAt contents i) ≤ usedOf contents
   pub row-key : (i : ℕ) → i < countOf contents → isKey (keyAt bodies (rowAt contents i)) ≡ true
 

@@ -1,54 +1,19 @@
--- How `rows_hold` goes through an image's rows, and a row by its words. Assumes nothing.
+-- How `rows_hold` goes through an image's rows. Assumes nothing.
 use mathlib.Core.Bool.{Bool, true, false, and-false}
 use mathlib.Core.List.{List, [], _∷_}
-use mathlib.Core.Path.{_≡_, refl, ap, _∙_}
-use Prim.Native.Nat.{ℕ, zero, suc, _+_, _*_, _-_, _≤_, _<_}
+use mathlib.Core.Path.{_≡_, refl, sym, ap, _∙_}
+use Prim.Native.Nat.{ℕ, _+_, _-_, _≤_, _<_}
 use native.Mathlib.Omega.{arith}
 use lib.Dec.{eqb}
-use lib.ListN.{length, getD, take, drop}
-use lib.Seq.{getD-drop, drop-drop}
+use lib.ListN.{take, drop}
 use borrow.Author.Tests.{eqb-true, eq-eqb, ne-eqb}
 use Rattle.definition.specs.Lists.{all}
-use Rattle.definition.specs.Limits.{rowWords}
-use Rattle.definition.specs.Image.{Row, rowsFrom, rowsIn, countOf, valueEnd, keyAt, isKey, packed}
+use Rattle.definition.specs.Image.{Row, rowsFrom, valueEnd, keyAt, isKey, packed}
 use Rattle.laws.proofs.Lists.{and-true, part-slice}
-use Rattle.image_judge.specs.Rows.{holds, rowAt}
-
--- ---- Rows by their words
-
-pub length-rows : (n : ℕ) (ws : List ℕ) → length (rowsFrom n ws) ≡ n
-unfolding rowsFrom
-length-rows zero ws = refl
-length-rows (suc n) ws = ap suc (length-rows n (drop rowWords ws))
-
--- the rows from row i on
-abbrev pub rowsLeft : List ℕ → ℕ → ℕ → List Row
-rowsLeft contents count i = rowsFrom (count - i) (drop (2 + rowWords * i) contents)
-
-pub rows-turn : (contents : List ℕ) (count i : ℕ) → i < count → rowsLeft contents count i ≡ rowAt contents i ∷ rowsLeft contents count (i + 1)
-unfolding rowsFrom
-rows-turn contents count i h =
-    let n : count - i ≡ suc (count - (i + 1)) = omega arith in
-    let a : 2 + rowWords * i + 0 ≡ 2 + rowWords * i = omega arith in
-    let b : 2 + rowWords * i + rowWords ≡ 2 + rowWords * (i + 1) = omega arith in
-    rw n (simp (getD-drop, drop-drop, a, b))
-
-left-at : (contents : List ℕ) (count j i : ℕ) (d : Row) → j + i < count → getD (rowsLeft contents count j) i d ≡ rowAt contents (j + i)
-left-at contents count j zero d h =
-    let e : j + 0 ≡ j = omega arith in
-    rw (e, rows-turn contents count j (omega arith)) refl
-left-at contents count j (suc i) d h =
-    let e : j + suc i ≡ j + 1 + i = omega arith in
-    rw (e, rows-turn contents count j (omega arith)) (left-at contents count (j + 1) i d (omega arith))
-
-pub count-rows : (contents : List ℕ) → length (rowsIn contents) ≡ countOf contents
-count-rows contents = length-rows (countOf contents) (drop 2 contents)
-
-pub row-is : (contents : List ℕ) (i : ℕ) (d : Row) → i < countOf contents → getD (rowsIn contents) i d ≡ rowAt contents i
-row-is contents i d h =
-    let n : countOf contents - 0 ≡ countOf contents = omega arith in
-    let e : 0 + i ≡ i = omega arith in
-    rw (n, e) at (left-at contents (countOf contents) 0 i d (omega arith))
+use Rattle.image.specs.Rows.{rowAt, rowsLeft, rowOf}
+use Rattle.image.specs.declared.Row as image
+use Rattle.image.proofs.Rows.{rows-turn}
+use Rattle.image_judge.specs.Rows.{holds}
 
 -- ---- Rows that hold
 
@@ -106,31 +71,38 @@ module _ {contents bodies : List ℕ} {count used at i : ℕ} (j : Judging conte
   unfolding rowsFrom
   judging-done h = let e : count - i ≡ 0 = omega arith in j .same ∙ rw e (holds-done at used bodies)
 
-  module _ (h : i < count) where
-    abbrev row : Row
-    row = rowAt contents i
+-- row i, as the code has it
+pub record RowHere (contents bodies : List ℕ) (count used at i : ℕ) (r : image.Row) : Type 0 where
+  pub judging : Judging contents bodies count used at i
+  pub more : i < count
+  pub is : rowOf r ≡ rowAt contents i
 
-    turn : holds 0 (rowsFrom count (drop 2 contents)) used bodies ≡ holds at (row ∷ rowsLeft contents count (i + 1)) used bodies
-    turn = j .same ∙ ap (λ (rows : List Row). holds at rows used bodies) (rows-turn contents count i h)
+module _ {contents bodies : List ℕ} {count used at i : ℕ} {r : image.Row} (R : RowHere contents bodies count used at i r) where
+  abbrev rest : List Row
+  rest = rowsLeft contents count (i + 1)
 
-    pub judging-apart : (row .start ≡ at → ⊥) → holds 0 (rowsFrom count (drop 2 contents)) used bodies ≡ false
-    judging-apart g = turn ∙ holds-apart at row (rowsLeft contents count (i + 1)) used bodies g
+  turn : holds 0 (rowsFrom count (drop 2 contents)) used bodies ≡ holds at (rowOf r ∷ rest) used bodies
+  turn = R .judging .same ∙ ap (λ (rows : List Row). holds at rows used bodies) (rows-turn contents count i (R .more) ∙ ap (λ (x : Row). x ∷ rest) (sym (R .is)))
 
-    module _ (g : row .start ≡ at) where
-      pub judging-past : used < at + row .keyLength + row .valueLength → holds 0 (rowsFrom count (drop 2 contents)) used bodies ≡ false
-      judging-past f = turn ∙ holds-past at row (rowsLeft contents count (i + 1)) used bodies (omega arith)
+  pub judging-apart : (r .start ≡ at → ⊥) → holds 0 (rowsFrom count (drop 2 contents)) used bodies ≡ false
+  judging-apart g = turn ∙ holds-apart at (rowOf r) rest used bodies g
 
-      -- the key as the borrow checker gives it
-      key-part : take (at + row .keyLength - at) (drop at bodies) ≡ keyAt bodies row
-      key-part = rw g (part-slice bodies at (at + row .keyLength))
+  -- it starts where the one before it ends
+  module _ (g : r .start ≡ at) where
+    pub judging-past : used < at + r .key + r .value → holds 0 (rowsFrom count (drop 2 contents)) used bodies ≡ false
+    judging-past f = turn ∙ holds-past at (rowOf r) rest used bodies (omega arith)
 
-      pub judging-no-key : isKey (take (at + row .keyLength - at) (drop at bodies)) ≡ false → holds 0 (rowsFrom count (drop 2 contents)) used bodies ≡ false
-      judging-no-key k = turn ∙ holds-no-key at row (rowsLeft contents count (i + 1)) used bodies (rw key-part at k)
+    -- the key as the borrow checker gives it
+    key-part : take (at + r .key - at) (drop at bodies) ≡ keyAt bodies (rowOf r)
+    key-part = rw g (part-slice bodies at (at + r .key))
 
-      pub judging-next : isKey (take (at + row .keyLength - at) (drop at bodies)) ≡ true → at + row .keyLength + row .valueLength ≤ used
-          → Judging contents bodies count used (at + row .keyLength + row .valueLength) (i + 1)
-      judging-next k f = record {
-        passed = omega arith;
-        most = f;
-        same = turn ∙ holds-on at row (rowsLeft contents count (i + 1)) used bodies g (rw key-part at k) ∙ rw g refl;
-      }
+    pub judging-no-key : isKey (take (at + r .key - at) (drop at bodies)) ≡ false → holds 0 (rowsFrom count (drop 2 contents)) used bodies ≡ false
+    judging-no-key k = turn ∙ holds-no-key at (rowOf r) rest used bodies (rw key-part at k)
+
+    pub judging-next : isKey (take (at + r .key - at) (drop at bodies)) ≡ true → at + r .key + r .value ≤ used
+        → Judging contents bodies count used (at + r .key + r .value) (i + 1)
+    judging-next k f = record {
+      passed = omega (arith, R .more);
+      most = f;
+      same = turn ∙ holds-on at (rowOf r) rest used bodies g (rw key-part at k) ∙ rw g refl;
+    }

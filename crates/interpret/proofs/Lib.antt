@@ -1,4 +1,3 @@
 -- Laws of the readings, as the code goes through a value's bytes.
-pub mod Characters
 pub mod Numbers
 pub mod Words

@@ -17,9 +17,9 @@ use mir.Facts.{toZ-ofZ}
 use Rattle.definition.specs.Lists.{ascii, any, orElse, same}
 use Rattle.definition.specs.Value.{lowercase, wordOf, nonZero, i64Of, toBool}
 use Rattle.laws.proofs.Lists.{in-range, below-range, above-range}
-use Rattle.interpret.specs.Readings.{numberIn, truthIn}
+use Rattle.interpret.specs.Readings.{numberIn, booleanIn}
 use Rattle.interpret.specs.declared.Number.the-variants.{Is, NotANumber}
-use Rattle.interpret.specs.declared.Truth.the-variants.{True, False, Neither}
+use Rattle.interpret.specs.declared.Boolean.the-variants.{True, False, Neither}
 
 -- ---- A byte's case
 
@@ -91,16 +91,16 @@ module _ (t : List ℕ) where
   abbrev no : Bool
   no = any (same t) (ascii "false" ∷ ascii "off" ∷ ascii "no" ∷ [])
 
-  pub word-yes : yes ≡ true → truthIn True ≡ wordOf t
-  unfolding truthIn wordOf
+  pub word-yes : yes ≡ true → booleanIn True ≡ wordOf t
+  unfolding booleanIn wordOf
   word-yes e = rw e refl
 
-  pub word-no : yes ≡ false → no ≡ true → truthIn False ≡ wordOf t
-  unfolding truthIn wordOf
+  pub word-no : yes ≡ false → no ≡ true → booleanIn False ≡ wordOf t
+  unfolding booleanIn wordOf
   word-no e f = rw (e, f) refl
 
-  pub word-neither : yes ≡ false → no ≡ false → truthIn Neither ≡ wordOf t
-  unfolding truthIn wordOf
+  pub word-neither : yes ≡ false → no ≡ false → booleanIn Neither ≡ wordOf t
+  unfolding booleanIn wordOf
   word-neither e f = rw (e, f) refl
 
 -- ---- A number first
@@ -112,12 +112,12 @@ module _ (t : List ℕ) where
 
   -- the code compares a number's bits
   module _ (z : ℤ) (e : numberIn (Is z) ≡ i64Of t) where
-    pub truth-zero : SFits w64 z → ofZ w64 z ≡ 0 → truthIn False ≡ toBool t
-    unfolding numberIn truthIn toBool nonZero orElse
+    pub truth-zero : SFits w64 z → ofZ w64 z ≡ 0 → booleanIn False ≡ toBool t
+    unfolding numberIn booleanIn toBool nonZero orElse
     truth-zero f k = let zero-is : z ≡ pos 0 = sym (toZ-ofZ f) ∙ ap (toZ w64) k in rw (← e, zero-is) refl
 
-    pub truth-other : (ofZ w64 z ≡ 0 → ⊥) → truthIn True ≡ toBool t
-    unfolding numberIn truthIn toBool nonZero orElse
+    pub truth-other : (ofZ w64 z ≡ 0 → ⊥) → booleanIn True ≡ toBool t
+    unfolding numberIn booleanIn toBool nonZero orElse
     truth-other k = rw (← e) (at z k)
       where
         at : (z : ℤ) → (ofZ w64 z ≡ 0 → ⊥) → some true ≡ some (not (eqb (natAbs z) 0))

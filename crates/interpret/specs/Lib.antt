@@ -1,3 +1,2 @@
 -- What the code's answers say of a value's bytes.
-pub mod Characters
 pub mod Readings

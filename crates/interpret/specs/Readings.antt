@@ -9,8 +9,8 @@ use Rattle.interpret.specs.declared.Natural.{Natural}
 use Rattle.interpret.specs.declared.Natural.the-variants.{Is as IsNatural, Nothing}
 use Rattle.interpret.specs.declared.Number.{Number}
 use Rattle.interpret.specs.declared.Number.the-variants.{Is, NotANumber}
-use Rattle.interpret.specs.declared.Truth.{Truth}
-use Rattle.interpret.specs.declared.Truth.the-variants.{True, False, Neither}
+use Rattle.interpret.specs.declared.Boolean.{Boolean}
+use Rattle.interpret.specs.declared.Boolean.the-variants.{True, False, Neither}
 
 -- a number that is an i64 with one of the signs
 unfoldable pub magnitude : Option ℕ → Option ℕ
@@ -25,7 +25,7 @@ unfoldable pub numberIn : Number → Option ℤ
 numberIn (Is z) = some z
 numberIn NotANumber = none
 
-unfoldable pub truthIn : Truth → Option Bool
-truthIn True = some true
-truthIn False = some false
-truthIn Neither = none
+unfoldable pub booleanIn : Boolean → Option Bool
+booleanIn True = some true
+booleanIn False = some false
+booleanIn Neither = none

@@ -1,100 +1,12 @@
-// The readings of a value on its bytes: the Rust's `str::from_utf8`, `i64::from_str` and `to_bool`.
+// The readings of a value on its bytes: the Rust's `i64::from_str` and `to_bool`.
 ghost use mathlib.Core.Path.{_≡_};
-ghost use mathlib.Core.List.{List, [], _∷_, map};
-ghost use mathlib.Core.Option.{some, none};
-ghost use Prim.Native.Nat.{ℕ, _≤_, _<_, _^_};
-ghost use lib.ListN.{length, drop, replicate};
-ghost use Rattle.definition.specs.Lists.{if_then_else_, any, same};
-ghost use Rattle.definition.specs.Bytes.{within};
-ghost use Rattle.definition.specs.Value.{table, afterRow, firstRow, isUtf8, naturalOf, signed, i64Of, lowercase, wordOf, toBool};
-ghost use Rattle.interpret.specs.Characters.{trail, rowOf, Taken};
-ghost use Rattle.interpret.specs.Readings.{magnitude, naturalIn, numberIn, truthIn};
-
-fn in_range(low: u8, high: u8, c: u8) -> bool
-    ensures { λ r. ⌜ r ≡ within low high c ⌝ }
-{
-    if low <= c { c <= high } else { false }
-}
-
-// ---- UTF-8
-
-// What a first byte says of the others: a byte from one to another, and then so many from 80 to BF.
-enum Lead {
-    Row(u8, u8, usize),
-    Nothing,
-}
-
-// The rows of Unicode's table 3-7 but the first, which is ASCII's.
-fn lead_of(c: u8) -> Lead
-    requires { ⌜ 128 ≤ c ⌝ }
-    ensures { λ r. ⌜ ((t : List ℕ) → firstRow table (c ∷ t) ≡ rowOf r t) ⌝ }
-{
-    match c {
-        0xC2..=0xDF => Lead::Row(0x80, 0xBF, 0),
-        0xE0 => Lead::Row(0xA0, 0xBF, 1),
-        0xE1..=0xEC => Lead::Row(0x80, 0xBF, 1),
-        0xED => Lead::Row(0x80, 0x9F, 1),
-        0xEE..=0xEF => Lead::Row(0x80, 0xBF, 1),
-        0xF0 => Lead::Row(0x90, 0xBF, 2),
-        0xF1..=0xF3 => Lead::Row(0x80, 0xBF, 2),
-        0xF4 => Lead::Row(0x80, 0x8F, 2),
-        _ => Lead::Nothing,
-    }
-}
-
-// Do `n` bytes from 80 to BF stand first?
-fn trails(text: &[u8], n: usize) -> bool
-    requires { ⌜ n ≤ length (now text) ⌝ }
-    ensures { λ r. ⌜ afterRow (replicate n trail) (now (text .entry)) ≡ (if r then some (drop n (now (text .entry))) else none) ⌝ }
-{
-    let mut i = 0;
-    while i < n {
-        if !in_range(0x80, 0xBF, text[i]) {
-            return false;
-        }
-        i += 1;
-    }
-    true
-}
-
-// How many bytes the first character has, 0 if none stands first.
-fn character_length(text: &[u8]) -> usize
-    requires { ⌜ 0 < length (now text) ⌝ }
-    ensures { λ r. ⌜ Taken (now (text .entry)) r ⌝ }
-{
-    let first = text[0];
-    if first < 0x80 {
-        return 1;
-    }
-    let row = lead_of(first);
-    let Lead::Row(low, high, more) = row else {
-        return 0;
-    };
-    if text.len() - 1 <= more {
-        return 0;
-    }
-    if !in_range(low, high, text[1]) {
-        return 0;
-    }
-    if !trails(&text[2..], more) {
-        return 0;
-    }
-    2 + more
-}
-
-pub fn is_utf8(text: &[u8]) -> bool
-    ensures { λ r. ⌜ r ≡ isUtf8 (now (text .entry)) ⌝ }
-{
-    let mut rest = text;
-    while rest.len() > 0 {
-        let n = character_length(rest);
-        if n == 0 {
-            return false;
-        }
-        rest = &rest[n..];
-    }
-    true
-}
+ghost use mathlib.Core.List.{[], _∷_, map};
+ghost use mathlib.Core.Option.{some};
+ghost use Prim.Native.Nat.{_≤_, _^_};
+ghost use Rattle.definition.specs.Lists.{any, same};
+ghost use Rattle.definition.specs.Value.{naturalOf, signed, i64Of, lowercase, wordOf, toBool};
+ghost use Rattle.interpret.specs.Readings.{magnitude, naturalIn, numberIn, booleanIn};
+use utf8::in_range;
 
 // ---- Numbers
 
@@ -188,7 +100,8 @@ pub fn parse_i64(text: &[u8]) -> Number
 
 // ---- Booleans
 
-pub enum Truth {
+// The word or the number that a value is: true, false, or neither.
+pub enum Boolean {
     True,
     False,
     Neither,
@@ -232,27 +145,27 @@ fn is_one_of(text: &[u8], a: &[u8], b: &[u8], c: &[u8]) -> bool
     is_word(text, c)
 }
 
-fn word_to_bool(text: &[u8]) -> Truth
-    ensures { λ r. ⌜ truthIn r ≡ wordOf (map lowercase (now (text .entry))) ⌝ }
+fn word_to_bool(text: &[u8]) -> Boolean
+    ensures { λ r. ⌜ booleanIn r ≡ wordOf (map lowercase (now (text .entry))) ⌝ }
 {
     if is_one_of(text, b"true", b"on", b"yes") {
-        return Truth::True;
+        return Boolean::True;
     }
     if is_one_of(text, b"false", b"off", b"no") {
-        return Truth::False;
+        return Boolean::False;
     }
-    Truth::Neither
+    Boolean::Neither
 }
 
-pub fn to_bool(text: &[u8]) -> Truth
-    ensures { λ r. ⌜ truthIn r ≡ toBool (now (text .entry)) ⌝ }
+pub fn to_bool(text: &[u8]) -> Boolean
+    ensures { λ r. ⌜ booleanIn r ≡ toBool (now (text .entry)) ⌝ }
 {
     let number = parse_i64(text);
     let Number::Is(z) = number else {
         return word_to_bool(text);
     };
     if z == 0 {
-        return Truth::False;
+        return Boolean::False;
     }
-    Truth::True
+    Boolean::True
 }

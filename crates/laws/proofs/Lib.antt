@@ -9,5 +9,6 @@ pub mod Reading
 pub mod Keys
 pub mod Image
 pub mod Ranking
+pub mod Ranks
 pub mod Lookup
 pub mod ThirdTerm

@@ -26,6 +26,7 @@ use Rattle.definition.specs.Matching.{
   meet,
   Ranks,
   Beats,
+  OneBeats,
 }
 use Rattle.definition.specs.Ranking.{meetRow, skipRow, rankOf, Best, noEntry, best, better, bestFrom, bestOf}
 use Rattle.laws.proofs.Lists.{
@@ -202,12 +203,16 @@ module _ (keys : List (List Part)) (qs : List Position) where
   pub best-none : bestOf keys qs ≡ noEntry → (j : ℕ) (row : List ℕ) → j < length keys → Aligned (getD keys j []) qs row → ⊥
   best-none e = rw e at best-is
 
-  pub some-beats : (j : ℕ) (row : List ℕ) → j < length keys → Aligned (getD keys j []) qs row → (i : ℕ) × Beats keys qs i
-  some-beats j row h a = at (bestOf keys qs) refl
+  pub one-beats : OneBeats keys qs
+  one-beats = record {
+    ifAny = λ j row h a. at j row h a (bestOf keys qs) refl;
+    elseNone = λ f i b. f i (b .row) (b .inside) (b .ranks .aligned);
+  }
     where
-      at : (b : Best) → bestOf keys qs ≡ b → (i : ℕ) × Beats keys qs i
-      at noEntry e = absurd (best-none e j row h a)
-      at (best i r) e = (i, best-beats i r e)
+      at : (j : ℕ) (row : List ℕ) → j < length keys → Aligned (getD keys j []) qs row → (b : Best) → bestOf keys qs ≡ b
+          → (i : ℕ) × Beats keys qs i × ((k : ℕ) → Beats keys qs k → k ≡ i)
+      at j row h a noEntry e = absurd (best-none e j row h a)
+      at j row h a (best i r) e = let w = best-beats i r e in (i, w, λ k b. beats-one k i b w)
 
   pub beats-best : (i : ℕ) → Beats keys qs i → (row : List ℕ) × (bestOf keys qs ≡ best i row)
   beats-best i b = at (bestOf keys qs) refl

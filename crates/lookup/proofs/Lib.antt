@@ -1,3 +1,2 @@
 -- Laws of the lookups.
 pub mod Looking
-pub mod Readings

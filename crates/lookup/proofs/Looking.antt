@@ -1,51 +1,59 @@
 -- The loop over the entries, and the tests before it. Assumes nothing.
-use mathlib.Core.Bool.{Bool, true, false, not, or-true}
-use mathlib.Core.List.{List, [], _∷_, map}
-use mathlib.Core.Option.{Option, some, none}
+use mathlib.Core.Bool.{Bool, true, false, not}
+use mathlib.Core.List.{List, [], _∷_}
+use mathlib.Core.Option.{Option, none}
 use mathlib.Core.Path.{_≡_, refl, sym, ap, _∙_}
-use Prim.Native.Nat.{ℕ, zero, suc, _+_, _-_, _*_, _≤_, _<_, max}
+use Prim.Native.Nat.{ℕ, suc, _+_, _-_, _≤_, _<_, max}
 use native.Mathlib.Numerals.{add-one}
 use native.Mathlib.Nat.{sub-zero}
 use native.Mathlib.Omega.{arith}
-use lib.Dec.{ltb}
 use lib.ListN.{length, getD, take, drop}
-use lib.Seq.{slice}
-use borrow.Author.Tests.{lt-ltb, le-ltb}
 use Rattle.definition.specs.Lists.{if_then_else_}
-use Rattle.definition.specs.Limits.{bodyBytes, queryBytes, queryParts, mostEntries}
-use Rattle.definition.specs.Text.{Part, Entry}
-use Rattle.definition.specs.Image.{Row, rowsFrom, rowsIn, countOf, usedOf, keyEnd, valueEnd, keyAt, keyParts, entriesIn, isKey, isImage}
-use Rattle.definition.specs.Query.{Position, Query, positions, malformed, pastLimit, positionsOf, namesOf, countedQuery, queryOf}
+use Rattle.definition.specs.Limits.{bodyBytes}
+use Rattle.definition.specs.Text.{Part}
+use Rattle.definition.specs.Image as image
+use Rattle.definition.specs.Image.{rowsFrom, rowsIn, countOf, keyEnd, valueEnd, keyAt, keyParts, entriesIn, isKey, isImage}
+use Rattle.definition.specs.Query.{Position, Query, positions, malformed, pastLimit, positionsOf, queryOf}
 use Rattle.definition.specs.Ranking.{Best, noEntry, best, rankOf, better, bestFrom, bestOf}
 use Rattle.definition.specs.Lookup.{keysOf, Reply, given, noValue, refused, Place, placeOf, lookup, getBytes}
-use Rattle.query.specs.Splits.{namesIn, Inside, GoodSplit, ManyNames, Answered}
+use Rattle.query.specs.Splits.{namesIn}
+use Rattle.query.specs.Shapes.{parsedNames, bothShapes, shaped}
+use Rattle.query.specs.declared.Names.{Names}
 use Rattle.query.specs.declared.Split.{Split}
 use Rattle.query.specs.declared.Shape.{Shape}
-use Rattle.query.specs.declared.Shape.the-variants.{Good, Malformed, Many}
-use Rattle.query.proofs.Splits.{length-names}
+use Rattle.query.proofs.Queries.{query-is}
 use Rattle.laws.proofs.Lists.{part-slice}
 use Rattle.laws.proofs.Ranking.{best-beats}
-use Rattle.matcher.specs.Rows.{rowIn, bestIn}
-use Rattle.matcher.specs.declared.Row.{Row as Marks}
-use Rattle.image_judge.specs.Rows.{rowAt}
-use Rattle.image_judge.proofs.Rows.{rowsLeft, rows-turn, row-is, count-rows}
-use Rattle.image_judge.proofs.Judged.{Judged, judged}
-use Rattle.lookup.specs.Replies.{bothShapes, Extends}
-use Rattle.lookup.specs.declared.Extent.{Extent}
+use Rattle.marks.specs.Rows.{marksOf, bestIn, winsOver}
+use Rattle.positions.specs.Spans.{queried}
+use Rattle.marks.specs.declared.Marks.{Marks}
+use Rattle.marks.proofs.Rows.{Long, rank-long, stands-row, wins-better}
+use Rattle.positions.proofs.Positions.{length-queried}
+use Rattle.image.specs.Rows.{rowStart, rowAt, rowsLeft, RowIs}
+use Rattle.image.specs.declared.Row.{Row}
+use Rattle.image.proofs.Rows.{rows-turn, row-is, count-rows}
+use Rattle.image_judge.proofs.Judged.{judged}
 
 -- ---- One entry
 
-module _ (len i at : ℕ) (r b : Marks) (o : Option (List ℕ)) where
+module _ (len i at : ℕ) (b : Marks) (o : Option (List ℕ)) where
   pub passed-over : o ≡ none → bestIn len at b ≡ better i o (bestIn len at b)
   unfolding better
   passed-over e = rw e refl
 
-  module _ (w : Bool) (row : rowIn len r ≡ o) (won : better i (rowIn len r) (bestIn len at b) ≡ (if w then bestIn len i r else bestIn len at b)) where
+  -- the row of that rank, as the code holds it, against the best so far
+  module _ (r : Marks) (row : r ≡ marksOf o) (long : Long len o) (n : ℕ) (z : n ≡ len) (w : Bool) (won : w ≡ winsOver n r b) where
+    decided : better i o (bestIn len at b) ≡ (if w then bestIn len i r else bestIn len at b)
+    decided = ap (λ (x : Option (List ℕ)). better i x (bestIn len at b)) (sym (stands-row len r o (record { is = row; long = long }))) ∙ rw (won, z) (wins-better len i at r b)
+
     pub takes-over : w ≡ true → bestIn len i r ≡ better i o (bestIn len at b)
-    takes-over e = sym (ap (λ (x : Option (List ℕ)). better i x (bestIn len at b)) (sym row) ∙ won ∙ rw e refl)
+    takes-over e = sym (decided ∙ rw e refl)
 
     pub stays : w ≡ false → bestIn len at b ≡ better i o (bestIn len at b)
-    stays e = sym (ap (λ (x : Option (List ℕ)). better i x (bestIn len at b)) (sym row) ∙ won ∙ rw e refl)
+    stays e = sym (decided ∙ rw e refl)
+
+pub queried-long : (ps : List Part) (t : List ℕ) (s : Split) (u : List ℕ) (c : Split) → Long (max (s .count) (c .count)) (rankOf ps (queried t s u c))
+queried-long ps t s u c = rw (length-queried t s u c) at (rank-long ps (queried t s u c))
 
 -- ---- The loop
 
@@ -61,9 +69,9 @@ module _ (contents bodies : List ℕ) (qs : List Position) where
     pub most : i ≤ countOf contents
     pub same : bestFrom (keysLeft i) qs i b ≡ bestOf keys qs
 
-  pub searching-first : Searching 0 noEntry
-  unfolding bestOf
-  searching-first = record { most = omega arith; same = rw (sub-zero (countOf contents)) refl }
+  pub searching-first : (len at : ℕ) (r : Marks) → r ≡ marksOf none → Searching 0 (bestIn len at r)
+  unfolding bestOf bestIn marksOf
+  searching-first len at r e = rw e (record { most = omega arith; same = rw (sub-zero (countOf contents)) refl })
 
   pub searching-more : (i : ℕ) (b b′ : Best) → Searching i b → i < countOf contents
       → b′ ≡ better i (rankOf (keyParts (keyAt bodies (rowAt contents i))) qs) b → Searching (i + 1) b′
@@ -73,18 +81,19 @@ module _ (contents bodies : List ℕ) (qs : List Position) where
     same = sym (sym (s .same) ∙ rw (rows-turn contents (countOf contents) i h, add-one i, e) refl);
   }
 
-  pub searching-done : (i : ℕ) (b : Best) → Searching i b → countOf contents ≤ i → bestOf keys qs ≡ b
-  unfolding bestFrom rowsFrom entriesIn
-  searching-done i b s h =
-      let e : countOf contents - i ≡ 0 = omega arith in
-      sym (s .same) ∙ rw e refl
-
-  keys-long : (rows : List Row) → length (keysOf (entriesIn rows bodies)) ≡ length rows
+  keys-long : (rows : List image.Row) → length (keysOf (entriesIn rows bodies)) ≡ length rows
   unfolding entriesIn
   keys-long [] = refl
   keys-long (r ∷ rows) = ap suc (keys-long rows)
 
-  module _ (len at : ℕ) (r : Marks) (won : bestOf keys qs ≡ bestIn len at r) where
+  -- past the last entry
+  module _ (i len at : ℕ) (r : Marks) (s : Searching i (bestIn len at r)) (h : countOf contents ≤ i) where
+    won : bestOf keys qs ≡ bestIn len at r
+    unfolding bestFrom rowsFrom entriesIn
+    won =
+        let e : countOf contents - i ≡ 0 = omega arith in
+        sym (s .same) ∙ rw e refl
+
     pub finds-none : r .live ≡ false → noValue ≡ lookup contents bodies (positions qs)
     unfolding lookup placeOf bestIn
     finds-none e = rw (won, e) refl
@@ -103,68 +112,6 @@ module _ (contents bodies : List ℕ) (qs : List Position) where
     unfolding lookup placeOf
     finds e = rw (is-best e, row-is contents at (record { start = 0; keyLength = 0; valueLength = 0 }) (best-inside e)) refl
 
--- ---- The query
-
-module _ (name class : List ℕ) where
-  pub query-long : queryBytes < length name → queryOf name class ≡ pastLimit 9
-  unfolding queryOf
-  query-long h = rw (lt-ltb queryBytes (length name) h) refl
-
-  module _ (hn : length name ≤ queryBytes) where
-    pub class-long : queryBytes < length class → queryOf name class ≡ pastLimit 9
-    unfolding queryOf
-    class-long h = rw (le-ltb queryBytes (length name) hn, lt-ltb queryBytes (length class) h) refl
-
-    module _ (hc : length class ≤ queryBytes) where
-      counted : queryOf name class ≡ countedQuery (namesOf name) (namesOf class)
-      unfolding queryOf
-      counted = rw (le-ltb queryBytes (length name) hn, le-ltb queryBytes (length class) hc) refl
-
-      pub query-malformed : (sn sc : Split) (a b : Shape) → Answered name a sn → Answered class b sc → Malformed ≡ bothShapes a b → queryOf name class ≡ malformed
-      unfolding countedQuery
-      query-malformed sn sc Malformed b p q e = counted ∙ rw p refl
-      query-malformed sn sc Many Malformed p q e = counted ∙ rw (p .all, q) refl
-      query-malformed sn sc Many Many p q e = absurd (let z : _≡_ {A = ℕ} 0 1 = cc in omega arith)
-      query-malformed sn sc Many Good p q e = absurd (let z : _≡_ {A = ℕ} 0 1 = cc in omega arith)
-      query-malformed sn sc Good Malformed p q e = counted ∙ rw (p .names, q) refl
-      query-malformed sn sc Good Many p q e = absurd (let z : _≡_ {A = ℕ} 0 1 = cc in omega arith)
-      query-malformed sn sc Good Good p q e = absurd (let z : _≡_ {A = ℕ} 0 1 = cc in omega arith)
-
-      -- too many parts in one of the two
-      many-first : (ns cs : List (List ℕ)) → namesOf name ≡ some ns → namesOf class ≡ some cs → queryParts < length ns → queryOf name class ≡ pastLimit 10
-      unfolding countedQuery
-      many-first ns cs p q h = counted ∙ rw (p, q, lt-ltb queryParts (length ns) h) refl
-
-      many-second : (ns cs : List (List ℕ)) → namesOf name ≡ some ns → namesOf class ≡ some cs → queryParts < length cs → queryOf name class ≡ pastLimit 10
-      unfolding countedQuery
-      many-second ns cs p q h = counted ∙ rw (p, q, lt-ltb queryParts (length cs) h, or-true (ltb queryParts (length ns))) refl
-
-      pub query-many : (sn sc : Split) (a b : Shape) → Answered name a sn → Answered class b sc → Many ≡ bothShapes a b → queryOf name class ≡ pastLimit 10
-      query-many sn sc Malformed b p q e = absurd (let z : _≡_ {A = ℕ} 0 1 = cc in omega arith)
-      query-many sn sc Many Malformed p q e = absurd (let z : _≡_ {A = ℕ} 0 1 = cc in omega arith)
-      query-many sn sc Many Many p q e = many-first (p .names) (q .names) (p .all) (q .all) (p .many)
-      query-many sn sc Many Good p q e = many-first (p .names) (namesIn class sc) (p .all) (q .names) (p .many)
-      query-many sn sc Good Malformed p q e = absurd (let z : _≡_ {A = ℕ} 0 1 = cc in omega arith)
-      query-many sn sc Good Many p q e = many-second (namesIn name sn) (q .names) (p .names) (q .all) (q .many)
-      query-many sn sc Good Good p q e = absurd (let z : _≡_ {A = ℕ} 0 1 = cc in omega arith)
-
-      -- both are good
-      pub both-good : (sn sc : Split) (a b : Shape) → Answered name a sn → Answered class b sc → Good ≡ bothShapes a b → GoodSplit name sn × GoodSplit class sc
-      both-good sn sc Malformed b p q e = absurd (let z : _≡_ {A = ℕ} 0 1 = cc in omega arith)
-      both-good sn sc Many Malformed p q e = absurd (let z : _≡_ {A = ℕ} 0 1 = cc in omega arith)
-      both-good sn sc Many Many p q e = absurd (let z : _≡_ {A = ℕ} 0 1 = cc in omega arith)
-      both-good sn sc Many Good p q e = absurd (let z : _≡_ {A = ℕ} 0 1 = cc in omega arith)
-      both-good sn sc Good Malformed p q e = absurd (let z : _≡_ {A = ℕ} 0 1 = cc in omega arith)
-      both-good sn sc Good Many p q e = absurd (let z : _≡_ {A = ℕ} 0 1 = cc in omega arith)
-      both-good sn sc Good Good p q e = (p, q)
-
-      pub query-good : (sn sc : Split) → GoodSplit name sn → GoodSplit class sc → queryOf name class ≡ positions (positionsOf (namesIn name sn) (namesIn class sc))
-      unfolding countedQuery
-      query-good sn sc p q =
-          let n : length (namesIn name sn) ≤ queryParts = omega (arith, length-names name sn, p .inside .few) in
-          let c : length (namesIn class sc) ≤ queryParts = omega (arith, length-names class sc, q .inside .few) in
-          counted ∙ rw (p .names, q .names, le-ltb queryParts (length (namesIn name sn)) n, le-ltb queryParts (length (namesIn class sc)) c) refl
-
 -- ---- The call
 
 module _ (contents bodies name class : List ℕ) where
@@ -172,49 +119,39 @@ module _ (contents bodies name class : List ℕ) where
   unfolding getBytes
   no-image e = rw e refl
 
-  module _ (e : isImage contents bodies ≡ true) where
-    looked : (q : Query) → queryOf name class ≡ q → getBytes contents bodies name class ≡ lookup contents bodies q
+  pub past : isImage contents bodies ≡ true → (k : ℕ) → queryOf name class ≡ pastLimit k → refused k ≡ getBytes contents bodies name class
+  unfolding getBytes lookup
+  past e k f = rw (e, f) refl
+
+  module _ (e : isImage contents bodies ≡ true) (n c : Names) (p : n ≡ parsedNames name) (q : c ≡ parsedNames class) where
+    -- what the shape of both decides
+    pub by-shape : (s : Shape) → s ≡ bothShapes (n .shape) (c .shape)
+        → lookup contents bodies (shaped s (positionsOf (namesIn name (n .split)) (namesIn class (c .split)))) ≡ getBytes contents bodies name class
     unfolding getBytes
-    looked q f = rw (e, f) refl
+    by-shape s f = sym (rw (e, query-is name class n c p q, f) refl)
 
-    pub past : (k : ℕ) → queryOf name class ≡ pastLimit k → refused k ≡ getBytes contents bodies name class
-    unfolding lookup
-    past k f = sym (looked (pastLimit k) f)
+-- ---- The key and the value of a row, as the code takes them
 
-    pub none-found : queryOf name class ≡ malformed → noValue ≡ getBytes contents bodies name class
-    unfolding lookup
-    none-found f = sym (looked malformed f)
-
-    pub well-formed : (qs : List Position) (r : Reply Place) → queryOf name class ≡ positions qs → r ≡ lookup contents bodies (positions qs)
-        → r ≡ getBytes contents bodies name class
-    well-formed qs r f g = g ∙ sym (looked (positions qs) f)
-
--- ---- The key of a row, as the code takes it
-
-module _ (contents bodies : List ℕ) (i : ℕ) (x : Extent) (e : Extends contents i x) where
-  pub key-part : take (x .value - x .key) (drop (x .key) bodies) ≡ keyAt bodies (rowAt contents i)
-  key-part = rw (e .key, e .value) (part-slice bodies (rowAt contents i .start) (keyEnd (rowAt contents i)))
+module _ (contents bodies : List ℕ) (i : ℕ) (r : Row) (e : RowIs contents i r) where
+  pub key-part : take (r .start + r .key - r .start) (drop (r .start) bodies) ≡ keyAt bodies (rowAt contents i)
+  key-part = part-slice bodies (r .start) (r .start + r .key) ∙ ap (keyAt bodies) (e .is)
 
   module _ (image : isImage contents bodies ≡ true) (h : i < countOf contents) where
-    pub key-within : x .value ≤ length bodies
+    pub key-within : r .start + r .key ≤ length bodies
     key-within =
         let j = judged contents bodies image in
-        omega (arith, e .value, j .row-inside i h, j .used-most, j .bodies-long)
+        let v : r .start + r .key + r .value ≡ valueEnd (rowAt contents i) = ap valueEnd (e .is) in
+        omega (arith, v, j .row-inside i h, j .used-most, j .bodies-long)
 
-    pub key-ordered : x .key ≤ x .value
-    key-ordered = omega (arith, e .key, e .value)
-
-    pub key-is : isKey (take (x .value - x .key) (drop (x .key) bodies)) ≡ true
+    pub key-is : isKey (take (r .start + r .key - r .start) (drop (r .start) bodies)) ≡ true
     key-is = rw key-part (judged contents bodies image .row-key i h)
 
   -- the answer from the row of the best entry
-  pub found-is : _≡_ {A = Reply Place} (given (record { start = x .value; length = x .size })) (given (record { start = keyEnd (rowAt contents i); length = rowAt contents i .valueLength }))
-  found-is = rw (e .value, e .size) refl
+  pub found-is : _≡_ {A = Reply Place} (given (record { start = r .start + r .key; length = r .value })) (given (record { start = keyEnd (rowAt contents i); length = rowAt contents i .valueLength }))
+  found-is = ap (λ (x : image.Row). given (record { start = keyEnd x; length = x .valueLength })) (e .is)
 
-pub rows-inside : (contents bodies : List ℕ) (i : ℕ) → isImage contents bodies ≡ true → i < countOf contents → (i < mostEntries) × (2 + 3 * i + 2 < length contents)
-rows-inside contents bodies i image h =
-    let j = judged contents bodies image in
-    (omega (arith, j .count-most), omega (arith, j .rows-within))
+pub rows-inside : (contents bodies : List ℕ) (i : ℕ) → isImage contents bodies ≡ true → i < countOf contents → rowStart (i + 1) ≤ length contents
+rows-inside contents bodies i image h = omega (arith, judged contents bodies image .rows-within)
 
 -- ---- A value that is found lies in the bodies that an image has
 

@@ -1,32 +1,27 @@
 // Lookups: `match_entry` and `Database::get_bytes` of the Rust.
 ghost use mathlib.Core.Path.{_≡_};
 ghost use mathlib.Core.Bool.{true};
-ghost use Prim.Native.Nat.{_+_, _-_, _*_, _<_, max};
-ghost use lib.ListN.{length};
-ghost use Rattle.definition.specs.Limits.{mostEntries};
+ghost use Prim.Native.Nat.{max};
 ghost use Rattle.definition.specs.Image.{keyParts, isKey, isImage};
-ghost use Rattle.definition.specs.Query.{positions, positionsOf};
+ghost use Rattle.definition.specs.Query.{positions};
 ghost use Rattle.definition.specs.Ranking.{rankOf, better};
 ghost use Rattle.definition.specs.Lookup.{lookup, getBytes};
-ghost use Rattle.definition.specs.Value.{getString, getBool, getValue, shown};
-ghost use Rattle.query.specs.Splits.{namesIn, Inside};
-ghost use Rattle.matcher.specs.Rows.{bestIn};
-ghost use Rattle.lookup.specs.Replies.{replied, truthReplied, valueReplied, bothShapes, Extends};
+ghost use Rattle.query.specs.Splits.{Inside};
+ghost use Rattle.marks.specs.Rows.{bestIn};
+ghost use Rattle.positions.specs.Spans.{queried};
+ghost use Rattle.lookup.specs.Replies.{replied};
+use image::row_at;
 use image_judge::is_image;
-use interpret::Number;
-use interpret::is_utf8;
-use interpret::parse_i64;
-use interpret::to_bool;
-use matcher::Row;
-use matcher::last_part;
-use matcher::longer;
+use key_end::may_match;
+use marks::Marks;
+use marks::no_row;
+use marks::wins;
 use matcher::match_key;
-use matcher::may_match;
-use matcher::wins;
-use query::QUERY_BYTES;
-use query::QUERY_PARTS;
+use positions::last_part;
+use positions::longer;
 use query::Shape;
 use query::Split;
+use query::both;
 use query::parse_query;
 
 // What a lookup answers: the value's place in the bodies and its length, none, or the number that refuses it.
@@ -38,7 +33,7 @@ pub enum Lookup {
 
 // The entry that beats those passed so far, if its row is there.
 struct Best {
-    row: Row,
+    marks: Marks,
     entry: usize,
 }
 
@@ -53,33 +48,15 @@ fn consider(
     best: Best,
 ) -> Best
     requires { ⌜ (isKey (now key) ≡ true) × Inside (now name) names × Inside (now class) classes ⌝ }
-    ensures { λ r. ⌜ bestIn (max (names .count) (classes .count)) (r .entry) (r .row) ≡ better entry (rankOf (keyParts (now (key .entry))) (positionsOf (namesIn (now (name .entry)) names) (namesIn (now (class .entry)) classes))) (bestIn (max (names .count) (classes .count)) (best .entry) (best .row)) ⌝ }
+    ensures { λ r. ⌜ bestIn (max (names .count) (classes .count)) (r .entry) (r .marks) ≡ better entry (rankOf (keyParts (now (key .entry))) (queried (now (name .entry)) names (now (class .entry)) classes)) (bestIn (max (names .count) (classes .count)) (best .entry) (best .marks)) ⌝ }
 {
-    let row = match_key(key, name, names, class, classes);
+    let marks = match_key(key, name, names, class, classes);
     let len = longer(names.count, classes.count);
-    let other = best.row;
-    if wins(row, other, len) {
-        return Best { row, entry };
+    let other = best.marks;
+    if wins(marks, other, len) {
+        return Best { marks, entry };
     }
     best
-}
-
-// A row of the contents: where the key starts, where the value starts, and the value's length.
-struct Extent {
-    key: usize,
-    value: usize,
-    size: usize,
-}
-
-fn extent_of(contents: &[u16], i: usize) -> Extent
-    requires { ⌜ (i < mostEntries) × (2 + 3 * i + 2 < length (now contents)) ⌝ }
-    ensures { λ r. ⌜ Extends (now (contents .entry)) i r ⌝ }
-{
-    let at = 2 + 3 * i;
-    let key = contents[at] as usize;
-    let value = key + contents[at + 1] as usize;
-    let size = contents[at + 2] as usize;
-    Extent { key, value, size }
 }
 
 // The value of the entry that beats the rest.
@@ -92,24 +69,22 @@ fn match_entry(
     classes: Split,
 ) -> Lookup
     requires { ⌜ (isImage (now contents) (now bodies) ≡ true) × Inside (now name) names × Inside (now class) classes ⌝ }
-    ensures { λ r. ⌜ replied r ≡ lookup (now (contents .entry)) (now (bodies .entry)) (positions (positionsOf (namesIn (now (name .entry)) names) (namesIn (now (class .entry)) classes))) ⌝ }
+    ensures { λ r. ⌜ replied r ≡ lookup (now (contents .entry)) (now (bodies .entry)) (positions (queried (now (name .entry)) names (now (class .entry)) classes)) ⌝ }
 {
     let count = contents[0] as usize;
     let len = longer(names.count, classes.count);
     let n = last_part(names, len);
     let c = last_part(classes, len);
+    let none = no_row();
     let mut best = Best {
-        row: Row {
-            live: false,
-            marks: [0; QUERY_PARTS],
-        },
+        marks: none,
         entry: 0,
     };
     let mut i = 0;
     while i < count {
-        let here = extent_of(contents, i);
-        let start = here.key;
-        let end = here.value;
+        let row = row_at(contents, i);
+        let start = row.start;
+        let end = start + row.key;
         let key = &bodies[start..end];
         // Few keys end as the query does. For the others nothing is copied.
         if may_match(key, name, n, class, c) {
@@ -117,28 +92,13 @@ fn match_entry(
         }
         i += 1;
     }
-    let row = best.row;
+    let marks = best.marks;
     let entry = best.entry;
-    if !row.live {
+    if !marks.live {
         return Lookup::Nothing;
     }
-    let found = extent_of(contents, entry);
-    Lookup::Found(found.value, found.size)
-}
-
-// Malformed comes before too many parts.
-fn both(a: Shape, b: Shape) -> Shape
-    ensures { λ r. ⌜ r ≡ bothShapes a b ⌝ }
-{
-    match a {
-        Shape::Malformed => Shape::Malformed,
-        Shape::Many => match b {
-            Shape::Malformed => Shape::Malformed,
-            Shape::Many => Shape::Many,
-            Shape::Good => Shape::Many,
-        },
-        Shape::Good => b,
-    }
+    let row = row_at(contents, entry);
+    Lookup::Found(row.start + row.key, row.value)
 }
 
 // The value that a query gets from a database image: 8, 9, malformed, 10.
@@ -148,18 +108,13 @@ pub fn get_bytes(contents: &[u16], bodies: &[u8], name: &[u8], class: &[u8]) -> 
     if !is_image(contents, bodies) {
         return Lookup::Refused(8);
     }
-    if name.len() > QUERY_BYTES {
-        return Lookup::Refused(9);
-    }
-    if class.len() > QUERY_BYTES {
-        return Lookup::Refused(9);
-    }
     let instances = parse_query(name);
     let classes = parse_query(class);
     let a = instances.shape;
     let b = classes.shape;
     let shape = both(a, b);
     match shape {
+        Shape::Long => Lookup::Refused(9),
         Shape::Malformed => Lookup::Nothing,
         Shape::Many => Lookup::Refused(10),
         Shape::Good => {
@@ -167,90 +122,5 @@ pub fn get_bytes(contents: &[u16], bodies: &[u8], name: &[u8], class: &[u8]) -> 
             let c = classes.split;
             match_entry(contents, bodies, name, n, class, c)
         }
-    }
-}
-
-// The value's place if it is well-formed UTF-8.
-pub fn get_string(contents: &[u16], bodies: &[u8], name: &[u8], class: &[u8]) -> Lookup
-    ensures { λ r. ⌜ replied r ≡ getString (now (contents .entry)) (now (bodies .entry)) (now (name .entry)) (now (class .entry)) ⌝ }
-{
-    let found = get_bytes(contents, bodies, name, class);
-    match found {
-        Lookup::Refused(k) => Lookup::Refused(k),
-        Lookup::Nothing => Lookup::Nothing,
-        Lookup::Found(place, size) => {
-            if is_utf8(&bodies[place..place + size]) {
-                return Lookup::Found(place, size);
-            }
-            Lookup::Nothing
-        }
-    }
-}
-
-// What a lookup of a boolean answers.
-pub enum Truth {
-    Is(bool),
-    Nothing,
-    Refused(u8),
-}
-
-pub fn get_bool(contents: &[u16], bodies: &[u8], name: &[u8], class: &[u8]) -> Truth
-    ensures { λ r. ⌜ truthReplied r ≡ getBool (now (contents .entry)) (now (bodies .entry)) (now (name .entry)) (now (class .entry)) ⌝ }
-{
-    let found = get_string(contents, bodies, name, class);
-    match found {
-        Lookup::Refused(k) => Truth::Refused(k),
-        Lookup::Nothing => Truth::Nothing,
-        Lookup::Found(place, size) => {
-            let truth = to_bool(&bodies[place..place + size]);
-            match truth {
-                interpret::Truth::True => Truth::Is(true),
-                interpret::Truth::False => Truth::Is(false),
-                interpret::Truth::Neither => Truth::Nothing,
-            }
-        }
-    }
-}
-
-// What a lookup of a number answers.
-pub enum Value {
-    Is(i64),
-    NotANumber,
-    Nothing,
-    Refused(u8),
-}
-
-pub fn get_value(contents: &[u16], bodies: &[u8], name: &[u8], class: &[u8]) -> Value
-    ensures { λ r. ⌜ valueReplied r ≡ getValue (now (contents .entry)) (now (bodies .entry)) (now (name .entry)) (now (class .entry)) ⌝ }
-{
-    let found = get_string(contents, bodies, name, class);
-    match found {
-        Lookup::Refused(k) => Value::Refused(k),
-        Lookup::Nothing => Value::Nothing,
-        Lookup::Found(place, size) => {
-            let number = parse_i64(&bodies[place..place + size]);
-            match number {
-                Number::Is(n) => Value::Is(n),
-                Number::NotANumber => Value::NotANumber,
-            }
-        }
-    }
-}
-
-// The value's bytes, or else the default's: a part of one of the two.
-pub fn show<'a>(
-    contents: &[u16],
-    bodies: &'a [u8],
-    name: &[u8],
-    class: &[u8],
-    default: &'a [u8],
-) -> &'a [u8]
-    ensures { λ r. ⌜ now r ≡ shown (now (contents .entry)) (now (bodies .entry)) (now (name .entry)) (now (class .entry)) (now (default .entry)) ⌝ }
-{
-    let found = get_bytes(contents, bodies, name, class);
-    match found {
-        Lookup::Refused(_) => default,
-        Lookup::Nothing => default,
-        Lookup::Found(place, size) => &bodies[place..place + size],
     }
 }

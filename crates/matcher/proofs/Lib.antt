@@ -1,10 +1,3 @@
 -- The mathematics behind the proofs of the code.
-pub mod Rows
 pub mod Reached
-pub mod Bindings
-pub mod Marks
-pub mod Keys
-pub mod Splitting
-pub mod Positions
 pub mod Walking
-pub mod Ends

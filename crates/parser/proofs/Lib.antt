@@ -1,4 +1,2 @@
--- Laws of the parser.
-pub mod Directives
-pub mod Resources
+-- Laws of the entries.
 pub mod Entries

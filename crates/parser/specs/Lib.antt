@@ -1,3 +1,2 @@
--- What the contracts of the parser cite beside the definition.
-pub mod Lined
+-- What the contract of an entry cites beside the definition.
 pub mod Putting

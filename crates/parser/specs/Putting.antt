@@ -1,12 +1,13 @@
 -- What the code's answer on an entry says.
 use mathlib.Core.List.{List, flatten}
 use mathlib.Core.Path.{_≡_}
-use Prim.Native.Nat.{ℕ, _≤_}
+use Prim.Native.Nat.{ℕ, _-_, _≤_}
 use lib.ListN.{length, drop}
 use Rattle.definition.specs.Text.{Entry, pieces}
-use Rattle.image.specs.Running.{World, world, went, stopped, put}
+use Rattle.definition.specs.Image.{keyOf}
+use Rattle.image.specs.Running.{World, world, Room, went, stopped, put}
 use Rattle.image.specs.declared.Totals.{Totals}
-use Rattle.parser.specs.Lined.{partsOf}
+use Rattle.components.specs.Parts.{partsOf}
 use Rattle.parser.specs.declared.Put.{Put}
 use Rattle.parser.specs.declared.Put.the-variants.{Done, Stop}
 
@@ -14,12 +15,22 @@ use Rattle.parser.specs.declared.Put.the-variants.{Done, Stop}
 abbrev pub entryFrom : List ℕ → ℕ → Entry
 entryFrom t v = record { parts = partsOf t; value = flatten (pieces (drop v t) .items) }
 
+-- what storing the entry of t asks: its parts and the length of its key are counted, and there is room for the totals
+pub record Asked (t : List ℕ) (v count size : ℕ) (s : Totals) (words bytes : List ℕ) : Type 0 where
+  pub inside : v ≤ length t
+  pub parts : count ≡ length (partsOf t)
+  pub key : size ≡ length (keyOf (partsOf t))
+  pub room : Room s words bytes
+
+-- where the line after it begins
+abbrev pub lineAfter : List ℕ → ℕ → ℕ
+lineAfter t v = length t - length (drop 1 (pieces (drop v t) .rest))
+
 -- the entry is stored, and the next line starts at n
 pub record Puts (t : List ℕ) (v : ℕ) (w : World) (words bytes : List ℕ) (n : ℕ) (s : Totals) : Type 0 where
   pub is : put w (entryFrom t v) ≡ went (world s words bytes)
-  pub next : drop n t ≡ drop 1 (pieces (drop v t) .rest)
-  pub inside : n ≤ length t
+  pub next : n ≡ lineAfter t v
 
 abbrev pub Putting : List ℕ → ℕ → World → List ℕ → List ℕ → Put → Type 0
 Putting t v w words bytes (Done n s) = Puts t v w words bytes n s
-Putting t v w words bytes (Stop k) = put w (entryFrom t v) ≡ stopped k
+Putting t v w words bytes (Stop k) = put w (entryFrom t v) ≡ stopped k words bytes

@@ -1,2 +1,3 @@
--- What the code's structs and answers say of a query's text.
+-- What a split stands for in its text, and what a text's parse is.
 pub mod Splits
+pub mod Shapes

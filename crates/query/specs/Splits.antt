@@ -1,14 +1,38 @@
--- What a split stands for in its text.
-use mathlib.Core.List.{List, [], _∷_}
-use mathlib.Core.Option.{some, none}
-use mathlib.Core.Path.{_≡_}
-use Prim.Native.Nat.{ℕ, zero, suc, _+_, _≤_, _<_}
+-- Where the parts of a text stand in it.
+use mathlib.Core.Bool.{Bool, false, _&&_, not}
+use mathlib.Core.List.{List, [], _∷_, _++_, map}
+use Prim.Native.Nat.{ℕ, zero, suc, _+_, _-_, _≤_, _<_}
 use lib.ListN.{length, getD, take, drop}
+use Rattle.definition.specs.Lists.{if_then_else_, takeWhile, zeroes}
 use Rattle.definition.specs.Limits.{queryParts}
-use Rattle.definition.specs.Query.{namesOf}
+use Rattle.definition.specs.Bytes.{isName}
 use Rattle.query.specs.declared.Split.{Split}
-use Rattle.query.specs.declared.Shape.{Shape}
-use Rattle.query.specs.declared.Shape.the-variants.{Good, Malformed, Many}
+
+-- ---- A split, from a text
+
+-- where the parts of t begin, which stands at `at`: a byte of a name begins one, if none stands before it
+unfoldable pub startsFrom : Bool → ℕ → List ℕ → List ℕ
+startsFrom named at [] = []
+startsFrom named at (c ∷ t) = (if isName c && not named then at ∷ [] else []) ++ startsFrom (isName c) (at + 1) t
+
+abbrev pub partStarts : List ℕ → List ℕ
+partStarts t = startsFrom false 0 t
+
+-- the part that begins at `at`
+abbrev pub nameFrom : List ℕ → ℕ → List ℕ
+nameFrom t at = takeWhile isName (drop at t)
+
+unfoldable pub padded : List ℕ → List ℕ
+padded xs = xs ++ zeroes (queryParts - length xs)
+
+-- parts that begin there
+unfoldable pub splitAt : List ℕ → List ℕ → Split
+splitAt t starts = record { starts = padded starts; lengths = padded (map (λ at. length (nameFrom t at)) starts); count = length starts }
+
+abbrev pub noParts : Split
+noParts = record { starts = zeroes queryParts; lengths = zeroes queryParts; count = 0 }
+
+-- ---- What a split stands for
 
 -- f 0, f 1 and so on, n of them
 unfoldable pub each : {A : Type 0} → ℕ → (ℕ → A) → List A
@@ -25,19 +49,3 @@ namesIn text split = each (split .count) (partIn text split)
 pub record Inside (text : List ℕ) (split : Split) : Type 0 where
   pub few : split .count ≤ queryParts
   pub within : (i : ℕ) → i < split .count → getD (split .starts) i 0 + getD (split .lengths) i 0 ≤ length text
-
--- ---- What the code answers
-
-pub record GoodSplit (text : List ℕ) (split : Split) : Type 0 where
-  pub names : namesOf text ≡ some (namesIn text split)
-  pub inside : Inside text split
-
-pub record ManyNames (text : List ℕ) : Type 0 where
-  pub names : List (List ℕ)
-  pub all : namesOf text ≡ some names
-  pub many : queryParts < length names
-
-abbrev pub Answered : List ℕ → Shape → Split → Type 0
-Answered text Good split = GoodSplit text split
-Answered text Malformed split = namesOf text ≡ none
-Answered text Many split = ManyNames text

@@ -1,61 +1,58 @@
 // A query's text split into its names: the Rust's `parse_query`.
 ghost use mathlib.Core.Path.{_≡_};
-ghost use Prim.Native.Nat.{_≤_};
-ghost use lib.Dec.{eqb};
-ghost use lib.ListN.{length};
-ghost use Rattle.definition.specs.Lists.{dropWhile};
-ghost use Rattle.definition.specs.Limits.{queryBytes};
-ghost use Rattle.definition.specs.Bytes.{dot};
-ghost use Rattle.query.specs.Splits.{Answered};
+ghost use Rattle.query.specs.Splits.{noParts};
+ghost use Rattle.query.specs.Shapes.{parsedNames, bothShapes};
+use limits::QUERY_BYTES;
+use limits::QUERY_PARTS;
 use scan::next_component;
+use scan::skip_byte;
 
-// The most bytes and parts of a query's name or class.
-pub const QUERY_BYTES: usize = 1024;
-
-pub const QUERY_PARTS: usize = 32;
-
-// A query's parts in its text: where each starts and how long it is.
+// A text's parts: where each starts and how long it is. Past them all is 0.
 pub struct Split {
     pub starts: [u16; QUERY_PARTS],
     pub lengths: [u16; QUERY_PARTS],
     pub count: usize,
 }
 
+// Whether a text is names, no more and no longer than a query's may be.
 pub enum Shape {
     Good,
     Malformed,
     Many,
+    Long,
 }
 
 // An enum may not hold an array, so the shape stands beside the parts.
-pub struct Query {
+pub struct Names {
     pub shape: Shape,
     pub split: Split,
 }
 
-fn skip_dots(text: &[u8]) -> &[u8]
-    ensures { λ r. ⌜ now r ≡ dropWhile (eqb dot) (now (text .entry)) ⌝ }
+fn no_parts() -> Split
+    ensures { λ r. ⌜ r ≡ noParts ⌝ }
 {
-    let mut rest = text;
-    while rest.len() > 0 {
-        if rest[0] != b'.' {
-            return rest;
-        }
-        rest = &rest[1..];
-    }
-    rest
-}
-
-// Parts past the most are counted and not kept: what is malformed after them is malformed all the same.
-pub fn parse_query(text: &[u8]) -> Query
-    requires { ⌜ length (now text) ≤ queryBytes ⌝ }
-    ensures { λ r. ⌜ Answered (now (text .entry)) (r .shape) (r .split) ⌝ }
-{
-    let mut split = Split {
+    Split {
         starts: [0; QUERY_PARTS],
         lengths: [0; QUERY_PARTS],
         count: 0,
-    };
+    }
+}
+
+fn no_names(shape: Shape) -> Names
+    ensures { λ r. ⌜ r ≡ record { shape = shape; split = noParts } ⌝ }
+{
+    let split = no_parts();
+    Names { shape, split }
+}
+
+// Parts past the most are counted and not kept: what is malformed after them is malformed all the same.
+pub fn parse_query(text: &[u8]) -> Names
+    ensures { λ r. ⌜ r ≡ parsedNames (now (text .entry)) ⌝ }
+{
+    if text.len() > QUERY_BYTES {
+        return no_names(Shape::Long);
+    }
+    let mut split = no_parts();
     let mut rest = text;
     loop {
         let n = next_component(rest);
@@ -68,22 +65,38 @@ pub fn parse_query(text: &[u8]) -> Query
             split.lengths[count] = n as u16;
         }
         split.count = count + 1;
-        rest = skip_dots(&rest[n..]);
+        rest = skip_byte(&rest[n..], b'.');
     }
     if rest.len() > 0 {
-        return Query {
-            shape: Shape::Malformed,
-            split: split,
-        };
+        return no_names(Shape::Malformed);
     }
     if QUERY_PARTS < split.count {
-        return Query {
-            shape: Shape::Many,
-            split: split,
-        };
+        return no_names(Shape::Many);
     }
-    Query {
+    Names {
         shape: Shape::Good,
         split: split,
+    }
+}
+
+// Of name and class: number 9 comes before malformed, and malformed before number 10.
+pub fn both(a: Shape, b: Shape) -> Shape
+    ensures { λ r. ⌜ r ≡ bothShapes a b ⌝ }
+{
+    match a {
+        Shape::Long => Shape::Long,
+        Shape::Malformed => match b {
+            Shape::Long => Shape::Long,
+            Shape::Malformed => Shape::Malformed,
+            Shape::Many => Shape::Malformed,
+            Shape::Good => Shape::Malformed,
+        },
+        Shape::Many => match b {
+            Shape::Long => Shape::Long,
+            Shape::Malformed => Shape::Malformed,
+            Shape::Many => Shape::Many,
+            Shape::Good => Shape::Many,
+        },
+        Shape::Good => b,
     }
 }

@@ -1,5 +1,2 @@
--- Laws of the reading.
-pub mod Lines
-pub mod Opening
-pub mod Loop
-pub mod Finish
+-- Laws of the reading call.
+pub mod Finishing

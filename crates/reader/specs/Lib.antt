@@ -1,3 +1,2 @@
--- What the contracts of the reading cite beside the definition.
-pub mod Texts
+-- What the contracts of the reading call cite beside the definition.
 pub mod Said

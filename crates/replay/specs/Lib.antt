@@ -1,3 +1,2 @@
 -- What the contracts of the replay cite.
-pub mod Fields
 pub mod Files

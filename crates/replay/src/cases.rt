@@ -1,23 +1,33 @@
 // One recorded line: the reading or the lookup is asked again, and what it gives is compared.
 ghost use mathlib.Core.Path.{_≡_};
-ghost use Prim.Native.Nat.{_≤_, _<_};
+ghost use Prim.Native.Nat.{_≤_};
 ghost use lib.ListN.{length};
-use crate::fields::Taken;
+ghost use Rattle.definition.specs.Limits.{contentsWords};
+ghost use Rattle.image.specs.Rows.{InWords};
 use crate::fields::pass_bytes;
 use crate::fields::pass_integer;
 use crate::fields::pass_number;
 use crate::fields::pass_word;
-use crate::fields::take_bytes;
+use crate::fields::take_pair;
 use crate::fields::until;
 use check::same;
+use image::Row;
+use image::row_at;
+use limits::ARCHIVE_BYTES;
+use limits::BODY_BYTES;
+use limits::CONTENTS_WORDS;
+use limits::MOST_ENTRIES;
+use limits::QUERY_BYTES;
+use limits::TEXT_BYTES;
 use lookup::Lookup;
-use lookup::Truth;
-use lookup::Value;
-use lookup::get_bool;
 use lookup::get_bytes;
-use lookup::get_string;
-use lookup::get_value;
 use reader::Answer;
+use readings::Truth;
+use readings::Value;
+use readings::get_bool;
+use readings::get_string;
+use readings::get_value;
+use readings::show;
 
 // What a line asks.
 enum Kind {
@@ -48,21 +58,14 @@ fn kind_of(word: &[u8]) -> Kind {
     Kind::Unknown
 }
 
-// A word as a number, with its bound, so that sums of a few fit.
-fn wide(word: u16) -> usize
-    ensures { λ r. ⌜ (r ≡ word) × (r < 65536) ⌝ }
-{
-    word as usize
-}
-
 // How many bytes of the line an entry's key and value take, if they are those of the row and lie at `at`: 0 if not.
-fn pass_entry(rest: &[u8], row: &[u16], at: usize, bodies: &[u8]) -> usize
-    requires { ⌜ 3 ≤ length (now row) ⌝ }
+fn pass_entry(rest: &[u8], row: Row, at: usize, bodies: &[u8]) -> usize
+    requires { ⌜ InWords row ⌝ }
     ensures { λ r. ⌜ r ≤ length (now (rest .entry)) ⌝ }
 {
-    let start = wide(row[0]);
-    let middle = start + wide(row[1]);
-    let end = middle + wide(row[2]);
+    let start = row.start;
+    let middle = start + row.key;
+    let end = middle + row.value;
     if start != at {
         return 0;
     }
@@ -80,29 +83,33 @@ fn pass_entry(rest: &[u8], row: &[u16], at: usize, bodies: &[u8]) -> usize
     key + value
 }
 
+fn wide(word: u16) -> usize
+    ensures { λ r. ⌜ r ≡ word ⌝ }
+{
+    word as usize
+}
+
 // Are the entries of an image those of the line, to its end?
-fn are_entries(rest: &[u8], count: usize, contents: &[u16], bodies: &[u8]) -> bool {
-    if contents.len() < 2 {
+fn are_entries(rest: &[u8], count: usize, contents: &[u16], bodies: &[u8]) -> bool
+    requires { ⌜ contentsWords ≡ length (now contents) ⌝ }
+{
+    if count > MOST_ENTRIES {
         return false;
     }
     if wide(contents[0]) != count {
         return false;
     }
     let mut fields = rest;
-    let mut rows = &contents[2..];
     let mut at = 0;
     let mut i = 0;
     while i < count {
-        if rows.len() < 3 {
-            return false;
-        }
-        let n = pass_entry(fields, rows, at, bodies);
+        let row = row_at(contents, i);
+        let n = pass_entry(fields, row, at, bodies);
         if n == 0 {
             return false;
         }
-        at = wide(rows[0]) + wide(rows[1]) + wide(rows[2]);
+        at = row.start + row.key + row.value;
         fields = &fields[n..];
-        rows = &rows[3..];
         i += 1;
     }
     if wide(contents[1]) != at {
@@ -111,7 +118,9 @@ fn are_entries(rest: &[u8], count: usize, contents: &[u16], bodies: &[u8]) -> bo
     fields.len() == 0
 }
 
-fn is_reading(rest: &[u8], entries: usize, opens: usize, contents: &[u16], bodies: &[u8]) -> bool {
+fn is_reading(rest: &[u8], entries: usize, opens: usize, contents: &[u16], bodies: &[u8]) -> bool
+    requires { ⌜ contentsWords ≡ length (now contents) ⌝ }
+{
     let first = pass_number(rest, opens);
     if first == 0 {
         return false;
@@ -190,6 +199,21 @@ fn is_value(rest: &[u8], answer: Value) -> bool {
     }
 }
 
+// What is shown for a query without an answer is the default.
+fn is_shown(rest: &[u8], shown: &[u8]) -> bool {
+    if is_word(rest, b"none") {
+        return same(shown, b"default");
+    }
+    is_field(rest, shown)
+}
+
+fn is_bytes(rest: &[u8], contents: &[u16], bodies: &[u8], name: &[u8], class: &[u8]) -> bool {
+    if !is_place(rest, get_bytes(contents, bodies, name, class), bodies) {
+        return false;
+    }
+    is_shown(rest, show(contents, bodies, name, class, b"default"))
+}
+
 // The query is asked of the image.
 fn is_answer(
     kind: Kind,
@@ -200,7 +224,7 @@ fn is_answer(
     class: &[u8],
 ) -> bool {
     match kind {
-        Kind::Bytes => is_place(rest, get_bytes(contents, bodies, name, class), bodies),
+        Kind::Bytes => is_bytes(rest, contents, bodies, name, class),
         Kind::Text => is_place(rest, get_string(contents, bodies, name, class), bodies),
         Kind::Bool => is_truth(rest, get_bool(contents, bodies, name, class)),
         Kind::Number => is_value(rest, get_value(contents, bodies, name, class)),
@@ -211,31 +235,29 @@ fn is_answer(
 
 // A query's name and class, and the answer.
 fn replay_lookup(kind: Kind, rest: &[u8], contents: &[u16], bodies: &[u8]) -> bool {
-    let mut name = [0; 1024];
-    let mut class = [0; 1024];
-    let first = take_bytes(rest, &mut name);
-    let Taken::Bytes(size, middle) = first else {
+    let mut name = [0; QUERY_BYTES];
+    let mut class = [0; QUERY_BYTES];
+    let query = take_pair(rest, &mut name, &mut class);
+    if !query.good {
         return false;
-    };
-    let more = &rest[middle..];
-    let second = take_bytes(more, &mut class);
-    let Taken::Bytes(length, end) = second else {
-        return false;
-    };
+    }
+    let n = query.first;
+    let m = query.second;
+    let end = query.end;
     is_answer(
         kind,
-        &more[end..],
+        &rest[end..],
         contents,
         bodies,
-        &name[..size],
-        &class[..length],
+        &name[..n],
+        &class[..m],
     )
 }
 
 // The text is read again. Every recorded reading is accepted.
 fn replay_reading(kind: Kind, rest: &[u8], text: &[u8], archive: &[u8]) -> bool {
-    let mut contents = [0; 1538];
-    let mut bodies = [0; 32768];
+    let mut contents = [0; CONTENTS_WORDS];
+    let mut bodies = [0; BODY_BYTES];
     let answer = reader::read(text, archive, &mut contents, &mut bodies);
     let Answer::Accepted(entries, opens) = answer else {
         return false;
@@ -248,19 +270,17 @@ fn replay_reading(kind: Kind, rest: &[u8], text: &[u8], archive: &[u8]) -> bool 
 
 // Is a line, without its newline, what the calls answer?
 pub fn replay_case(line: &[u8]) -> bool {
-    let mut text = [0; 32768];
-    let mut archive = [0; 65536];
+    let mut text = [0; TEXT_BYTES];
+    let mut archive = [0; ARCHIVE_BYTES];
     let n = until(line, b' ');
     let kind = kind_of(&line[..n]);
     let rest = &line[n..];
-    let first = take_bytes(rest, &mut text);
-    let Taken::Bytes(size, middle) = first else {
+    let asked = take_pair(rest, &mut text, &mut archive);
+    if !asked.good {
         return false;
-    };
-    let more = &rest[middle..];
-    let second = take_bytes(more, &mut archive);
-    let Taken::Bytes(length, end) = second else {
-        return false;
-    };
-    replay_reading(kind, &more[end..], &text[..size], &archive[..length])
+    }
+    let size = asked.first;
+    let length = asked.second;
+    let end = asked.end;
+    replay_reading(kind, &rest[end..], &text[..size], &archive[..length])
 }

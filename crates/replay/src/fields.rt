@@ -1,12 +1,13 @@
 // The fields of a recorded line: each but the first stands after one space.
+ghost use mathlib.Core.Path.{_≡_};
 ghost use Prim.Native.Nat.{_≤_};
 ghost use lib.ListN.{length};
-ghost use Rattle.replay.specs.Fields.{holds};
+ghost use Rattle.io.specs.Counts.{Counts};
 use check::same;
 
 // How many bytes stand before the first `byte`.
 pub fn until(text: &[u8], byte: u8) -> usize
-    ensures { λ r. ⌜ r ≤ length (now (text .entry)) ⌝ }
+    ensures { λ r. ⌜ Counts r (now (text .entry)) ⌝ }
 {
     let mut n = 0;
     while n < text.len() {
@@ -42,10 +43,21 @@ fn digit(c: u8) -> u8
     }
 }
 
-// A field's bytes: so many were decoded, and the field took so many bytes of the line.
-pub enum Taken {
-    Bytes(usize, usize),
-    Malformed,
+// A field's bytes, if it is well formed: so many were decoded, and the field took so many bytes of the line.
+pub struct Taken {
+    pub good: bool,
+    pub size: usize,
+    pub end: usize,
+}
+
+fn malformed() -> Taken
+    ensures { λ r. ⌜ (r .size ≡ 0) × (r .end ≡ 0) ⌝ }
+{
+    Taken {
+        good: false,
+        size: 0,
+        end: 0,
+    }
 }
 
 // Decodes two digits a byte.
@@ -70,28 +82,59 @@ fn decode(digits: &[u8], out: &mut [u8]) -> bool {
 }
 
 // Decodes the next field: two digits a byte, or `-` for no bytes.
-pub fn take_bytes(rest: &[u8], out: &mut [u8]) -> Taken
-    ensures { λ r. ⌜ holds (length (now (out .exit))) (length (now (rest .entry))) r ⌝ }
+fn take_bytes(rest: &[u8], out: &mut [u8]) -> Taken
+    ensures { λ r. ⌜ (r .size ≤ length (now (out .exit))) × (r .end ≤ length (now (rest .entry))) ⌝ }
 {
     let end = field(rest);
     if end < 2 {
-        return Taken::Malformed;
+        return malformed();
     }
     let digits = &rest[1..end];
     if same(digits, b"-") {
-        return Taken::Bytes(0, end);
+        return Taken {
+            good: true,
+            size: 0,
+            end,
+        };
     }
     let size = digits.len() / 2;
     if size * 2 != digits.len() {
-        return Taken::Malformed;
+        return malformed();
     }
     if size > out.len() {
-        return Taken::Malformed;
+        return malformed();
     }
     if decode(digits, &mut out[..size]) {
-        return Taken::Bytes(size, end);
+        return Taken {
+            good: true,
+            size,
+            end,
+        };
     }
-    Taken::Malformed
+    malformed()
+}
+
+// Two fields, if they are well formed, and how many bytes of the line they took.
+pub struct Pair {
+    pub good: bool,
+    pub first: usize,
+    pub second: usize,
+    pub end: usize,
+}
+
+// Decodes the next two fields: a text and an archive, or a name and a class.
+pub fn take_pair(rest: &[u8], first: &mut [u8], second: &mut [u8]) -> Pair
+    ensures { λ r. ⌜ Counts (r .first) (now (first .exit)) × Counts (r .second) (now (second .exit)) × (r .end ≤ length (now (rest .entry))) ⌝ }
+{
+    let a = take_bytes(rest, first);
+    let middle = a.end;
+    let b = take_bytes(&rest[middle..], second);
+    Pair {
+        good: a.good && b.good,
+        first: a.size,
+        second: b.size,
+        end: middle + b.end,
+    }
 }
 
 // Is the field these bytes?

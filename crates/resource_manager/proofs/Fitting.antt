@@ -1,18 +1,39 @@
--- The place that a lookup finds is small enough for its code. Assumes nothing.
+-- The place that a lookup finds is small enough for its code, and what the boundary makes of each answer. Assumes nothing.
+use mathlib.Core.Bool.{Bool}
 use mathlib.Core.List.{List}
-use mathlib.Core.Path.{_≡_, sym}
+use mathlib.Core.Path.{_≡_, refl, sym, ap, _∙_}
 use Prim.Native.Nat.{ℕ}
-use Rattle.definition.specs.Lookup.{getBytes}
-use Rattle.definition.specs.Value.{getString}
+use lib.IntN.{ℤ}
+use Rattle.definition.specs.Reading.{Outcome, outcome}
+use Rattle.definition.specs.Lookup.{Reply, getBytes}
+use Rattle.definition.specs.Value.{Number, getString}
 use Rattle.definition.specs.ThirdTerm.{Case, withFile, withoutFile}
-use Rattle.compare.specs.Comparing.{both, comparing}
-use Rattle.compare.proofs.Comparing.{both-lookups}
+use Rattle.compare.specs.declared.Compared.{Compared}
+use Rattle.compare.specs.declared.Compared.the-variants.{Both, NoFile, Refused as RefusedCall}
+use Rattle.compare.specs.Comparing.{Left, Promise, leaving, compared}
+use Rattle.compare.proofs.Comparing.{answered-both}
 use Rattle.lookup.specs.Replies.{replied}
 use Rattle.lookup.specs.declared.Lookup.{Lookup}
 use Rattle.lookup.specs.declared.Lookup.the-variants.{Found, Nothing, Refused}
 use Rattle.lookup.proofs.Looking.{found-placed}
-use Rattle.lookup.proofs.Readings.{string-found}
-use Rattle.resource_manager.specs.Boundary.{Small}
+use Rattle.reader.specs.declared.Answer.{Answer}
+use Rattle.reader.specs.Said.{said}
+use Rattle.readings.specs.Replies.{truthReplied, valueReplied}
+use Rattle.readings.specs.declared.Truth.{Truth}
+use Rattle.readings.specs.declared.Value.{Value}
+use Rattle.readings.proofs.Readings.{string-found}
+use Rattle.resource_manager.specs.Boundary.{noneCode, crossed, Small, placeCode, boolCode, taken, compares, compareCode, codeWith, codeWithout, carried, CarriesTerm, Crosses}
+
+-- ---- Readings and lookups, once the answer is told
+
+pub read-as : (r s : Answer) (c b : List ℕ) (o : Outcome) → outcome (said r) c b ≡ o → r ≡ s → crossed (outcome (said s) c b) ≡ crossed o
+read-as r s c b o e f = rw (← e, f) refl
+
+pub bool-as : (r s : Truth) (x : Reply Bool) → truthReplied r ≡ x → r ≡ s → boolCode (truthReplied s) ≡ boolCode x
+bool-as r s x e f = rw (← e, f) refl
+
+pub value-as : (lent : ℤ) (r s : Value) (x : Reply Number) → valueReplied r ≡ x → r ≡ s → taken (valueReplied s) lent ≡ taken x lent
+value-as lent r s x e f = rw (← e, f) refl
 
 module _ (contents bodies name class : List ℕ) where
   pub bytes-small : (r : Lookup) → replied r ≡ getBytes contents bodies name class → Small r
@@ -25,10 +46,38 @@ module _ (contents bodies name class : List ℕ) where
   string-small Nothing e = tt
   string-small (Refused k) e = tt
 
--- both lookups of a comparing call
-pub both-small : (c : Case) (struck : List ℕ) (a b : Lookup) → both (replied a) (replied b) ≡ comparing c struck .answer → Small a × Small b
-both-small c struck a b e =
-    let l = both-lookups c struck (replied a) (replied b) (sym e) in (
-      bytes-small (withFile c .contents) (withFile c .bodies) (c .name) (c .class) a (l .0),
-      bytes-small (withoutFile c .contents) (withoutFile c .bodies) (c .name) (c .class) b (l .1),
-    )
+-- ---- A comparing call
+
+module _ (c : Case) (struck : List ℕ) (r : Compared) (s c₁ b₁ c₂ b₂ : List ℕ) (p : Promise c struck (leaving r s c₁ b₁ c₂ b₂)) where
+  pub both-small : (a b : Lookup) (second : Answer) → r ≡ Both a b second → Small a × Small b
+  both-small a b second e =
+      let m = answered-both c struck (leaving r s c₁ b₁ c₂ b₂) (replied a) (replied b) (said second) (rw e refl) (p .equals) in (
+        bytes-small (withFile c .contents) (withFile c .bodies) (c .name) (c .class) a (m .first-looked),
+        bytes-small (withoutFile c .contents) (withoutFile c .bodies) (c .name) (c .class) b (m .second-looked),
+      )
+
+  module _ (w o : ℕ) where
+    crosses : Crosses c struck w o (carried (leaving r s c₁ b₁ c₂ b₂) w o)
+    crosses = record {
+      equals = ap (λ (l : Left). carried l w o) (p .equals);
+      third-term = λ g room.
+          let t = p .third-term g room in
+          let e = ap (λ (l : Left). carried l w o) (t .made) in
+          record {
+            made = e;
+            code = ap compareCode (t .answers);
+            first = rw (t .answers) refl;
+            second = rw (t .answers) refl;
+            term = t .term;
+          };
+    }
+
+    pub crosses-both : (a b : Lookup) (second : Answer) → r ≡ Both a b second → (m n : ℕ) → m ≡ placeCode (replied a) → n ≡ placeCode (replied b)
+        → Crosses c struck w o (compares 0 m n s c₁ b₁ c₂ b₂)
+    crosses-both a b second e m n f g = rw (f, g) (rw e at crosses)
+
+    pub crosses-none : r ≡ NoFile → Crosses c struck w o (compares noneCode w o s c₁ b₁ c₂ b₂)
+    crosses-none e = rw e at crosses
+
+    pub crosses-refused : (k : ℕ) → r ≡ RefusedCall k → Crosses c struck w o (compares k w o s c₁ b₁ c₂ b₂)
+    crosses-refused k e = rw e at crosses

@@ -1,21 +1,38 @@
 -- The answers of the definition as numbers of 64 bits, as the boundary to C gives them.
 use mathlib.Core.Bool.{Bool, true, false}
 use mathlib.Core.List.{List}
+use mathlib.Core.Path.{_≡_}
 use Prim.Native.Nat.{ℕ, _+_, _*_, _≤_}
 use lib.IntN.{ℤ}
+use lib.ListN.{length}
 use Rattle.definition.specs.Limits.{bodyBytes}
 use Rattle.definition.specs.Reading.{Answer, accepted, refused, Outcome}
 use Rattle.definition.specs.Lookup.{Reply, given, noValue, refused as refusedBy, Place}
 use Rattle.definition.specs.Value.{Number, number, notANumber}
-use Rattle.compare.specs.Comparing.{Comparison, both, noFile, refusedBy as refusedAs, Left}
+use Rattle.definition.specs.ThirdTerm.{Case, withFile, withoutFile, lookup, Given, ThirdTerm}
+use Rattle.compare.specs.Comparing.{Comparison, both, noFile, refusedBy as refusedAs, Left, bothRead, comparing}
 use Rattle.lookup.specs.declared.Lookup.{Lookup}
 use Rattle.lookup.specs.declared.Lookup.the-variants.{Found, Nothing, Refused}
+
+-- the parts of an answer above its status, from bit 16 on and from bit 32 on
+abbrev pub from16 : ℕ
+from16 = 65536
+
+abbrev pub from32 : ℕ
+from32 = 4294967296
+
+-- statuses beside document 01's numbers
+abbrev pub noneCode : ℕ
+noneCode = 65535
+
+abbrev pub notANumberCode : ℕ
+notANumberCode = 65534
 
 -- ---- Readings
 
 -- entries in bits 16 to 31 and opens in bits 32 to 47, or the number of the refusal
 abbrev pub readCode : Answer → ℕ
-readCode (accepted entries opens) = 65536 * entries + 4294967296 * opens
+readCode (accepted entries opens) = from16 * entries + from32 * opens
 readCode (refused k) = k
 
 -- a call's number and the two buffers afterwards
@@ -34,8 +51,8 @@ crossed o = crossing (readCode (o .answer)) (o .contents) (o .bodies)
 
 -- the place in bits 16 to 31 and the length from bit 32 on, 65535 for none, or the number of the refusal
 abbrev pub placeCode : Reply Place → ℕ
-placeCode (given p) = 65536 * p .start + 4294967296 * p .length
-placeCode noValue = 65535
+placeCode (given p) = from16 * p .start + from32 * p .length
+placeCode noValue = noneCode
 placeCode (refusedBy k) = k
 
 -- a place in an image's bodies, so that its code fits
@@ -46,9 +63,9 @@ Small (Refused k) = Unit {0}
 
 -- 65536 for true and 0 for false
 abbrev pub boolCode : Reply Bool → ℕ
-boolCode (given true) = 65536
+boolCode (given true) = from16
 boolCode (given false) = 0
-boolCode noValue = 65535
+boolCode noValue = noneCode
 boolCode (refusedBy k) = k
 
 -- a call's number, and the lent number afterwards
@@ -62,8 +79,8 @@ taking n z = record { code = n; out = z }
 -- the number with 0; 65534 if not a number; only a number changes what is lent
 abbrev pub taken : Reply Number → ℤ → Taking
 taken (given (number z)) lent = taking 0 z
-taken (given notANumber) lent = taking 65534 lent
-taken noValue lent = taking 65535 lent
+taken (given notANumber) lent = taking notANumberCode lent
+taken noValue lent = taking noneCode lent
 taken (refusedBy k) lent = taking k lent
 
 -- ---- The comparing call
@@ -84,20 +101,36 @@ compares n w o s c b c′ b′ = record { code = n; withIt = w; without = o; str
 
 -- 0 with both lookups' numbers, 65535 if the archive has no such file, or the refusal; only 0 changes the lent numbers
 abbrev pub compareCode : Comparison → ℕ
-compareCode (both a b) = 0
-compareCode noFile = 65535
+compareCode (both a b second) = 0
+compareCode noFile = noneCode
 compareCode (refusedAs k) = k
 
 abbrev pub codeWith : Comparison → ℕ → ℕ
-codeWith (both a b) lent = placeCode a
+codeWith (both a b second) lent = placeCode a
 codeWith noFile lent = lent
 codeWith (refusedAs k) lent = lent
 
 abbrev pub codeWithout : Comparison → ℕ → ℕ
-codeWithout (both a b) lent = placeCode b
+codeWithout (both a b second) lent = placeCode b
 codeWithout noFile lent = lent
 codeWithout (refusedAs k) lent = lent
 
 abbrev pub carried : Left → ℕ → ℕ → Compares
 carried l w o =
     compares (compareCode (l .answer)) (codeWith (l .answer) w) (codeWithout (l .answer) o) (l .struck) (l .contents) (l .bodies) (l .contents′) (l .bodies′)
+
+module _ (c : Case) (struck : List ℕ) (withIt without : ℕ) where
+  -- the third term, of a call that gives and leaves these: both readings and both lookups are made, 0 with the numbers of both
+  -- lookups, and they are as the term says
+  pub record CarriesTerm (after : Compares) : Type 0 where
+    pub made : after ≡ carried (bothRead c struck) withIt without
+    pub code : after .code ≡ 0
+    pub first : after .withIt ≡ placeCode (lookup c (withFile c))
+    pub second : after .without ≡ placeCode (lookup c (withoutFile c))
+    pub term : ThirdTerm c
+
+  -- what the call promises: its number and all that is lent, of any arguments; and the term, with nothing given beyond the term's own
+  -- words and room for the archive
+  pub record Crosses (after : Compares) : Type 0 where
+    pub equals : after ≡ carried (comparing c struck) withIt without
+    pub third-term : Given c → length (c .archive) ≤ length struck → CarriesTerm after

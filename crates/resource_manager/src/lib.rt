@@ -2,15 +2,27 @@
 ghost use mathlib.Core.Path.{_≡_};
 ghost use Rattle.definition.specs.Reading.{reading};
 ghost use Rattle.definition.specs.Lookup.{getBytes};
+ghost use Rattle.definition.specs.Value as definition;
 ghost use Rattle.definition.specs.Value.{getString, getBool, getValue};
 ghost use Rattle.lookup.specs.Replies.{replied};
-ghost use Rattle.resource_manager.specs.Boundary.{Crossing, crossed, crossing, placeCode, Small, boolCode, Taking, taking, taken, compares, carried};
-ghost use Rattle.compare.specs.Comparing.{asked, comparing};
+ghost use Rattle.resource_manager.specs.Boundary.{crossed, crossing, placeCode, Small, boolCode, taking, taken, compares, Crosses};
+ghost use Rattle.compare.specs.Comparing.{asked};
+ghost use Rattle.readings.specs.Showing.{shownAt};
 use compare::Compared;
 use lookup::Lookup;
-use lookup::Truth;
-use lookup::Value;
 use reader::Answer;
+use readings::Truth;
+use readings::Value;
+
+// The parts of an answer above its status, from bit 16 on and from bit 32 on.
+const FROM_16: u64 = 65536;
+
+const FROM_32: u64 = 4294967296;
+
+// Statuses beside document 01's numbers.
+const NONE: u64 = 65535;
+
+const NOT_A_NUMBER: u64 = 65534;
 
 // Document 01's reading call. The low 16 bits are 0, or the number of the refusal and that alone; entries stand in bits 16 to 31
 // and opens in bits 32 to 47.
@@ -25,7 +37,7 @@ pub extern "C" fn resource_manager_read(
 {
     let answer = reader::read(text, shelf, contents, bodies);
     match answer {
-        Answer::Accepted(entries, opens) => 65536 * (entries as u64) + 4294967296 * (opens as u64),
+        Answer::Accepted(entries, opens) => FROM_16 * (entries as u64) + FROM_32 * (opens as u64),
         Answer::Refused(number) => number as u64,
     }
 }
@@ -35,8 +47,8 @@ fn place_code(found: Lookup) -> u64
     ensures { λ r. ⌜ r ≡ placeCode (replied found) ⌝ }
 {
     match found {
-        Lookup::Found(place, size) => 65536 * (place as u64) + 4294967296 * (size as u64),
-        Lookup::Nothing => 65535,
+        Lookup::Found(place, size) => FROM_16 * (place as u64) + FROM_32 * (size as u64),
+        Lookup::Nothing => NONE,
         Lookup::Refused(number) => number as u64,
     }
 }
@@ -55,6 +67,24 @@ pub extern "C" fn resource_manager_get_bytes(
     place_code(found)
 }
 
+// The value of a query, or else a default: the answer is that of `resource_manager_get_bytes`. `shown` is lent as the default, and with
+// status 0 it is the value's bytes afterwards, a part of the bodies; with any other it stays the default.
+#[no_mangle]
+pub extern "C" fn resource_manager_show<'a>(
+    contents: &[u16],
+    bodies: &'a [u8],
+    name: &[u8],
+    class: &[u8],
+    shown: &mut &'a [u8],
+) -> u64
+    ensures { λ r. ⌜ (r ≡ placeCode (getBytes (now (contents .entry)) (now (bodies .entry)) (now (name .entry)) (now (class .entry)))) × (now (now (shown .exit)) ≡ definition.shown (now (contents .entry)) (now (bodies .entry)) (now (name .entry)) (now (class .entry)) (now (now (shown .entry)))) × (now (shown .exit) .ptr ≡ shownAt (getBytes (now (contents .entry)) (now (bodies .entry)) (now (name .entry)) (now (class .entry))) (bodies .entry .ptr) (now (shown .entry) .ptr)) ⌝ }
+{
+    let default = *shown;
+    let found = lookup::get_bytes(contents, bodies, name, class);
+    *shown = readings::value_or(found, bodies, default);
+    place_code(found)
+}
+
 // The same for a value that is well-formed UTF-8: else none.
 #[no_mangle]
 pub extern "C" fn resource_manager_get_string(
@@ -65,7 +95,7 @@ pub extern "C" fn resource_manager_get_string(
 ) -> u64
     ensures { λ r. ⌜ r ≡ placeCode (getString (now (contents .entry)) (now (bodies .entry)) (now (name .entry)) (now (class .entry))) ⌝ }
 {
-    let found = lookup::get_string(contents, bodies, name, class);
+    let found = readings::get_string(contents, bodies, name, class);
     place_code(found)
 }
 
@@ -79,15 +109,15 @@ pub extern "C" fn resource_manager_get_bool(
 ) -> u64
     ensures { λ r. ⌜ r ≡ boolCode (getBool (now (contents .entry)) (now (bodies .entry)) (now (name .entry)) (now (class .entry))) ⌝ }
 {
-    let truth = lookup::get_bool(contents, bodies, name, class);
+    let truth = readings::get_bool(contents, bodies, name, class);
     match truth {
         Truth::Is(value) => {
             if value {
-                return 65536;
+                return FROM_16;
             }
             0
         }
-        Truth::Nothing => 65535,
+        Truth::Nothing => NONE,
         Truth::Refused(number) => number as u64,
     }
 }
@@ -103,14 +133,14 @@ pub extern "C" fn resource_manager_get_value(
 ) -> u64
     ensures { λ r. ⌜ taking r (now (out .exit)) ≡ taken (getValue (now (contents .entry)) (now (bodies .entry)) (now (name .entry)) (now (class .entry))) (now (out .entry)) ⌝ }
 {
-    let value = lookup::get_value(contents, bodies, name, class);
+    let value = readings::get_value(contents, bodies, name, class);
     match value {
         Value::Is(number) => {
             *out = number;
             0
         }
-        Value::NotANumber => 65534,
-        Value::Nothing => 65535,
+        Value::NotANumber => NOT_A_NUMBER,
+        Value::Nothing => NONE,
         Value::Refused(number) => number as u64,
     }
 }
@@ -132,7 +162,7 @@ pub extern "C" fn resource_manager_compare_without(
     with_it: &mut u64,
     without: &mut u64,
 ) -> u64
-    ensures { λ r. ⌜ compares r (now («with_it» .exit)) (now (without .exit)) (now (struck .exit)) (now (contents .exit)) (now (bodies .exit)) (now («contents_without» .exit)) (now («bodies_without» .exit)) ≡ carried (comparing (asked (now (text .entry)) (now (shelf .entry)) file (now (name .entry)) (now (class .entry)) (now (contents .entry)) (now (bodies .entry)) (now («contents_without» .entry)) (now («bodies_without» .entry))) (now (struck .entry))) (now («with_it» .entry)) (now (without .entry)) ⌝ }
+    ensures { λ r. ⌜ Crosses (asked (now (text .entry)) (now (shelf .entry)) file (now (name .entry)) (now (class .entry)) (now (contents .entry)) (now (bodies .entry)) (now («contents_without» .entry)) (now («bodies_without» .entry))) (now (struck .entry)) (now («with_it» .entry)) (now (without .entry)) (compares r (now («with_it» .exit)) (now (without .exit)) (now (struck .exit)) (now (contents .exit)) (now (bodies .exit)) (now («contents_without» .exit)) (now («bodies_without» .exit))) ⌝ }
 {
     let answer = compare::compare_without(
         text,
@@ -147,12 +177,12 @@ pub extern "C" fn resource_manager_compare_without(
         bodies_without,
     );
     match answer {
-        Compared::Both(first, second) => {
+        Compared::Both(first, second, _) => {
             *with_it = place_code(first);
             *without = place_code(second);
             0
         }
-        Compared::NoFile => 65535,
+        Compared::NoFile => NONE,
         Compared::Refused(number) => number as u64,
     }
 }

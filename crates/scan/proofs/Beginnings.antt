@@ -2,9 +2,8 @@
 use mathlib.Core.Bool.{Bool, true, false}
 use mathlib.Core.List.{List, [], _∷_}
 use mathlib.Core.Option.{some, none}
-use mathlib.Core.Path.{_≡_, refl, sym}
+use mathlib.Core.Path.{_≡_, refl, sym, _∙_}
 use Prim.Native.Nat.{ℕ, _+_, _≤_, _<_}
-use native.Mathlib.Decide.{decLt}
 use native.Mathlib.Numerals.{add-one}
 use native.Mathlib.Omega.{arith}
 use lib.Dec.{eqb}
@@ -13,45 +12,68 @@ use lib.Seq.{drop-cons}
 use borrow.Author.Tests.{eq-eqb, ne-eqb}
 use Rattle.definition.specs.Lists.{if_then_else_}
 use Rattle.definition.specs.Parsing.{after}
+use Rattle.laws.proofs.Lists.{not-both, Suffix, suffix-drop}
+use Rattle.laws.proofs.Keys.{if-either}
+use Rattle.scan.specs.Scanned.{startsWith}
 
 -- ---- The loop
 
-pub after-short : (w t : List ℕ) → length t < length w → after w t ≡ none
-unfolding after
-after-short [] t h = absurd (omega arith)
-after-short (b ∷ w) [] h = refl
-after-short (b ∷ w) (c ∷ t) h = at (eqb b c) (after-short w t (omega arith))
-  where
-    at : (e : Bool) → after w t ≡ none → (if e then after w t else none) ≡ none
-    at true ih = ih
-    at false ih = refl
+pub starts-short : (w t : List ℕ) → length t < length w → startsWith w t ≡ false
+unfolding startsWith
+starts-short [] t h = absurd (omega arith)
+starts-short (b ∷ w) [] h = refl
+starts-short (b ∷ w) (c ∷ t) h = if-either (λ r. r ≡ false) (eqb b c) (λ e. starts-short w t (omega arith)) λ e. refl
 
 module _ (w t : List ℕ) (i : ℕ) (h : i < length w) (k : i < length t) where
-  pub after-on : getD t i 0 ≡ getD w i 0 → after (drop i w) (drop i t) ≡ after (drop (i + 1) w) (drop (i + 1) t)
-  unfolding after
-  after-on e = rw (add-one, drop-cons w i 0 h, drop-cons t i 0 k, eq-eqb (getD w i 0) (getD t i 0) (sym e)) refl
+  pub starts-on : getD t i 0 ≡ getD w i 0 → startsWith (drop i w) (drop i t) ≡ startsWith (drop (i + 1) w) (drop (i + 1) t)
+  unfolding startsWith
+  starts-on e = rw (add-one, drop-cons w i 0 h, drop-cons t i 0 k, eq-eqb (getD w i 0) (getD t i 0) (sym e)) refl
 
-  pub after-other : (getD t i 0 ≡ getD w i 0 → ⊥) → after (drop i w) (drop i t) ≡ none
-  unfolding after
-  after-other e = rw (drop-cons w i 0 h, drop-cons t i 0 k, ne-eqb (getD w i 0) (getD t i 0) (λ p. e (sym p))) refl
+  pub starts-other : (getD t i 0 ≡ getD w i 0 → ⊥) → startsWith (drop i w) (drop i t) ≡ false
+  unfolding startsWith
+  starts-other e = rw (drop-cons w i 0 h, drop-cons t i 0 k, ne-eqb (getD w i 0) (getD t i 0) (λ p. e (sym p))) refl
 
-pub after-all : (w t : List ℕ) (i : ℕ) → i ≡ length w → after (drop i w) (drop i t) ≡ some (drop (length w) t)
-unfolding after
-after-all w t i e = rw (e, drop-of-length-le w {i = length w} (omega arith)) refl
+pub starts-all : (w t : List ℕ) (i : ℕ) → length w ≤ i → startsWith (drop i w) (drop i t) ≡ true
+unfolding startsWith
+starts-all w t i h = rw (drop-of-length-le w h) refl
 
 -- ---- The answer
 
--- what `starts_with` ensures
-abbrev pub Begins : List ℕ → List ℕ → Bool → Type 0
-Begins w t r = after w t ≡ (if r then some (drop (length w) t) else none)
+-- what follows the word, if it stands there
+pub after-starts : (w t : List ℕ) → after w t ≡ (if startsWith w t then some (drop (length w) t) else none)
+unfolding startsWith after
+after-starts [] t = refl
+after-starts (b ∷ w) [] = refl
+after-starts (b ∷ w) (c ∷ t) = at (eqb b c) (after-starts w t)
+  where
+    at : (x : Bool) → after w t ≡ (if startsWith w t then some (drop (length w) t) else none)
+        → (if x then after w t else none) ≡ (if (if x then startsWith w t else false) then some (drop (length w) t) else none)
+    at true ih = ih
+    at false ih = refl
 
-module _ (w t : List ℕ) (r : Bool) (e : Begins w t r) where
-  pub begins-not : r ≡ false → after w t ≡ none
-  begins-not h = rw h at e
+starts-long : (w t : List ℕ) → startsWith w t ≡ true → length w ≤ length t
+unfolding startsWith
+starts-long [] t e = omega arith
+starts-long (b ∷ w) [] e = absurd (not-both e refl)
+starts-long (b ∷ w) (c ∷ t) e = at (eqb b c) e (starts-long w t)
+  where
+    at : (x : Bool) → (if x then startsWith w t else false) ≡ true → (startsWith w t ≡ true → length w ≤ length t) → length (b ∷ w) ≤ length (c ∷ t)
+    at true f ih = omega (arith, ih f)
+    at false f ih = absurd (not-both f refl)
 
-  pub begins : r ≡ true → (after w t ≡ some (drop (length w) t)) × (length w ≤ length t)
-  begins h = at (rw h at e) (decLt (length t) (length w))
-    where
-      at : after w t ≡ some (drop (length w) t) → Dec (length t < length w) → (after w t ≡ some (drop (length w) t)) × (length w ≤ length t)
-      at f (yes k) = absurd (let z : _≡_ {A = ℕ} 0 1 = cc (f, after-short w t k) in omega arith)
-      at f (no k) = (f, omega arith)
+-- r is the answer
+module _ (w t : List ℕ) (r : Bool) (e : r ≡ startsWith w t) where
+  pub starts-no : r ≡ false → after w t ≡ none
+  starts-no h = after-starts w t ∙ rw (← e, h) refl
+
+  pub starts-yes : r ≡ true → (after w t ≡ some (drop (length w) t)) × (length w ≤ length t)
+  starts-yes h = (after-starts w t ∙ rw (← e, h) refl, starts-long w t (sym e ∙ h))
+
+pub after-suffix : (w : List ℕ) {t s : List ℕ} → Suffix t s → (u : List ℕ) → after w t ≡ some u → Suffix u s
+after-suffix w {t} {s} x u e = at (startsWith w t) refl (sym (after-starts w t) ∙ e)
+  where
+    at : (b : Bool) → startsWith w t ≡ b → (if b then some (drop (length w) t) else none) ≡ some u → Suffix u s
+    at true f k =
+        let d : drop (length w) t ≡ u = cc in
+        rw d at (suffix-drop x (length w) (starts-long w t f))
+    at false f k = absurd (let z : _≡_ {A = ℕ} 0 1 = cc in omega arith)

@@ -1,61 +1,108 @@
--- What `parse_include` learns on its way. Assumes nothing.
+-- What `parse_include` learns on its way, and what its answer says. Assumes nothing.
 use mathlib.Core.List.{List}
-use mathlib.Core.Option.{some, none}
+use mathlib.Core.Option.{Option, some, none}
 use mathlib.Core.Path.{_≡_, refl, sym, ap, _∙_}
-use Prim.Native.Nat.{ℕ, _-_, _≤_}
+use Prim.Native.Nat.{ℕ, _+_, _-_, _≤_}
 use native.Mathlib.Omega.{arith}
 use lib.ListN.{length, take, drop}
 use Rattle.definition.specs.Lists.{ascii, takeWhile, dropWhile}
-use Rattle.definition.specs.Parsing.{after}
+use Rattle.definition.specs.Parsing.{_>>=_, after}
 use Rattle.definition.specs.Bytes.{isSpace}
 use Rattle.definition.specs.Text.{inQuotes, includeOf}
-use Rattle.laws.proofs.Lists.{part-rest, take-run, drop-run, length-takeWhile-le, Suffix, suffix-whole, suffix-part, suffix-run}
-use Rattle.scan.specs.Scanned.{includedName, Included}
+use Rattle.laws.proofs.Lists.{part-rest, take-run, length-takeWhile-le, Suffix, suffix-whole, suffix-part, suffix-run}
+use Rattle.scan.specs.Scanned.{nameOn, namedIn, includeAt}
+use Rattle.scan.specs.declared.Include.{Include}
 use Rattle.scan.specs.declared.Include.the-variants.{Named, Other}
+use Rattle.scan.proofs.Beginnings.{after-suffix}
+use Rattle.scan.proofs.Runs.{run-rest}
+
+-- ---- The way
 
 -- a part from n on
 abbrev from : ℕ → List ℕ → List ℕ
 from n t = take (length t - n) (drop n t)
 
--- where the name starts
-pub place : (t line quoted : List ℕ) → line ≡ dropWhile isSpace t → quoted ≡ dropWhile isSpace (from 7 line)
-    → 7 ≤ length line → 1 ≤ length quoted → Suffix (from 1 quoted) t
-place t line quoted e f h k =
-    let s : Suffix line t = rw e (suffix-run (suffix-whole t) isSpace) in
-    let u : Suffix quoted t = rw f (suffix-run (suffix-part s 7 h) isSpace) in
-    suffix-part u 1 k
+-- t has `include`, and u follows it
+pub record Worded (t u : List ℕ) : Type 0 where
+  pub is : nameOn t ≡ (after (ascii "\"") (dropWhile isSpace u) >>= λ v. after (ascii "\"") (dropWhile inQuotes v) >>= λ w. some v)
+  pub left : Suffix u t
 
-module _ (t : List ℕ) where
-  none-found : includeOf t ≡ none → Included t Other
-  unfolding includedName
-  none-found e = record { name = sym e; inside = tt }
+-- and a quote, and v follows that
+pub record Opened (t v : List ℕ) : Type 0 where
+  pub is : nameOn t ≡ (after (ascii "\"") (dropWhile inQuotes v) >>= λ w. some v)
+  pub left : Suffix v t
 
-  module _ (line : List ℕ) (e : line ≡ dropWhile isSpace t) where
-    pub no-word : after (ascii "include") line ≡ none → Included t Other
-    unfolding includeOf
-    no-word h = none-found (rw (← e, h) refl)
+module _ (t line : List ℕ) (e : line ≡ dropWhile isSpace t) where
+  pub no-word : after (ascii "include") line ≡ none → Other ≡ includeAt t
+  unfolding includeAt nameOn namedIn
+  no-word h = rw (← e, h) refl
 
-    module _ (word : after (ascii "include") line ≡ some (drop 7 line)) (quoted : List ℕ) (f : quoted ≡ dropWhile isSpace (from 7 line)) where
-      pub no-quote : after (ascii "\"") quoted ≡ none → Included t Other
-      unfolding includeOf
-      no-quote h = none-found (rw (← e, word, ← part-rest line 7, ← f, h) refl)
+  pub worded : (after (ascii "include") line ≡ some (drop 7 line)) × (7 ≤ length line) → Worded t (from 7 line)
+  unfolding nameOn
+  worded h = record {
+    is = rw (← e, h .0, part-rest line 7) refl;
+    left = suffix-part {u = line} (rw e (suffix-run (suffix-whole t) isSpace)) 7 (h .1);
+  }
 
-      module _ (opened : after (ascii "\"") quoted ≡ some (drop 1 quoted)) (n : ℕ) (g : n ≡ length (takeWhile inQuotes (from 1 quoted))) where
-        rest : from n (from 1 quoted) ≡ dropWhile inQuotes (drop 1 quoted)
-        rest = part-rest (from 1 quoted) n ∙ rw (g, part-rest quoted 1) (drop-run inQuotes (drop 1 quoted))
+module _ {t u : List ℕ} (d : Worded t u) (quoted : List ℕ) (e : quoted ≡ dropWhile isSpace u) where
+  pub no-quote : after (ascii "\"") quoted ≡ none → Other ≡ includeAt t
+  unfolding includeAt namedIn
+  no-quote h = rw (d .is, ← e, h) refl
 
-        pub no-end : after (ascii "\"") (from n (from 1 quoted)) ≡ none → Included t Other
-        unfolding includeOf
-        no-end h = none-found (rw (← e, word, ← part-rest line 7, ← f, opened, ← rest, h) refl)
+  pub opened : (after (ascii "\"") quoted ≡ some (drop 1 quoted)) × (1 ≤ length quoted) → Opened t (from 1 quoted)
+  opened h = record {
+    is = d .is ∙ rw (← e, h .0, part-rest quoted 1) refl;
+    left = suffix-part {u = quoted} (rw e (suffix-run (d .left) isSpace)) 1 (h .1);
+  }
 
-        pub named : (w : List ℕ) → Suffix (from 1 quoted) t → after (ascii "\"") (from n (from 1 quoted)) ≡ some w
-            → Included t (Named (length t - length (from 1 quoted)) n)
-        unfolding includeOf includedName
-        named w s m =
-            let v = from 1 quoted in
-            let run : take n v ≡ takeWhile inQuotes v = ap (λ (k : ℕ). take k v) g ∙ take-run inQuotes v in
-            let found : includeOf t ≡ some (takeWhile inQuotes (drop 1 quoted)) = rw (← e, word, ← part-rest line 7, ← f, opened, ← rest, m) refl in
-            record {
-              name = ap (λ (l : List ℕ). some (take n l)) (s .same) ∙ ap some (run ∙ ap (takeWhile inQuotes) (part-rest quoted 1)) ∙ sym found;
-              inside = omega (arith, s .most, g, length-takeWhile-le inQuotes v);
-            }
+module _ {t v : List ℕ} (d : Opened t v) (n : ℕ) (e : n ≡ length (takeWhile inQuotes v)) where
+  pub no-end : after (ascii "\"") (from n v) ≡ none → Other ≡ includeAt t
+  unfolding includeAt namedIn
+  no-end h = rw (d .is, ← run-rest inQuotes v n e, h) refl
+
+  pub named : (w : List ℕ) → after (ascii "\"") (from n v) ≡ some w → Named (length t - length v) n ≡ includeAt t
+  unfolding includeAt namedIn
+  named w h = rw (d .is, ← run-rest inQuotes v n e, h, ← e) refl
+
+-- ---- The answer
+
+-- the name that an answer points at
+unfoldable pub includedName : List ℕ → Include → Option (List ℕ)
+includedName t (Named s n) = some (take n (drop s t))
+includedName t Other = none
+
+-- the place lies within a text of length m
+abbrev pub NamedWithin : Include → ℕ → Type 0
+NamedWithin (Named s n) m = s + n ≤ m
+NamedWithin Other m = Unit {0}
+
+-- r is the include that the definition has after the `#`
+pub record IncludeFound (t : List ℕ) (r : Include) : Type 0 where
+  pub name : includedName t r ≡ includeOf t
+  pub inside : NamedWithin r (length t)
+
+pub include-found : (t : List ℕ) → IncludeFound t (includeAt t)
+unfolding includeAt nameOn namedIn includeOf includedName
+include-found t = let r = word (after (ascii "include") (dropWhile isSpace t)) (after-suffix _ (run t (suffix-whole t))) in record { name = r .0; inside = r .1 }
+  where
+    -- v gives the place, and n the name
+    Agree : Option (List ℕ) → Option (List ℕ) → Type 0
+    Agree v n = (includedName t (namedIn (length t) v) ≡ n) × NamedWithin (namedIn (length t) v) (length t)
+
+    run : (u : List ℕ) → Suffix u t → Suffix (dropWhile isSpace u) t
+    run u s = suffix-run s isSpace
+
+    closed : (v : List ℕ) → Suffix v t → (o : Option (List ℕ)) → Agree (o >>= λ w. some v) (o >>= λ w. some (takeWhile inQuotes v))
+    closed v s none = (refl, tt)
+    closed v s (some w) = (rw (s .same) (ap some (take-run inQuotes v)), omega (arith, s .most, length-takeWhile-le inQuotes v))
+
+    opened : (o : Option (List ℕ)) → ((v : List ℕ) → o ≡ some v → Suffix v t)
+        → Agree (o >>= λ v. after (ascii "\"") (dropWhile inQuotes v) >>= λ w. some v) (o >>= λ v. after (ascii "\"") (dropWhile inQuotes v) >>= λ w. some (takeWhile inQuotes v))
+    opened none s = (refl, tt)
+    opened (some v) s = closed v (s v refl) (after (ascii "\"") (dropWhile inQuotes v))
+
+    word : (o : Option (List ℕ)) → ((u : List ℕ) → o ≡ some u → Suffix u t)
+        → Agree (o >>= λ u. after (ascii "\"") (dropWhile isSpace u) >>= λ v. after (ascii "\"") (dropWhile inQuotes v) >>= λ w. some v)
+        (o >>= λ u. after (ascii "\"") (dropWhile isSpace u) >>= λ v. after (ascii "\"") (dropWhile inQuotes v) >>= λ w. some (takeWhile inQuotes v))
+    word none s = (refl, tt)
+    word (some u) s = opened (after (ascii "\"") (dropWhile isSpace u)) (after-suffix _ (run u (s u refl)))

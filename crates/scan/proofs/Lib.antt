@@ -1,6 +1,8 @@
 -- Laws that the proofs of the scanners and of their callers cite.
 mod Bytes
 mod Texts
+pub mod Runs
+pub mod Suffixes
 pub mod Beginnings
-mod Includes
-mod Copies
+pub mod Includes
+pub mod Copies

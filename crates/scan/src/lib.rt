@@ -1,15 +1,13 @@
 // Bytes, runs of bytes and include directives: the common helpers and skippers of the Rust's parser; and copying.
 ghost use mathlib.Core.Path.{_≡_};
-ghost use mathlib.Core.List.{_++_};
-ghost use mathlib.Core.Option.{some, none};
 ghost use Prim.Native.Nat.{_+_, _≤_};
-ghost use lib.ListN.{length, take, drop};
+ghost use lib.Dec.{eqb};
+ghost use lib.ListN.{length};
 ghost use lib.Seq.{paste};
-ghost use Rattle.definition.specs.Lists.{if_then_else_, takeWhile, dropWhile};
-ghost use Rattle.definition.specs.Parsing.{after};
-ghost use Rattle.definition.specs.Bytes.{isOctal, isName, isBlank, isSpace};
-ghost use Rattle.definition.specs.Text.{lineEnd, inQuotes};
-ghost use Rattle.scan.specs.Scanned.{Included};
+ghost use Rattle.definition.specs.Lists.{takeWhile, dropWhile};
+ghost use Rattle.definition.specs.Bytes.{isOctal, isName, isBlank, isSpace, notNewline};
+ghost use Rattle.definition.specs.Text.{inQuotes};
+ghost use Rattle.scan.specs.Scanned.{startsWith, includeAt};
 
 // What follows a `#`: the start and the length of an include's name, or no include.
 pub enum Include {
@@ -54,31 +52,46 @@ pub fn is_blank(c: u8) -> bool
     }
 }
 
-// From the line's newline on.
-pub fn skip_to_eol(text: &[u8]) -> &[u8]
-    ensures { λ r. ⌜ now r ≡ lineEnd (now (text .entry)) ⌝ }
+// Where the line's newline stands, or the text ends.
+pub fn line_end(text: &[u8]) -> usize
+    ensures { λ r. ⌜ r ≡ length (takeWhile notNewline (now (text .entry))) ⌝ }
 {
-    let mut rest = text;
-    while rest.len() > 0 {
-        if rest[0] == b'\n' {
-            return rest;
+    let mut i = 0;
+    while i < text.len() {
+        if text[i] == b'\n' {
+            return i;
         }
-        rest = &rest[1..];
+        i += 1;
     }
-    rest
+    i
+}
+
+// How many times `byte` stands first.
+fn leading(text: &[u8], byte: u8) -> usize
+    ensures { λ r. ⌜ r ≡ length (takeWhile (eqb byte) (now (text .entry))) ⌝ }
+{
+    let mut i = 0;
+    while i < text.len() {
+        if text[i] != byte {
+            return i;
+        }
+        i += 1;
+    }
+    i
+}
+
+// The text without the `byte`s at its front.
+pub fn skip_byte(text: &[u8], byte: u8) -> &[u8]
+    ensures { λ r. ⌜ (now r ≡ dropWhile (eqb byte) (now (text .entry))) × (r .ptr ≡ (text .entry .ptr .0, length (takeWhile (eqb byte) (now (text .entry))) + text .entry .ptr .1)) ⌝ }
+{
+    let n = leading(text, byte);
+    &text[n..]
 }
 
 pub fn skip_spaces(text: &[u8]) -> &[u8]
-    ensures { λ r. ⌜ now r ≡ dropWhile isSpace (now (text .entry)) ⌝ }
+    ensures { λ r. ⌜ (now r ≡ dropWhile isSpace (now (text .entry))) × (r .ptr ≡ (text .entry .ptr .0, length (takeWhile isSpace (now (text .entry))) + text .entry .ptr .1)) ⌝ }
 {
-    let mut rest = text;
-    while rest.len() > 0 {
-        if rest[0] != b' ' {
-            return rest;
-        }
-        rest = &rest[1..];
-    }
-    rest
+    skip_byte(text, b' ')
 }
 
 // How many bytes of a name stand first.
@@ -97,7 +110,7 @@ pub fn next_component(text: &[u8]) -> usize
 
 // Does `text` begin with `word`?
 pub fn starts_with(text: &[u8], word: &[u8]) -> bool
-    ensures { λ r. ⌜ after (now (word .entry)) (now (text .entry)) ≡ (if r then some (drop (length (now (word .entry))) (now (text .entry))) else none) ⌝ }
+    ensures { λ r. ⌜ r ≡ startsWith (now (word .entry)) (now (text .entry)) ⌝ }
 {
     if text.len() < word.len() {
         return false;
@@ -132,7 +145,7 @@ fn quoted_length(text: &[u8]) -> usize
 
 // The include that `text`, which follows a `#`, asks for.
 pub fn parse_include(text: &[u8]) -> Include
-    ensures { λ r. ⌜ Included (now (text .entry)) r ⌝ }
+    ensures { λ r. ⌜ r ≡ includeAt (now (text .entry)) ⌝ }
 {
     let line = skip_spaces(text);
     if !starts_with(line, b"include") {
@@ -165,7 +178,7 @@ pub fn copy_in(source: &[u8], store: &mut [u8], at: usize)
 // Puts `bytes` at `at`, and answers the place after them.
 pub fn put(bytes: &[u8], out: &mut [u8], at: usize) -> usize
     requires { ⌜ at + length (now bytes) ≤ length (now out) ⌝ }
-    ensures { λ r. ⌜ (r ≡ at + length (now (bytes .entry))) × (take r (now (out .exit)) ≡ take at (now (out .entry)) ++ now (bytes .entry)) ⌝ }
+    ensures { λ r. ⌜ (r ≡ at + length (now (bytes .entry))) × (now (out .exit) ≡ paste (now (out .entry)) at (now (bytes .entry)) (length (now (bytes .entry)))) ⌝ }
 {
     copy_in(bytes, out, at);
     at + bytes.len()

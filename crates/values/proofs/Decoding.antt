@@ -1,153 +1,141 @@
--- The loop that decodes a value: what is stored so far, with the value of the text that is left, makes the whole. Assumes nothing.
+-- The loop that decodes a value: what is stored is a beginning of the value, and the text that is left gives the rest. Assumes nothing.
 use mathlib.Core.List.{List, [], _∷_, _++_, flatten}
 use mathlib.Core.Path.{_≡_, refl, sym, ap, _∙_}
-use Prim.Native.Nat.{ℕ, suc, _+_, _-_, _≤_, _<_}
-use native.Mathlib.Nat.{le-refl}
+use Prim.Native.Nat.{ℕ, suc, _+_, _-_, _≤_, _<_, min}
+use native.Mathlib.Nat.{min-eq-left, min-eq-right}
+use native.Mathlib.Numerals.{add-one}
 use native.Mathlib.Omega.{arith}
-use lib.ListN.{length, take, drop, getD, set, length-append, length-drop}
-use lib.Seq.{paste, paste-zero, length-paste, length-take-le, drop-drop, drop-cons}
-use Rattle.definition.specs.Parsing.{nothing, found, Parsed, many}
+use lib.ListN.{length, take, drop, getD, set, length-drop, length-set, drop-of-length-le}
+use lib.Seq.{paste, paste-zero, paste-suc, drop-drop, drop-cons, getD-drop}
+use borrow.Author.Tests.{le-leb, lt-leb, eq-eqb}
+use Rattle.definition.specs.Parsing.{nothing, Parsed, many}
 use Rattle.definition.specs.Bytes.{newline, backslash}
 use Rattle.definition.specs.Text.{pieceAt}
-use Rattle.laws.proofs.Lists.{part-rest, paste-one, paste-append}
-use Rattle.laws.proofs.Parsing.{many-stop, many-more}
+use Rattle.laws.proofs.Lists.{part-rest}
+use Rattle.laws.proofs.Parsing.{many-stop}
 use Rattle.laws.proofs.Keys.{piece-shrinks}
-use Rattle.values.specs.declared.Piece.{Piece}
-use Rattle.values.specs.declared.Piece.the-variants.{End, Byte, Keep, Drop}
-use Rattle.values.specs.Pieces.{pieceOf, sizeOf, IsPiece}
-use Rattle.values.specs.Decoded.{valueAt, Stored}
+use Rattle.values.specs.declared.Stored.{Stored}
+use Rattle.values.specs.declared.Stored.the-variants.{Done, Full}
+use Rattle.values.specs.Pieces.{Yields}
+use Rattle.values.specs.Decoded.{valueAt, restAt, storedAt, Decoded}
 use Rattle.values.proofs.Escapes.{piece-plain}
 
 -- ---- The piece at i of a text
 
--- it gives ys and takes n bytes
-pub record Gives (t : List ℕ) (i : ℕ) (ys : List ℕ) (n : ℕ) : Type 0 where
-  pub piece : pieceAt (drop i t) ≡ found ys (drop n (drop i t))
-  pub inside : n ≤ length (drop i t)
+module _ (t : List ℕ) (i : ℕ) where
+  pub over : length t ≤ i → pieceAt (drop i t) ≡ nothing
+  unfolding pieceAt
+  over h = rw (drop-of-length-le t h) refl
 
-pub plain-gives : (t : List ℕ) (i : ℕ) → i < length t → (getD t i 0 ≡ backslash → ⊥) → (getD t i 0 ≡ newline → ⊥) → Gives t i (getD t i 0 ∷ []) 1
-unfolding pieceOf sizeOf
-plain-gives t i h e f =
-    let p = rw (← drop-cons t i 0 h) at (piece-plain (getD t i 0 ∷ drop (suc i) t) (omega arith) f e) in
-    record { piece = sym (p .same); inside = p .inside }
+  module _ (h : i < length t) where
+    pub ended : getD t i 0 ≡ newline → pieceAt (drop i t) ≡ nothing
+    unfolding pieceAt
+    ended e = rw (drop-cons t i 0 h, eq-eqb (getD t i 0) newline e) refl
 
--- p is what the code says of the part from i on
-module _ (t : List ℕ) (i : ℕ) {p : Piece} (h : IsPiece (take (length t - i) (drop i t)) p) where
-  there : IsPiece (drop i t) p
-  there = rw (part-rest t i) at h
+    pub plain : (getD t i 0 ≡ newline → ⊥) → (getD t i 0 ≡ backslash → ⊥) → Yields (drop i t) (getD t i 0 ∷ []) 1
+    plain e f = rw (← drop-cons t i 0 h) at (piece-plain (getD t i 0 ∷ drop (suc i) t) (omega arith) e f)
 
-  pub end-gives : p ≡ End → pieceAt (drop i t) ≡ nothing
-  unfolding pieceOf
-  end-gives e = let q = rw e at there in sym (q .same)
-
-  pub byte-gives : (b n : ℕ) → p ≡ Byte b n → Gives t i (b ∷ []) n
-  unfolding pieceOf sizeOf
-  byte-gives b n e = let q = rw e at there in record { piece = sym (q .same); inside = q .inside }
-
-  pub keep-gives : (n : ℕ) → p ≡ Keep n → Gives t i (take n (drop i t)) n
-  unfolding pieceOf sizeOf
-  keep-gives n e = let q = rw e at there in record { piece = sym (q .same); inside = q .inside }
-
-  pub drop-gives : (n : ℕ) → p ≡ Drop n → Gives t i [] n
-  unfolding pieceOf sizeOf
-  drop-gives n e = let q = rw e at there in record { piece = sym (q .same); inside = q .inside }
-
-module _ {t : List ℕ} {i : ℕ} {ys : List ℕ} {n : ℕ} (g : Gives t i ys n) where
-  value-on : valueAt (drop i t) ≡ ys ++ valueAt (drop (i + n) t)
-  unfolding flatten
-  value-on =
-      rw (drop-drop n i t)
-      at (ap (λ (r : Parsed (List ℕ)). flatten (r .items)) (many-more pieceAt piece-shrinks (drop i t) ys (drop n (drop i t)) (g .piece)))
-
-  rest-on : many pieceAt (drop i t) .rest ≡ many pieceAt (drop (i + n) t) .rest
-  rest-on =
-      rw (drop-drop n i t)
-      at (ap (λ (r : Parsed (List ℕ)). r .rest) (many-more pieceAt piece-shrinks (drop i t) ys (drop n (drop i t)) (g .piece)))
-
-  pub piece-fits : i ≤ length t → i + n ≤ length t
-  piece-fits h = omega (arith, rw (length-drop i t) at (g .inside))
-
-  -- it takes a byte or more
-  pub piece-less : length t - (i + n) < length t - i
-  piece-less =
-      omega (arith, rw (drop-drop n i t, length-drop (i + n) t, length-drop i t) at (piece-shrinks (drop i t) ys (drop n (drop i t)) (g .piece)))
+    -- the text after a backslash, as the code takes it
+    pub escaped : getD t i 0 ≡ backslash → backslash ∷ take (length t - (i + 1)) (drop (i + 1) t) ≡ drop i t
+    escaped e = rw (part-rest t (i + 1), add-one, ← e) (sym (drop-cons t i 0 h))
 
 -- ---- The loop
 
--- t from i on is left, and s holds what t before i gives, from `at` to `end`
+-- s holds the value of t up to `end`, and t from i on is left
 pub record Decoding (t s₀ : List ℕ) (at : ℕ) (s : List ℕ) (end i : ℕ) : Type 0 where
-  pub stored : paste s₀ at (valueAt t) (length (valueAt t)) ≡ paste s end (valueAt (drop i t)) (length (valueAt (drop i t)))
-  pub ends : at + length (valueAt t) ≡ end + length (valueAt (drop i t))
-  pub rest : many pieceAt t .rest ≡ many pieceAt (drop i t) .rest
+  pub stored : s ≡ paste s₀ at (valueAt t) (end - at)
+  pub left : valueAt (drop i t) ≡ drop (end - at) (valueAt t)
+  pub rest : restAt t ≡ restAt (drop i t)
+  pub begun : at ≤ end
+  pub most : end - at ≤ length (valueAt t)
   pub in-text : i ≤ length t
   pub in-store : end ≤ length s
   pub kept : length s ≡ length s₀
 
 pub decoding-first : (t s : List ℕ) (at : ℕ) → at ≤ length s → Decoding t s at s at 0
-decoding-first t s at h = record { stored = refl; ends = refl; rest = refl; in-text = omega arith; in-store = h; kept = refl }
+decoding-first t s at h =
+    let z : at - at ≡ 0 = omega arith in
+    record {
+      stored = rw z (paste-zero s at (valueAt t));
+      left = rw z refl;
+      rest = refl;
+      begun = omega arith;
+      most = omega arith;
+      in-text = omega arith;
+      in-store = h;
+      kept = refl;
+    }
+
+-- one more byte of v
+one-stored : (s₀ v : List ℕ) (at j : ℕ) {s : List ℕ} {end b : ℕ} → s ≡ paste s₀ at v j → at + j ≡ end → getD v j 0 ≡ b → end < length s₀ → j < length v
+    → set s end b ≡ paste s₀ at v (suc j)
+one-stored s₀ v at j e p q h k = rw (e, ← p, ← q) (paste-suc s₀ at v j 0 (omega arith) k)
 
 module _ {t s₀ : List ℕ} {at : ℕ} {s : List ℕ} {end i : ℕ} (d : Decoding t s₀ at s end i) where
-  pub decoded : pieceAt (drop i t) ≡ nothing → Stored t s₀ at s end i
-  unfolding flatten
+  left-length : length (valueAt (drop i t)) ≡ length (valueAt t) - (end - at)
+  left-length = ap length (d .left) ∙ length-drop (end - at) (valueAt t)
+
+  pub decoded : pieceAt (drop i t) ≡ nothing → Decoded t s₀ at s (Done end i)
+  unfolding flatten storedAt
   decoded e =
       let m = many-stop pieceAt piece-shrinks (drop i t) e in
-      let v : valueAt (drop i t) ≡ [] = ap (λ (r : Parsed (List ℕ)). flatten (r .items)) m in
+      let v : length (valueAt (drop i t)) ≡ 0 = ap (λ (r : Parsed (List ℕ)). length (flatten (r .items))) m in
+      let r : length (restAt t) ≡ length t - i = ap length (d .rest ∙ ap (λ (r : Parsed (List ℕ)). r .rest) m) ∙ length-drop i t in
+      let k : end - at ≡ length (valueAt t) = omega (arith, left-length, d .most) in
+      let a : end ≡ at + length (valueAt t) = omega (arith, d .begun) in
+      let b : i ≡ length t - length (restAt t) = omega (arith, d .in-text) in
+      let h : length (valueAt t) ≤ length s₀ - at = omega (arith, d .in-store, d .kept) in
       record {
-        room = omega (arith, d .ends, ap length v, d .in-store, d .kept);
-        ends = omega (arith, d .ends, ap length v);
-        stored = paste-zero s end [] ∙ sym (rw v at (d .stored));
-        rest = sym (d .rest ∙ ap (λ (r : Parsed (List ℕ)). r .rest) m);
-        inside = d .in-text;
+        answer = rw (le-leb (at + length (valueAt t)) (length s₀) (omega (arith, d .in-store, d .kept)), ← a, ← b) refl;
+        stored = d .stored ∙ rw (k, min-eq-left h) refl;
       }
 
-  module _ {ys : List ℕ} {n : ℕ} (g : Gives t i ys n) where
-    ends-on : at + length (valueAt t) ≡ end + length ys + length (valueAt (drop (i + n) t))
-    ends-on = omega (arith, d .ends, ap length (value-on g), length-append ys (valueAt (drop (i + n) t)))
+  module _ {n : ℕ} where
+    pub piece-fits : {ys : List ℕ} → Yields (drop i t) ys n → i + n ≤ length t
+    piece-fits g = omega (arith, g .inside, length-drop i t, d .in-text)
 
-    more : end + length ys ≤ length s → Decoding t s₀ at (paste s end ys (length ys)) (end + length ys) (i + n)
-    more k =
-        let l = length-paste s end ys (length ys) k (le-refl (length ys)) in
-        record {
-          stored = d .stored ∙ rw (value-on g) (paste-append s end ys (valueAt (drop (i + n) t)) k);
-          ends = ends-on;
-          rest = d .rest ∙ rest-on g;
-          in-text = piece-fits g (d .in-text);
-          in-store = omega arith;
-          kept = l ∙ d .kept;
-        }
+    module _ {b : ℕ} (g : Yields (drop i t) (b ∷ []) n) where
+      next-is : drop (end - at) (valueAt t) ≡ b ∷ valueAt (drop (i + n) t)
+      next-is = sym (d .left) ∙ rw (drop-drop n i t) at (g .value)
 
-    full : length s < end + length ys → length s₀ < at + length (valueAt t)
-    full k = omega (arith, ends-on, d .kept)
+      next-less : end - at < length (valueAt t)
+      next-less = omega (arith, ap length next-is, length-drop (end - at) (valueAt t))
 
-  module _ {b n : ℕ} (g : Gives t i (b ∷ []) n) where
-    pub byte-more : end < length s → Decoding t s₀ at (set s end b) (end + 1) (i + n)
-    byte-more k = rw (paste-one s end b k) (more g (omega arith))
+      pub byte-more : end < length s → Decoding t s₀ at (set s end b) (end + 1) (i + n)
+      byte-more k =
+          let e = sym (drop-cons (valueAt t) (end - at) 0 next-less) ∙ next-is in
+          let x : getD (valueAt t) (end - at) 0 ≡ b = cc in
+          let y : valueAt (drop (i + n) t) ≡ drop (suc (end - at)) (valueAt t) = cc in
+          let z : end + 1 - at ≡ suc (end - at) = omega (arith, d .begun) in
+          record {
+            stored = rw z (one-stored s₀ (valueAt t) at (end - at) (d .stored) (omega (arith, d .begun)) x (omega (arith, d .kept)) next-less);
+            left = rw z y;
+            rest = d .rest ∙ rw (drop-drop n i t) at (g .rest);
+            begun = omega (arith, d .begun);
+            most = omega (arith, next-less);
+            in-text = piece-fits g;
+            in-store = rw (length-set s end b) (omega arith);
+            kept = length-set s end b ∙ d .kept;
+          }
 
-    pub byte-full : length s ≤ end → length s₀ < at + length (valueAt t)
-    byte-full k = full g (omega arith)
+      pub full : length s ≤ end → Decoded t s₀ at s Full
+      unfolding storedAt
+      full k =
+          let a : length s₀ - at ≤ length (valueAt t) = omega (arith, next-less, d .kept, d .in-store) in
+          let e : end - at ≡ length s₀ - at = omega (arith, d .kept, d .in-store) in
+          record {
+            answer = rw (lt-leb (at + length (valueAt t)) (length s₀) (omega (arith, next-less, d .kept, d .in-store, d .begun))) refl;
+            stored = d .stored ∙ rw (e, min-eq-right a) refl;
+          }
 
-  module _ {n : ℕ} (g : Gives t i (take n (drop i t)) n) where
-    kept-length : length (take n (drop i t)) ≡ n
-    kept-length = length-take-le n (drop i t) (g .inside)
-
-    kept-part : i + n - i ≡ n
-    kept-part = omega arith
-
-    -- the part of the text that is stored
-    pub part-length : length (take (i + n - i) (drop i t)) ≡ n
-    part-length = rw kept-part kept-length
-
-    pub keep-more : {s′ : List ℕ} → s′ ≡ paste s end (take (i + n - i) (drop i t)) (length (take (i + n - i) (drop i t))) → end + n ≤ length s
-        → Decoding t s₀ at s′ (end + n) (i + n)
-    keep-more e k =
-        let l = kept-length in
-        rw (e, kept-part, kept-length) (rw kept-length at (more g (omega arith)))
-
-    pub keep-full : length s < end + n → length s₀ < at + length (valueAt t)
-    keep-full k = full g (omega (arith, kept-length))
-
-  pub drop-more : {n : ℕ} → Gives t i [] n → Decoding t s₀ at s end (i + n)
-  drop-more g =
-      let m = more g (omega (arith, d .in-store)) in
-      let z : end + 0 ≡ end = omega arith in
-      rw (← paste-zero s end [], z) at m
+    pub drop-more : Yields (drop i t) [] n → Decoding t s₀ at s end (i + n)
+    drop-more g = record {
+      stored = d .stored;
+      left = rw (drop-drop n i t) at (sym (g .value)) ∙ d .left;
+      rest = d .rest ∙ rw (drop-drop n i t) at (g .rest);
+      begun = d .begun;
+      most = d .most;
+      in-text = piece-fits g;
+      in-store = d .in-store;
+      kept = d .kept;
+    }

@@ -1,24 +1,26 @@
 -- Octal digits, escapes and pieces, as the code tells them apart. Assumes nothing.
 use mathlib.Core.Bool.{Bool, true, false, _||_}
 use mathlib.Core.Logic.{_⊎_, inl, inr, ⊎-elim}
-use mathlib.Core.List.{List, [], _∷_}
+use mathlib.Core.List.{List, [], _∷_, _++_, flatten}
 use mathlib.Core.Path.{_≡_, refl, sym, ap, _∙_}
 use Prim.Native.Nat.{ℕ, suc, _+_, _-_, _*_, _%_, _≤_, _<_}
 use native.Mathlib.Nat.{zero-add, add-mod, mod-add-mod, mod-eq-of-lt}
 use native.Mathlib.Numerals.{one-add}
 use native.Mathlib.Omega.{arith}
 use lib.Dec.{eqb, leb}
-use lib.ListN.{length, take, drop, getD, length-take, drop-of-length-le}
+use lib.ListN.{length, take, drop, getD, length-take, length-drop, drop-of-length-le, take-append-drop}
 use lib.Seq.{getD-take, take-take, drop-cons}
 use borrow.Author.Tests.{eq-eqb, ne-eqb, leb-true}
 use Rattle.definition.specs.Lists.{all, takeWhile}
-use Rattle.definition.specs.Parsing.{found}
+use Rattle.definition.specs.Parsing.{found, Parsed}
 use Rattle.definition.specs.Bytes.{tab, space, newline, backslash, letter-n, isBlank, isOctal}
 use Rattle.definition.specs.Text.{positional, lineEnds, octalOf, escapeAt, pieceAt}
-use Rattle.laws.proofs.Lists.{and-true, all-takeWhile, part-rest, take-run, length-takeWhile-le, run-end, run-stop, run-more}
-use Rattle.values.specs.declared.Piece.{Piece}
-use Rattle.values.specs.declared.Piece.the-variants.{End, Byte, Keep, Drop}
-use Rattle.values.specs.Pieces.{pieceOf, sizeOf, IsPiece}
+use Rattle.laws.proofs.Lists.{and-true, all-takeWhile, part-rest, take-run, length-takeWhile-le}
+use Rattle.scan.proofs.Runs.{Passed, passed-more, passed-stop, passed-end}
+use Rattle.laws.proofs.Parsing.{many-more}
+use Rattle.laws.proofs.Keys.{piece-shrinks}
+use Rattle.values.specs.Decoded.{valueAt, restAt}
+use Rattle.values.specs.Pieces.{Yields}
 
 -- ---- Eight times a byte, and a number of three digits
 
@@ -58,20 +60,23 @@ octal-number a b c x y ha hb hc e f =
 abbrev pub digits : List ℕ → List ℕ
 digits t = takeWhile isOctal (take 3 t)
 
-module _ (t : List ℕ) (n : ℕ) where
-  pub digits-end : 3 ≤ n → length (takeWhile isOctal (drop n (take 3 t))) ≡ 0
-  digits-end h = run-end isOctal (take 3 t) n (simp length-take (omega arith))
+-- n of them are passed
+module _ (t : List ℕ) {n : ℕ} (d : Passed isOctal (take 3 t) n) where
+  pub digits-end : 3 ≤ n → n ≡ length (digits t)
+  digits-end h = passed-end isOctal (take 3 t) d (simp length-take (omega arith))
 
-  pub digits-short : length t ≤ n → length (takeWhile isOctal (drop n (take 3 t))) ≡ 0
-  digits-short h = run-end isOctal (take 3 t) n (simp length-take (omega arith))
+  pub digits-short : length t ≤ n → n ≡ length (digits t)
+  digits-short h = passed-end isOctal (take 3 t) d (simp length-take (omega arith))
 
   module _ (h : n < 3) (k : n < length t) where
-    pub digits-stop : isOctal (getD t n 0) ≡ false → length (takeWhile isOctal (drop n (take 3 t))) ≡ 0
-    digits-stop e = run-stop isOctal (take 3 t) n 0 (simp length-take (omega arith)) (rw (getD-take 3 t n 0 h) e)
+    in-three : n < length (take 3 t)
+    in-three = simp length-take (omega arith)
 
-    pub digits-more : isOctal (getD t n 0) ≡ true
-        → length (takeWhile isOctal (drop n (take 3 t))) ≡ 1 + length (takeWhile isOctal (drop (n + 1) (take 3 t)))
-    digits-more e = run-more isOctal (take 3 t) n 0 (simp length-take (omega arith)) (rw (getD-take 3 t n 0 h) e)
+    pub digits-stop : isOctal (getD t n 0) ≡ false → n ≡ length (digits t)
+    digits-stop e = passed-stop isOctal (take 3 t) d in-three (rw (getD-take 3 t n 0 h) e)
+
+    pub digits-more : isOctal (getD t n 0) ≡ true → Passed isOctal (take 3 t) (n + 1)
+    digits-more e = passed-more isOctal (take 3 t) d in-three (rw (getD-take 3 t n 0 h) e)
 
 module _ (t : List ℕ) where
   pub digits-few : length (digits t) ≤ 3
@@ -99,11 +104,45 @@ three-octal t n e f =
     let r = and-true (isOctal (getD t 2 0)) _ (q .1) in
     (p .0, q .0, r .0)
 
+-- ---- Pieces
+
+-- a piece of the definition
+piece-yields : (t ys : List ℕ) (n : ℕ) → pieceAt t ≡ found ys (drop n t) → n ≤ length t → Yields t ys n
+unfolding flatten
+piece-yields t ys n e h =
+    let m = many-more pieceAt piece-shrinks t ys (drop n t) e in
+    record {
+      value = ap (λ (r : Parsed (List ℕ)). flatten (r .items)) m;
+      rest = ap (λ (r : Parsed (List ℕ)). r .rest) m;
+      some = omega (arith, length-drop n t, piece-shrinks t ys (drop n t) e);
+      inside = h;
+    }
+
+pub piece-plain : (t : List ℕ) → 0 < length t → (getD t 0 0 ≡ newline → ⊥) → (getD t 0 0 ≡ backslash → ⊥) → Yields t (getD t 0 0 ∷ []) 1
+unfolding pieceAt
+piece-plain [] h e f = absurd (omega arith)
+piece-plain (c ∷ t) h e f = piece-yields (c ∷ t) (c ∷ []) 1 (rw (ne-eqb c newline e, ne-eqb c backslash f) refl) h
+
+-- octal digits are plain
+digits-plain : (ds u : List ℕ) → all isOctal ds ≡ true → (valueAt (ds ++ u) ≡ ds ++ valueAt u) × (restAt (ds ++ u) ≡ restAt u)
+unfolding all
+digits-plain [] u h = (refl, refl)
+digits-plain (d ∷ ds) u h =
+    let a = and-true (isOctal d) (all isOctal ds) h in
+    let r = octal-range d (a .0) in
+    let g = piece-plain (d ∷ ds ++ u) (omega arith) (λ e. omega arith) (λ e. omega arith) in
+    let ih = digits-plain ds u (a .1) in
+    (g .value ∙ ap (λ (l : List ℕ). d ∷ l) (ih .0), g .rest ∙ ih .1)
+
 -- ---- Escapes: t follows the backslash
 
-pub escape-end : (t : List ℕ) → length t ≡ 0 → IsPiece (backslash ∷ t) (Keep 1)
-unfolding pieceOf sizeOf pieceAt escapeAt
-escape-end [] h = record { same = refl; inside = omega arith }
+escape-yields : (t ys : List ℕ) (n : ℕ) → escapeAt t ≡ found ys (drop n t) → n ≤ length t → Yields (backslash ∷ t) ys (1 + n)
+unfolding pieceAt
+escape-yields t ys n e h = rw one-add (piece-yields (backslash ∷ t) ys (suc n) e (omega arith))
+
+pub escape-end : (t : List ℕ) → length t ≡ 0 → Yields (backslash ∷ t) (backslash ∷ []) 1
+unfolding escapeAt
+escape-end [] h = escape-yields [] (backslash ∷ []) 0 refl (omega arith)
 escape-end (c ∷ t) h = absurd (omega arith)
 
 -- what a backslash keeps from being special
@@ -121,30 +160,31 @@ unfolding isBlank
 not-escaped-test c h =
     rw (ne-eqb c space (λ e. h (inr (inl e))), ne-eqb c tab (λ e. h (inl e)), ne-eqb c backslash (λ e. h (inr (inr e)))) refl
 
-pub escape-itself : (t : List ℕ) → 0 < length t → Escaped (getD t 0 0) → IsPiece (backslash ∷ t) (Byte (getD t 0 0) 2)
-unfolding pieceOf sizeOf pieceAt escapeAt
+pub escape-itself : (t : List ℕ) → 0 < length t → Escaped (getD t 0 0) → Yields (backslash ∷ t) (getD t 0 0 ∷ []) 2
+unfolding escapeAt
 escape-itself [] h e = absurd (omega arith)
-escape-itself (c ∷ t) h e = record { same = rw (escaped-test c e) refl; inside = omega arith }
+escape-itself (c ∷ t) h e = escape-yields (c ∷ t) (c ∷ []) 1 (rw (escaped-test c e) refl) h
 
-pub escape-newline : (t : List ℕ) → 0 < length t → getD t 0 0 ≡ letter-n → IsPiece (backslash ∷ t) (Byte newline 2)
-unfolding pieceOf sizeOf pieceAt escapeAt isBlank
+pub escape-newline : (t : List ℕ) → 0 < length t → getD t 0 0 ≡ letter-n → Yields (backslash ∷ t) (newline ∷ []) 2
+unfolding escapeAt isBlank
 escape-newline [] h e = absurd (omega arith)
-escape-newline (c ∷ t) h e = record { same = rw e refl; inside = omega arith }
+escape-newline (c ∷ t) h e = escape-yields (c ∷ t) (newline ∷ []) 1 (rw e refl) h
 
-pub escape-joined : (t : List ℕ) → 0 < length t → getD t 0 0 ≡ newline → IsPiece (backslash ∷ t) (Drop 2)
-unfolding pieceOf sizeOf pieceAt escapeAt isBlank
+pub escape-joined : (t : List ℕ) → 0 < length t → getD t 0 0 ≡ newline → Yields (backslash ∷ t) [] 2
+unfolding escapeAt isBlank
 escape-joined [] h e = absurd (omega arith)
-escape-joined (c ∷ t) h e = record { same = rw e refl; inside = omega arith }
+escape-joined (c ∷ t) h e = escape-yields (c ∷ t) [] 1 (rw e refl) h
 
 pub escape-other : (t : List ℕ) (n : ℕ) → 0 < length t → (Escaped (getD t 0 0) → ⊥) → (getD t 0 0 ≡ letter-n → ⊥)
-    → (getD t 0 0 ≡ newline → ⊥) → n ≡ length (digits t) → n ≡ 0 → IsPiece (backslash ∷ t) (Keep 1)
-unfolding pieceOf sizeOf pieceAt escapeAt takeWhile
+    → (getD t 0 0 ≡ newline → ⊥) → n ≡ length (digits t) → n ≡ 0 → Yields (backslash ∷ t) (backslash ∷ []) 1
+unfolding escapeAt takeWhile
 escape-other [] n h e f g d z = absurd (omega arith)
 escape-other (c ∷ t) n h e f g d z = at (isOctal c) refl
   where
-    at : (o : Bool) → isOctal c ≡ o → IsPiece (backslash ∷ c ∷ t) (Keep 1)
+    at : (o : Bool) → isOctal c ≡ o → Yields (backslash ∷ c ∷ t) (backslash ∷ []) 1
     at true k = absurd (let m : n ≡ suc (length (takeWhile isOctal (take 2 t))) = d ∙ rw k refl in omega arith)
-    at false k = record { same = rw (not-escaped-test c e, ne-eqb c letter-n f, ne-eqb c newline g, k) refl; inside = omega arith }
+    at false k =
+        escape-yields (c ∷ t) (backslash ∷ []) 0 (rw (not-escaped-test c e, ne-eqb c letter-n f, ne-eqb c newline g, k) refl) (omega arith)
 
 -- one digit or more: it is what octalOf says
 escape-octals : (t : List ℕ) (n : ℕ) → n ≡ length (digits t) → (n ≡ 0 → ⊥) → escapeAt t ≡ octalOf (digits t) (drop n t)
@@ -160,29 +200,30 @@ escape-octals (c ∷ t) n e h = at (isOctal c) refl
     at false k = absurd (h (e ∙ rw k refl))
 
 module _ (t : List ℕ) (n : ℕ) (e : n ≡ length (digits t)) where
-  pub escape-octal : (b : ℕ) → n ≡ 3 → b ≡ positional 8 0 (getD t 0 0 ∷ getD t 1 0 ∷ getD t 2 0 ∷ []) % 256 → IsPiece (backslash ∷ t) (Byte b 4)
-  unfolding pieceOf sizeOf pieceAt octalOf
+  pub escape-octal : (b : ℕ) → n ≡ 3 → b ≡ positional 8 0 (getD t 0 0 ∷ getD t 1 0 ∷ getD t 2 0 ∷ []) % 256 → Yields (backslash ∷ t) (b ∷ []) 4
+  unfolding octalOf
   escape-octal b f g =
-      record {
-        same = rw (escape-octals t n e (omega arith), three-digits t n e f, f, g) refl;
-        inside = omega (arith, digits-inside t);
-      }
+      escape-yields t (b ∷ []) 3 (rw (escape-octals t n e (omega arith), three-digits t n e f, f, g) refl) (omega (arith, digits-inside t))
 
   module _ (h : n ≡ 0 → ⊥) (k : n ≡ 3 → ⊥) where
-    pub escape-dropped : lineEnds (drop n t) ≡ true → IsPiece (backslash ∷ t) (Drop (1 + n))
-    unfolding pieceOf sizeOf pieceAt octalOf
+    pub escape-dropped : lineEnds (drop n t) ≡ true → Yields (backslash ∷ t) [] (1 + n)
+    unfolding octalOf
     escape-dropped l =
-        record {
-          same = rw (escape-octals t n e h, ← e, ne-eqb n 3 k, l, one-add) refl;
-          inside = omega (arith, digits-inside t);
-        }
+        escape-yields t [] n (rw (escape-octals t n e h, ← e, ne-eqb n 3 k, l) refl) (omega (arith, digits-inside t))
 
-    pub escape-kept : lineEnds (drop n t) ≡ false → IsPiece (backslash ∷ t) (Keep (1 + n))
-    unfolding pieceOf sizeOf pieceAt octalOf
+    -- the backslash stands for itself, and so do the digits
+    pub escape-kept : lineEnds (drop n t) ≡ false → Yields (backslash ∷ t) (backslash ∷ []) 1
+    unfolding octalOf
     escape-kept l =
+        let g =
+        escape-yields t (backslash ∷ digits t) n (rw (escape-octals t n e h, ← e, ne-eqb n 3 k, l) refl) (omega (arith, digits-inside t)) in
+        let p = digits-plain (digits t) (drop n t) (all-takeWhile isOctal (take 3 t)) in
+        let s : digits t ++ drop n t ≡ t = rw (digits-take t, ← e) (take-append-drop n t) in
         record {
-          same = rw (escape-octals t n e h, ← e, ne-eqb n 3 k, l, one-add) (ap (λ (ds : List ℕ). found (backslash ∷ ds) (drop n t)) (rw e (sym (digits-take t))));
-          inside = omega (arith, digits-inside t);
+          value = rw one-add at (g .value) ∙ ap (λ (l : List ℕ). backslash ∷ l) (sym (rw s at (p .0)));
+          rest = rw one-add at (g .rest) ∙ sym (rw s at (p .1));
+          some = omega arith;
+          inside = omega arith;
         }
 
 -- ---- A line's end
@@ -199,24 +240,3 @@ module _ (t : List ℕ) (n : ℕ) (h : n < length t) where
   pub line-goes-on : (getD t n 0 ≡ newline → ⊥) → lineEnds (drop n t) ≡ false
   unfolding lineEnds
   line-goes-on e = rw (drop-cons t n 0 h) (ne-eqb (getD t n 0) newline e)
-
--- ---- Pieces
-
-pub piece-end : (t : List ℕ) → length t ≡ 0 → IsPiece t End
-unfolding pieceOf sizeOf pieceAt
-piece-end [] h = record { same = refl; inside = omega arith }
-piece-end (c ∷ t) h = absurd (omega arith)
-
-pub piece-newline : (t : List ℕ) → 0 < length t → getD t 0 0 ≡ newline → IsPiece t End
-unfolding pieceOf sizeOf pieceAt
-piece-newline [] h e = absurd (omega arith)
-piece-newline (c ∷ t) h e = record { same = rw (eq-eqb c newline e) refl; inside = omega arith }
-
-pub piece-plain : (t : List ℕ) → 0 < length t → (getD t 0 0 ≡ newline → ⊥) → (getD t 0 0 ≡ backslash → ⊥) → IsPiece t (Byte (getD t 0 0) 1)
-unfolding pieceOf sizeOf pieceAt
-piece-plain [] h e f = absurd (omega arith)
-piece-plain (c ∷ t) h e f = record { same = rw (ne-eqb c newline e, ne-eqb c backslash f) refl; inside = omega arith }
-
-pub piece-escape : (t : List ℕ) (p : Piece) → 0 < length t → getD t 0 0 ≡ backslash → IsPiece (backslash ∷ take (length t - 1) (drop 1 t)) p → IsPiece t p
-piece-escape [] p h e r = absurd (omega arith)
-piece-escape (c ∷ t) p h e r = rw (part-rest (c ∷ t) 1, ← e) at r

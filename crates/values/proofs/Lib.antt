@@ -1,4 +1,5 @@
--- Laws that the proofs of values cite.
-pub mod Blanks
-pub mod Escapes
-pub mod Decoding
+-- Laws of values.
+pub mod Skipping
+mod Escapes
+mod Decoding
+pub mod Values

@@ -1,3 +1,3 @@
 -- What the contracts of values cite.
-pub mod Pieces
 pub mod Decoded
+pub mod Pieces

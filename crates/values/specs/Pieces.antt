@@ -1,28 +1,20 @@
--- What the code's answer on a piece of a value stands for.
-use mathlib.Core.List.{List, [], _∷_}
+-- What the code's answer on an escape says.
+use mathlib.Core.List.{List, [], _∷_, _++_}
 use mathlib.Core.Path.{_≡_}
 use Prim.Native.Nat.{ℕ, _≤_}
-use lib.ListN.{length, take, drop}
-use Rattle.definition.specs.Parsing.{Parse, nothing, found}
-use Rattle.definition.specs.Text.{pieceAt}
+use lib.ListN.{length, drop}
+use Rattle.values.specs.Decoded.{valueAt, restAt}
 use Rattle.values.specs.declared.Piece.{Piece}
-use Rattle.values.specs.declared.Piece.the-variants.{End, Byte, Keep, Drop}
+use Rattle.values.specs.declared.Piece.the-variants.{Byte, Drop}
 
--- the bytes that the piece gives, and the text after it
-unfoldable pub pieceOf : List ℕ → Piece → Parse (List ℕ)
-pieceOf t End = nothing
-pieceOf t (Byte b n) = found (b ∷ []) (drop n t)
-pieceOf t (Keep n) = found (take n t) (drop n t)
-pieceOf t (Drop n) = found [] (drop n t)
+-- the value of t begins with ys, which the first n bytes of t give
+pub record Yields (t ys : List ℕ) (n : ℕ) : Type 0 where
+  pub value : valueAt t ≡ ys ++ valueAt (drop n t)
+  pub rest : restAt t ≡ restAt (drop n t)
+  pub some : 1 ≤ n
+  pub inside : n ≤ length t
 
--- how many bytes of text it takes
-unfoldable pub sizeOf : Piece → ℕ
-sizeOf End = 0
-sizeOf (Byte b n) = n
-sizeOf (Keep n) = n
-sizeOf (Drop n) = n
-
--- p is the piece at the front of t
-pub record IsPiece (t : List ℕ) (p : Piece) : Type 0 where
-  pub same : pieceOf t p ≡ pieceAt t
-  pub inside : sizeOf p ≤ length t
+-- p stands at the front of t
+abbrev pub IsPiece : List ℕ → Piece → Type 0
+IsPiece t (Byte b n) = Yields t (b ∷ []) n
+IsPiece t (Drop n) = Yields t [] n

@@ -8,49 +8,53 @@ ghost use Rattle.definition.specs.Lists.{takeWhile};
 ghost use Rattle.definition.specs.Bytes.{backslash, isOctal};
 ghost use Rattle.definition.specs.Text.{positional, afterBlanks};
 ghost use Rattle.values.specs.Pieces.{IsPiece};
-ghost use Rattle.values.specs.Decoded.{Decoded};
-use scan::copy_in;
+ghost use Rattle.values.specs.Decoded.{blanksAt, Decoded};
 
-// The piece of a value at the front of a text.
-pub enum Piece {
-    // The text is at its end, or at the plain newline that ends the value.
-    End,
-    // The byte that so many bytes of text give.
+// What an escape gives. Its number counts bytes of text from the backslash on.
+enum Piece {
+    // So many bytes give this one.
     Byte(u8, usize),
-    // So many bytes of text give themselves.
-    Keep(usize),
-    // So many bytes of text give nothing.
+    // So many bytes give nothing.
     Drop(usize),
 }
 
-pub enum Value {
+// What became of a value.
+pub enum Stored {
     // Where the value ends in the store, and how many bytes of text it took, its newline left.
     Done(usize, usize),
-    // The store is too short for it.
+    // The store is too short for it, and full.
     Full,
+}
+
+// How many bytes of blanks and backslash-newline pairs stand first.
+fn blanks(text: &[u8]) -> usize
+    ensures { λ r. ⌜ r ≡ blanksAt (now (text .entry)) ⌝ }
+{
+    let mut i = 0;
+    while i < text.len() {
+        let c = text[i];
+        if scan::is_blank(c) {
+            i += 1;
+            continue;
+        }
+        if c != b'\\' || text.len() - i < 2 || text[i + 1] != b'\n' {
+            return i;
+        }
+        i += 2;
+    }
+    i
 }
 
 // The text after a `:` without the blanks and backslash-newline pairs at its front.
 pub fn skip_blanks(text: &[u8]) -> &[u8]
-    ensures { λ r. ⌜ now r ≡ afterBlanks (now (text .entry)) ⌝ }
+    ensures { λ r. ⌜ (now r ≡ afterBlanks (now (text .entry))) × (r .ptr ≡ (text .entry .ptr .0, blanksAt (now (text .entry)) + text .entry .ptr .1)) ⌝ }
 {
-    let mut rest = text;
-    while rest.len() > 0 {
-        let c = rest[0];
-        if scan::is_blank(c) {
-            rest = &rest[1..];
-            continue;
-        }
-        if c != b'\\' || rest.len() < 2 || rest[1] != b'\n' {
-            return rest;
-        }
-        rest = &rest[2..];
-    }
-    rest
+    let n = blanks(text);
+    &text[n..]
 }
 
 // The low eight bits of x * 8, by three doublings that wrap.
-pub fn times_eight(x: u8) -> u8
+fn times_eight(x: u8) -> u8
     ensures { λ r. ⌜ r ≡ (x * 8) % 256 ⌝ }
 {
     let two = std::num::wrapping_add_u8(x, x);
@@ -60,7 +64,7 @@ pub fn times_eight(x: u8) -> u8
 
 // The low eight bits of the number of three octal digits, as the Rust's release build has them.
 // Only the second product can wrap: it is a multiple of eight, so the last digit fits on top.
-pub fn octal(a: u8, b: u8, c: u8) -> u8
+fn octal(a: u8, b: u8, c: u8) -> u8
     requires { ⌜ (isOctal a ≡ true) × (isOctal b ≡ true) × (isOctal c ≡ true) ⌝ }
     ensures { λ r. ⌜ r ≡ positional 8 0 (a ∷ b ∷ c ∷ []) % 256 ⌝ }
 {
@@ -80,12 +84,12 @@ fn octal_digits(text: &[u8]) -> usize
     n
 }
 
-// The piece that begins with a backslash; text is what follows it.
+// The escape whose backslash stands before `text`. A backslash that stands for itself is the whole piece: the bytes after it are plain.
 fn parse_escape(text: &[u8]) -> Piece
     ensures { λ r. ⌜ IsPiece (backslash ∷ now (text .entry)) r ⌝ }
 {
     if text.len() == 0 {
-        return Piece::Keep(1);
+        return Piece::Byte(b'\\', 1);
     }
     let c = text[0];
     match c {
@@ -96,7 +100,7 @@ fn parse_escape(text: &[u8]) -> Piece
     }
     let n = octal_digits(text);
     if n == 0 {
-        return Piece::Keep(1);
+        return Piece::Byte(b'\\', 1);
     }
     if n == 3 {
         return Piece::Byte(octal(c, text[1], text[2]), 4);
@@ -104,67 +108,43 @@ fn parse_escape(text: &[u8]) -> Piece
     if n == text.len() || text[n] == b'\n' {
         return Piece::Drop(1 + n);
     }
-    Piece::Keep(1 + n)
+    Piece::Byte(b'\\', 1)
 }
 
-// The piece at the front of a text.
-pub fn parse_piece(text: &[u8]) -> Piece
-    ensures { λ r. ⌜ IsPiece (now (text .entry)) r ⌝ }
-{
-    if text.len() == 0 {
-        return Piece::End;
-    }
-    let b = text[0];
-    if b == b'\n' {
-        return Piece::End;
-    }
-    if b != b'\\' {
-        return Piece::Byte(b, 1);
-    }
-    parse_escape(&text[1..])
-}
-
-// Decodes the value at the front of a text, blanks skipped, into the store from `at` on.
-pub fn parse_value(text: &[u8], store: &mut [u8], at: usize) -> Value
+// Decodes the value at the front of a text, blanks skipped, into the store from `at` on, as far as there is room.
+pub fn parse_value(text: &[u8], store: &mut [u8], at: usize) -> Stored
     requires { ⌜ at ≤ length (now store) ⌝ }
     ensures { λ r. ⌜ Decoded (now (text .entry)) (now (store .entry)) at (now (store .exit)) r ⌝ }
 {
     let mut end = at;
     let mut i = 0;
-    loop {
-        // Most bytes are plain: they are stored here, with no call.
-        if i < text.len() {
-            let b = text[i];
-            if b != b'\\' && b != b'\n' {
-                if end >= store.len() {
-                    return Value::Full;
-                }
-                store[end] = b;
-                end += 1;
-                i += 1;
-                continue;
-            }
+    while i < text.len() {
+        let b = text[i];
+        if b == b'\n' {
+            return Stored::Done(end, i);
         }
-        let piece = parse_piece(&text[i..]);
-        match piece {
-            Piece::End => return Value::Done(end, i),
-            Piece::Byte(b, n) => {
-                if end >= store.len() {
-                    return Value::Full;
-                }
-                store[end] = b;
-                end += 1;
-                i += n;
+        // Most bytes are plain: they are stored here, with no call.
+        if b != b'\\' {
+            if end >= store.len() {
+                return Stored::Full;
             }
-            Piece::Keep(n) => {
-                if n > store.len() - end {
-                    return Value::Full;
+            store[end] = b;
+            end += 1;
+            i += 1;
+            continue;
+        }
+        let piece = parse_escape(&text[i + 1..]);
+        match piece {
+            Piece::Byte(given, n) => {
+                if end >= store.len() {
+                    return Stored::Full;
                 }
-                copy_in(&text[i..i + n], store, end);
-                end += n;
+                store[end] = given;
+                end += 1;
                 i += n;
             }
             Piece::Drop(n) => i += n,
         }
     }
+    Stored::Done(end, i)
 }

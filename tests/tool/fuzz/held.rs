@@ -1,7 +1,7 @@
 //! The crate's answers held to the model's, and to the Rust's by `rusts.rs`.
 
 use model::image;
-use model::lookup::{get_bool, get_bytes, get_string, get_value, Number};
+use model::lookup::{get_bool, get_bytes, get_string, get_value, show, Number};
 use records::{Query, Source};
 use resource_manager::{Database, Error, ValueError};
 use std::any::Any;
@@ -145,6 +145,7 @@ impl Held {
         let bytes = get_bytes(contents, bodies, n, c).map(|found| found.map(|place| place.of(bodies)));
         let string = get_string(contents, bodies, n, c).map(|found| found.map(|place| place.of(bodies)));
         let refused = bytes.is_err();
+        same("get_bytes_or", database.get_bytes_or(name, class, n), show(contents, bodies, n, c, n))?;
         same("get_bytes", database.try_get_bytes(name, class).map_err(Error::number), bytes.map_err(|r| r.number()))?;
         let strings = database.try_get_string(name, class).map(|found| found.map(str::as_bytes));
         same("get_string", strings.map_err(Error::number), string.map_err(|r| r.number()))?;

@@ -1,5 +1,5 @@
-//! The four lookups of the port and of the model in one image: the words that the calls return, the
-//! number that one of them writes, and that every lent byte stays as it was.
+//! The lookups of the port and of the model in one image: the words that the calls return, the number
+//! that one of them writes, the part that one shows, and that every lent byte stays as it was.
 
 use crate::both::Both;
 use crate::fenced::Fenced;
@@ -10,6 +10,7 @@ use records::Query;
 
 pub type Lookup = fn(&[u16], &[u8], &[u8], &[u8]) -> u64;
 pub type ValueLookup = fn(&[u16], &[u8], &[u8], &[u8], &mut i64) -> u64;
+pub type ShowLookup = for<'a> fn(&[u16], &'a [u8], &[u8], &[u8], &mut &'a [u8]) -> u64;
 
 /// The lookups of the port, or faulty ones in their place.
 #[derive(Clone, Copy)]
@@ -18,6 +19,7 @@ pub struct Lookups {
     pub get_string: Lookup,
     pub get_bool: Lookup,
     pub get_value: ValueLookup,
+    pub show: ShowLookup,
 }
 
 pub const PORTS: Lookups = Lookups {
@@ -25,6 +27,7 @@ pub const PORTS: Lookups = Lookups {
     get_string: port::get_string_word,
     get_bool: port::get_bool_word,
     get_value: port::get_value_word,
+    show: port::show_word,
 };
 
 const NONE: u64 = 65_535;
@@ -34,7 +37,30 @@ const FALSE: u64 = 0;
 
 const QUERY_PAGES: usize = 1;
 
-/// What the four calls return for one query, and the lent number afterwards.
+/// What is shown where there is no value.
+const DEFAULT: &[u8] = b"default";
+
+/// One lookup in so many is asked of the show call too, the first among them.
+const SHOWN_OF: usize = 4;
+
+/// A part of one of two slices: its start there, and its length.
+#[derive(Clone, Copy, Debug, PartialEq, Eq)]
+pub enum Part {
+    OfBodies(usize, usize),
+    OfDefault(usize, usize),
+}
+
+fn part(shown: &[u8], bodies: &[u8]) -> Part {
+    let from = |slice: &[u8]| (shown.as_ptr() as usize).wrapping_sub(slice.as_ptr() as usize);
+    if from(bodies) <= bodies.len() {
+        Part::OfBodies(from(bodies), shown.len())
+    } else {
+        Part::OfDefault(from(DEFAULT), shown.len())
+    }
+}
+
+/// What the calls return for one query, the lent number afterwards, and the word and the part of the show
+/// call where it is asked.
 #[derive(Clone, Copy, Debug, PartialEq, Eq)]
 pub struct Words {
     pub bytes: u64,
@@ -42,6 +68,7 @@ pub struct Words {
     pub boolean: u64,
     pub value: u64,
     pub out: i64,
+    pub show: Option<(u64, Part)>,
 }
 
 impl Words {
@@ -76,13 +103,13 @@ impl Asking {
         Self { lookups, name: Fenced::new(QUERY_PAGES), class: Fenced::new(QUERY_PAGES), turn: 0 }
     }
 
-    /// Compares the four lookups in the image that both hold.
+    /// Compares the lookups in the image that both hold.
     pub fn compare(&mut self, both: &mut Both, query: &Query) -> Result<Words, String> {
         let lent = self.lent_number();
         let words = self.call(both, query)?;
         both.same_buffers()?;
         let (contents, bodies) = both.models_image();
-        let models = models_words(contents, bodies, query, lent);
+        let models = models_words(contents, bodies, query, lent, words.show.is_some());
         if words != models {
             return Err(format!("the port answers {}, the model {}", shown(words), shown(models)));
         }
@@ -104,6 +131,11 @@ impl Asking {
             boolean: (self.lookups.get_bool)(contents, bodies, name, class),
             value: (self.lookups.get_value)(contents, bodies, name, class, &mut out),
             out,
+            show: (self.turn % SHOWN_OF == 1).then(|| {
+                let mut shown = DEFAULT;
+                let word = (self.lookups.show)(contents, bodies, name, class, &mut shown);
+                (word, part(shown, bodies))
+            }),
         };
         if name != &query.name[..] || class != &query.class[..] {
             return Err("the port changed the query".to_string());
@@ -118,11 +150,12 @@ impl Asking {
 }
 
 /// The words that the model's answers make.
-fn models_words(contents: &[u16], bodies: &[u8], query: &Query, lent: i64) -> Words {
+fn models_words(contents: &[u16], bodies: &[u8], query: &Query, lent: i64, is_shown: bool) -> Words {
     let (name, class) = (&query.name[..], &query.class[..]);
     let value = lookup::get_value(contents, bodies, name, class);
+    let bytes = place_word(lookup::get_bytes(contents, bodies, name, class));
     Words {
-        bytes: place_word(lookup::get_bytes(contents, bodies, name, class)),
+        bytes,
         string: place_word(lookup::get_string(contents, bodies, name, class)),
         boolean: coded(lookup::get_bool(contents, bodies, name, class), |is| if is { TRUE } else { FALSE }),
         value: match value {
@@ -132,6 +165,7 @@ fn models_words(contents: &[u16], bodies: &[u8], query: &Query, lent: i64) -> Wo
             Err(refusal) => refusal.number().into(),
         },
         out: if let Ok(Number::Is(number)) = value { number } else { lent },
+        show: is_shown.then(|| (bytes, part(lookup::show(contents, bodies, name, class, DEFAULT), bodies))),
     }
 }
 
@@ -188,6 +222,7 @@ pub fn shown(words: Words) -> String {
         _ if word & 0xFFFF == 0 => format!("{} bytes at {}", word >> 32, word >> 16 & 0xFFFF),
         _ => format!("the word {word:#x}"),
     };
-    let Words { bytes, string, boolean, value, out } = words;
-    format!("{}, as a string {}, as a boolean {boolean}, as a value {value} with {out}", place(bytes), place(string))
+    let Words { bytes, string, boolean, value, out, show } = words;
+    let show = show.map_or(String::new(), |(word, part)| format!(", and shows {part:?} with {}", place(word)));
+    format!("{}, as a string {}, as a boolean {boolean}, as a value {value} with {out}{show}", place(bytes), place(string))
 }

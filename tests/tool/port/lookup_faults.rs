@@ -1,13 +1,13 @@
 //! Shows that the comparisons of lookups can fail: ports with a fault each, every one of which they
 //! must see. A faulty port is the port with something done to what it takes or to what it answers.
 
-use crate::asking::{Lookup, Lookups, ValueLookup, PORTS};
+use crate::asking::{Lookup, Lookups, ShowLookup, ValueLookup, PORTS};
 use crate::faults::{each_seen, peek, poke, status};
 use crate::lookup_tests;
 use crate::third::{Telling, Third};
 use cases::readings::Extent;
 use cases::struck::FAMILIES;
-use port::{get_bool_word, get_bytes_word, get_string_word, get_value_word};
+use port::{get_bool_word, get_bytes_word, get_string_word, get_value_word, show_word};
 
 const fn bytes(get_bytes: Lookup) -> Lookups {
     Lookups { get_bytes, ..PORTS }
@@ -25,7 +25,11 @@ const fn value(get_value: ValueLookup) -> Lookups {
     Lookups { get_value, ..PORTS }
 }
 
-const FAULTS: [(&str, Lookups); 31] = [
+const fn show(show: ShowLookup) -> Lookups {
+    Lookups { show, ..PORTS }
+}
+
+const FAULTS: [(&str, Lookups); 36] = [
     ("none always", bytes(|c, b, n, k| on_found(get_bytes_word(c, b, n, k), |_| 65_535))),
     ("the first of equals", bytes(first_of_equals)),
     ("a length one less", bytes(|c, b, n, k| on_found(get_bytes_word(c, b, n, k), |word| word.saturating_sub(1 << 32)))),
@@ -66,6 +70,11 @@ const FAULTS: [(&str, Lookups); 31] = [
     ("not a number is none", value(|c, b, n, k, out| on_number(get_value_word(c, b, n, k, out), 65_534, 65_535))),
     ("none is written as 0", value(zero_without_a_number)),
     ("a number is not written", value(|c, b, n, k, _| get_value_word(c, b, n, k, &mut 0))),
+    ("the default is always shown", show(|c, b, n, k, _| get_bytes_word(c, b, n, k))),
+    ("an empty value shows a part of the default", show(empty_of_the_default)),
+    ("an empty value shows another part of the bodies", show(empty_at_the_start)),
+    ("none shows nothing", show(nothing_for_none)),
+    ("a default has another word", show(|c, b, n, k, shown| on_number(show_word(c, b, n, k, shown), 65_535, 0))),
 ];
 
 /// Faults that the fences around lent memory stop.
@@ -193,6 +202,31 @@ fn zero_without_a_number(c: &[u16], b: &[u8], n: &[u8], k: &[u8], out: &mut i64)
     let word = get_value_word(c, b, n, k, out);
     if word != 0 {
         *out = 0;
+    }
+    word
+}
+
+fn empty_of_the_default<'a>(c: &[u16], b: &'a [u8], n: &[u8], k: &[u8], shown: &mut &'a [u8]) -> u64 {
+    let default = *shown;
+    let word = show_word(c, b, n, k, shown);
+    if shown.is_empty() {
+        *shown = &default[..0];
+    }
+    word
+}
+
+fn empty_at_the_start<'a>(c: &[u16], b: &'a [u8], n: &[u8], k: &[u8], shown: &mut &'a [u8]) -> u64 {
+    let word = show_word(c, b, n, k, shown);
+    if shown.is_empty() {
+        *shown = &b[..0];
+    }
+    word
+}
+
+fn nothing_for_none<'a>(c: &[u16], b: &'a [u8], n: &[u8], k: &[u8], shown: &mut &'a [u8]) -> u64 {
+    let word = show_word(c, b, n, k, shown);
+    if word == 65_535 {
+        *shown = &b[..0];
     }
     word
 }

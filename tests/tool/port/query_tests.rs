@@ -82,8 +82,9 @@ fn query_lengths(lookups: Lookups) -> Result<String, String> {
                 boolean: (lookups.get_bool)(contents, bodies, name, class),
                 value: (lookups.get_value)(contents, bodies, name, class, &mut out),
                 out,
+                show: None,
             };
-            if words != (Words { bytes: 9, string: 9, boolean: 9, value: 9, out: 5 }) {
+            if words != (Words { bytes: 9, string: 9, boolean: 9, value: 9, out: 5, show: None }) {
                 return Err(format!("{} bytes: {}", long.len(), shown(words)));
             }
             count += 1;

@@ -5,51 +5,12 @@ use borrow.Author.Needs.{needs}
 use Rattle.archive.proofs.word_at.Statement.{statement}
 use Rattle.archive.proofs.word_at.Tie as tie
 
-shared-slice-read-result : tie.Need-shared-slice-read-result
-shared-slice-read-result c = search needs
-
-cast-result : tie.Need-cast-result
-cast-result c =
-    let start-here = c .before in
-    omega (arith, c .shared-slice-known .given (start-here .args .i))
-
-add-result : tie.Need-add-result
-add-result c = search needs
-
-shared-slice-read-result-2 : tie.Need-shared-slice-read-result-2
-shared-slice-read-result-2 c = search needs
-
-cast-result-2 : tie.Need-cast-result-2
-cast-result-2 c =
-    let start-here = c .before .before in
-    omega (arith, c .shared-slice-known2 .given (start-here .args .i + 1))
-
-mul-result : tie.Need-mul-result
-mul-result c =
-    let start-here = c .before .before in
-    omega (arith, c .shared-slice-known2 .given (start-here .args .i + 1))
-
-add-result-2 : tie.Need-add-result-2
-add-result-2 c =
-    let shared-slice-known-here = c .before in
-    let start-here = c .before .before in
-    omega (arith, shared-slice-known-here .shared-slice-known .given (start-here .args .i), c .shared-slice-known2 .given (start-here .args .i + 1))
-
-returns : tie.Need-returns
-returns c =
-    let shared-slice-known-here = c .before in
-    let start-here = c .before .before in
-    omega (arith, shared-slice-known-here .shared-slice-known .given (start-here .args .i), c .shared-slice-known2 .given (start-here .args .i + 1))
-
 pub word-at-spec : {M : Type 1} → statement M
 word-at-spec =
     tie.close
     (tie.spec
-    shared-slice-read-result
-    cast-result
-    add-result
-    shared-slice-read-result-2
-    cast-result-2
-    mul-result
-    add-result-2
-    returns)
+    (λ c. search needs) (λ c. omega (arith, c .shared-slice-known .given (c .before .args .i)))
+    (λ c. search needs) (λ c. search needs) (λ c. omega (arith, c .shared-slice-known2 .given (c .before .before .args .i + 1)))
+    (λ c. omega (arith, c .shared-slice-known2 .given (c .before .before .args .i + 1)))
+    (λ c. omega (arith, c .before .shared-slice-known .given (c .before .before .args .i), c .shared-slice-known2 .given (c .before .before .args .i + 1)))
+    (λ c. omega (arith, c .before .shared-slice-known .given (c .before .before .args .i), c .shared-slice-known2 .given (c .before .before .args .i + 1))))

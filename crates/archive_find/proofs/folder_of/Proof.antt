@@ -1,6 +1,6 @@
 -- `archive_find::folder_of` meets its contract. The invariant: no `/` stands from i on. Assumes nothing.
 use mathlib.Core.Bool.{false}
-use mathlib.Core.Path.{_≡_, sym, ap}
+use mathlib.Core.Path.{_≡_, sym, ap, refl}
 use Prim.Native.Nat.{_-_, _≤_}
 use native.Mathlib.Omega.{arith}
 use lib.Seq.{drop-length, length-take-le}
@@ -9,7 +9,7 @@ use lib.Dec.{eqb}
 use borrow.Author.Needs.{needs}
 use Rattle.definition.specs.Bytes.{slash}
 use Rattle.definition.specs.Lists.{any}
-use Rattle.archive_find.proofs.Finding.{folder-none, folder-here, folder-back}
+use Rattle.archive_find.proofs.Folders.{folder-none, folder-here, folder-back}
 use Rattle.archive_find.proofs.folder_of.Statement.{statement}
 use Rattle.archive_find.proofs.folder_of.Tie as tie
 
@@ -25,12 +25,6 @@ loop-holds c =
     let start-here = c in
     (search needs, ap (any (eqb slash)) (drop-length (start-here .args .name .now)))
 
-sub-i : tie.Need-sub-i Inv-loop μ-loop
-sub-i c = search needs
-
-shared-slice-read-if1 : tie.Need-shared-slice-read-if1 Inv-loop μ-loop
-shared-slice-read-if1 c = search needs
-
 slice-aggregate-result : tie.Need-slice-aggregate-result Inv-loop μ-loop
 slice-aggregate-result c =
     let start-here = c .before .before .before .before .before in
@@ -44,10 +38,7 @@ returns c =
     let loop-here = c .before .before .before .before in
     let loop-test-here = c .before .before .before in
     let if1-here = c .before in
-    sym (folder-here (start-here .args .name .now) (loop-here .loop .i) (loop-test-here .loop-test .taken) (loop-here .loop .inv .0) (loop-here .loop .inv .1) (if1-here .if1 .taken))
-
-loop-less : tie.Need-loop-less Inv-loop μ-loop
-loop-less c = search needs
+    (sym (folder-here (start-here .args .name .now) (loop-here .loop .i) (loop-test-here .loop-test .taken) (loop-here .loop .inv .0) (loop-here .loop .inv .1) (if1-here .if1 .taken)), refl)
 
 loop-again : tie.Need-loop-again Inv-loop μ-loop
 loop-again c =
@@ -57,29 +48,17 @@ loop-again c =
     let if1-here = c in
     (search needs, folder-back (start-here .args .name .now) (loop-here .loop .i) (loop-test-here .loop-test .taken) (loop-here .loop .inv .0) (loop-here .loop .inv .1) (if1-here .if1 .left))
 
-slice-aggregate-result-2 : tie.Need-slice-aggregate-result-2 Inv-loop μ-loop
-slice-aggregate-result-2 c = search needs
-
 returns-2 : tie.Need-returns-2 Inv-loop μ-loop
 returns-2 c =
     let start-here = c .before .before .before in
     let loop-here = c .before .before in
     let loop-test-here = c .before in
     let z : loop-here .loop .i ≡ 0 = omega arith in
-    sym (folder-none (start-here .args .name .now) (rw z at (loop-here .loop .inv .1)))
+    (sym (folder-none (start-here .args .name .now) (rw z at (loop-here .loop .inv .1))), refl)
 
 pub folder-of-spec : {M : Type 1} → statement M
 folder-of-spec =
     tie.close
     (tie.spec
-    Inv-loop
-    μ-loop
-    loop-holds
-    sub-i
-    shared-slice-read-if1
-    slice-aggregate-result
-    returns
-    loop-less
-    loop-again
-    slice-aggregate-result-2
-    returns-2)
+    Inv-loop μ-loop loop-holds (λ c. search needs) (λ c. search needs) slice-aggregate-result returns (λ c. search needs)
+    loop-again (λ c. search needs) returns-2)

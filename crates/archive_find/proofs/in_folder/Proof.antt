@@ -5,12 +5,12 @@ use native.Mathlib.Omega.{arith}
 use lib.ListN.{length}
 use borrow.Author.Needs.{needs}
 use Rattle.archive_find.specs.Finding.{stem}
-use Rattle.archive_find.proofs.Finding.{Matching, matching-first, stem-long, stem-length, folder-off, folder-on, folder-empty, folder-slash}
+use Rattle.archive_find.proofs.Folders.{Agreeing, agreeing-first, stem-long, stem-length, folder-off, folder-on, folder-empty, folder-slash}
 use Rattle.archive_find.proofs.in_folder.Statement.{statement}
 use Rattle.archive_find.proofs.in_folder.Tie as tie
 
 abbrev Inv-loop : tie.InvT-loop
-Inv-loop archive at folder i₀ i = Matching archive (stem folder) at i × (i ≤ length folder)
+Inv-loop archive at folder i₀ i = Agreeing archive (stem folder) at i × (i ≤ length folder)
 
 abbrev μ-loop : tie.MeasureT-loop
 μ-loop archive at folder i₀ i = length folder - i
@@ -18,20 +18,7 @@ abbrev μ-loop : tie.MeasureT-loop
 loop-holds : tie.Need-loop-holds Inv-loop μ-loop
 loop-holds c =
     let start-here = c in
-    (matching-first (start-here .args .archive .now) (stem (start-here .args .folder .now)) (start-here .args .at) (start-here .pre), omega arith)
-
-add-if1 : tie.Need-add-if1 Inv-loop μ-loop
-add-if1 c =
-    let start-here = c .before .before in
-    omega (arith, stem-long (start-here .args .folder .now))
-
-shared-slice-read-if1 : tie.Need-shared-slice-read-if1 Inv-loop μ-loop
-shared-slice-read-if1 c =
-    let start-here = c .before .before .before in
-    omega (arith, stem-long (start-here .args .folder .now))
-
-shared-slice-read-if1-2 : tie.Need-shared-slice-read-if1-2 Inv-loop μ-loop
-shared-slice-read-if1-2 c = search needs
+    (agreeing-first (start-here .args .archive .now) (stem (start-here .args .folder .now)) (start-here .args .at) (start-here .pre), omega arith)
 
 returns : tie.Need-returns Inv-loop μ-loop
 returns c =
@@ -40,12 +27,6 @@ returns c =
     let loop-test-here = c .before .before .before in
     let if1-here = c in
     sym (folder-off (start-here .args .folder .now) (loop-here .loop .inv .0) (omega arith) (if1-here .if1 .taken))
-
-add-i : tie.Need-add-i Inv-loop μ-loop
-add-i c = search needs
-
-loop-less : tie.Need-loop-less Inv-loop μ-loop
-loop-less c = search needs
 
 loop-again : tie.Need-loop-again Inv-loop μ-loop
 loop-again c =
@@ -62,11 +43,6 @@ returns-2 c =
     let loop-test-here = c .before in
     let if2-here = c in
     sym (folder-empty (start-here .args .folder .now) (loop-here .loop .inv .0) (omega arith) (if2-here .if2 .taken))
-
-add-result : tie.Need-add-result Inv-loop μ-loop
-add-result c =
-    let start-here = c .before .before .before in
-    omega (arith, stem-long (start-here .args .folder .now))
 
 shared-slice-read-result : tie.Need-shared-slice-read-result Inv-loop μ-loop
 shared-slice-read-result c =
@@ -89,17 +65,7 @@ pub in-folder-spec : {M : Type 1} → statement M
 in-folder-spec =
     tie.close
     (tie.spec
-    Inv-loop
-    μ-loop
-    loop-holds
-    add-if1
-    shared-slice-read-if1
-    shared-slice-read-if1-2
-    returns
-    add-i
-    loop-less
-    loop-again
-    returns-2
-    add-result
-    shared-slice-read-result
-    returns-3)
+    Inv-loop μ-loop loop-holds (λ c. omega (arith, stem-long (c .before .before .args .folder .now)))
+    (λ c. omega (arith, stem-long (c .before .before .before .args .folder .now)))
+    (λ c. search needs) returns (λ c. search needs) (λ c. search needs) loop-again returns-2
+    (λ c. omega (arith, stem-long (c .before .before .before .args .folder .now))) shared-slice-read-result returns-3)

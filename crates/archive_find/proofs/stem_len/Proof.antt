@@ -2,12 +2,9 @@
 use mathlib.Core.Path.{sym, ap}
 use lib.ListN.{length}
 use borrow.Author.Needs.{needs}
-use Rattle.archive_find.proofs.Finding.{stem-none, stem-length}
+use Rattle.archive_find.proofs.Folders.{stem-none, stem-length}
 use Rattle.archive_find.proofs.stem_len.Statement.{statement}
 use Rattle.archive_find.proofs.stem_len.Tie as tie
-
-add-result : tie.Need-add-result
-add-result c = search needs
 
 returns : tie.Need-returns
 returns c =
@@ -22,4 +19,4 @@ returns-2 c =
     sym (stem-length (start-here .args .folder .now) (if1-here .if1 .left))
 
 pub stem-len-spec : {M : Type 1} → statement M
-stem-len-spec = tie.close (tie.spec add-result returns returns-2)
+stem-len-spec = tie.close (tie.spec (λ c. search needs) returns returns-2)

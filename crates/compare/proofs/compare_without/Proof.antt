@@ -1,203 +1,87 @@
 -- `compare::compare_without` meets its contract. Assumes nothing.
+use mathlib.Core.Bool.{true}
+use mathlib.Core.Path.{_≡_}
 use native.Mathlib.Omega.{arith}
-use Rattle.archive.proofs.Walk.{length-files}
-use Rattle.archive_find.proofs.Striking.{rows-room}
-use Rattle.compare.proofs.Comparing.{read-laidOut, short-struck, short-contents, short-bodies, first-refused, no-file, both-left, promised}
+use Rattle.definition.specs.Archive.{laidOut}
+use Rattle.definition.specs.Reading.{accepted, outcome}
+use Rattle.definition.specs.ThirdTerm.{Case, withFile}
+use Rattle.archive.proofs.Walk.{length-files, rows-room}
+use Rattle.compare.specs.Comparing.{asked}
+use Rattle.compare.proofs.Comparing.{read-is, read-laidOut, short-struck, short-contents, short-bodies, Room, first-refused, no-file, both-left, promised}
 use borrow.Author.Needs.{needs}
 use Rattle.compare.proofs.compare_without.Statement.{statement}
 use Rattle.compare.proofs.compare_without.Tie as tie
-use Rattle.compare.proofs.compare_without.Reads as reads
-use Rattle.compare.proofs.compare_without.Lts as lts
-use Rattle.archive.proofs.word_at.Reads as word-at-reads
-use Rattle.compare.proofs.answering.Reads as answering-reads
-use Rattle.compare.proofs.read_without.Reads as read-without-reads
-use Rattle.lookup.proofs.get_bytes.Reads as get-bytes-reads
-use Rattle.reader.proofs.read.Reads as read-reads
 
--- src/lib.rt:68:9
+abbrev begun : tie.After-slice-known5 → tie.Start
+begun c = c .before .before .before .before .before .before .before .before .before
+
+abbrev case : tie.After-slice-known5 → Case
+case c =
+    let a = begun c .args in
+    asked (a .text .now) (a .archive .now) (a .file) (a .name .now) (a .class .now) (a .contents .now) (a .bodies .now) (a .contents-without .now) (a .bodies-without .now)
+
+-- the tests of room are behind
+abbrev tested : tie.After-read → tie.After-slice-known5
+tested c = c .before .before .before .before .before .before
+
+room : (c : tie.After-read) → Room (case (tested c)) (begun (tested c) .args .struck .now)
+room c = let e = c .before .before .before in record { archive = e .before .before .if1 .left; contents = e .before .if2 .left; bodies = e .if3 .left }
+
+-- the first reading is accepted
+abbrev was-read : tie.After-enum-told → tie.After-read
+was-read c = c .before .before .before .before .before .before
+
+read-with : (c : tie.After-enum-told) → (let r = was-read c .read in outcome (accepted (c .enum-told .given .0 .0) (c .enum-told .given .0 .1 .0)) (r .last .1 .1 .0) (r .last .1 .1 .1 .0) ≡ withFile (case (tested (was-read c))))
+read-with c = read-is (was-read c .read .result) _ _ _ _ (was-read c .read .ensures) (c .enum-told .given .1)
+
+laid : (c : tie.After-enum-told) → laidOut (case (tested (was-read c)) .archive) ≡ true
+laid c = read-laidOut _ _ _ _ _ _ _ _ (read-with c)
+
 returns : tie.Need-returns
-returns c =
-    let if1-here = c in
-    promised _ _ _ (short-struck _ _ (if1-here .if1 .taken))
+returns c = promised _ _ _ (short-struck _ _ (c .if1 .taken))
 
--- src/lib.rt:71:9
 returns-2 : tie.Need-returns-2
-returns-2 c =
-    let if1-here = c .before in
-    let if2-here = c in
-    promised _ _ _ (short-contents _ _ (if1-here .if1 .left) (if2-here .if2 .taken))
+returns-2 c = promised _ _ _ (short-contents _ _ (c .before .if1 .left) (c .if2 .taken))
 
--- src/lib.rt:74:9
 returns-3 : tie.Need-returns-3
-returns-3 c =
-    let if1-here = c .before .before in
-    let if2-here = c .before in
-    let if3-here = c in
-    promised _ _ _ (short-bodies _ _ (if1-here .if1 .left) (if2-here .if2 .left) (if3-here .if3 .taken))
+returns-3 c = promised _ _ _ (short-bodies _ _ (c .before .before .if1 .left) (c .before .if2 .left) (c .if3 .taken))
 
--- src/lib.rt:76:9
-read-requires : tie.Need-read-requires
-read-requires c κs = search needs
+file-count-requires : tie.Need-file-count-requires
+file-count-requires c κs = omega (arith, rows-room _ (laid c))
 
--- src/lib.rt:78:25
-enum-known-first : tie.Need-enum-known-first
-enum-known-first c = search needs
-
--- src/lib.rt:80:24
-enum-told : tie.Need-enum-told
-enum-told c = search needs
-
--- src/lib.rt:80:24
-word-at-requires : tie.Need-word-at-requires
-word-at-requires c κs =
-    let start-here = c .before .before .before .before .before .before .before .before .before .before .before .before .before .before .before .before .before .before .before .before .before in
-    let a = start-here .args in
-    let read-here = c .before .before .before .before .before .before in
-    let enum-told-here = c in
-    let e = rw (enum-told-here .enum-told .given .1) at (read-here .read .ensures) in
-    omega (arith, rows-room (a .archive .now) (read-laidOut (a .text .now) (a .archive .now) (a .contents .now) (a .bodies .now) _ _ _ _ e))
-
--- src/lib.rt:81:17
-same-length : tie.Need-same-length
-same-length c = search needs
-
--- src/lib.rt:81:17
-same-length-2 : tie.Need-same-length-2
-same-length-2 c = search needs
-
--- src/lib.rt:81:17
 returns-4 : tie.Need-returns-4
 returns-4 c =
-    let start-here = c .before .before .before .before .before .before .before .before .before .before .before .before .before .before .before .before .before .before .before .before .before .before .before in
-    let if1-here = c .before .before .before .before .before .before .before .before .before .before .before .before .before in
-    let if2-here = c .before .before .before .before .before .before .before .before .before .before .before .before in
-    let if3-here = c .before .before .before .before .before .before .before .before .before .before .before in
-    let read-here = c .before .before .before .before .before .before .before .before in
-    let enum-told-here = c .before .before in
-    let word-at-here = c .before in
-    let a = start-here .args in
-    let e = rw (enum-told-here .enum-told .given .1) at (read-here .read .ensures) in
-    let if4-here = c in
-    promised _ _ _ (no-file _ _ (if1-here .if1 .left) (if2-here .if2 .left) (if3-here .if3 .left) _ _ _ _ e
-    (omega (arith, if4-here .if4 .taken, word-at-here .word-at .ensures .0, length-files (a .archive .now))))
+    let told = c .before .before in
+    promised _ _ _ (no-file _ _ (room (was-read told)) _ _ _ _ (read-with told) (omega (arith, c .if4 .taken, c .before .file-count .ensures .0, length-files (case (tested (was-read told)) .archive))))
 
--- src/lib.rt:83:13
 read-without-requires : tie.Need-read-without-requires
 read-without-requires c κs =
-    let start-here = c .before .before .before .before .before .before .before .before .before .before .before .before .before .before .before .before .before .before .before .before .before .before .before .before .before .before in
-    let if1-here = c .before .before .before .before .before .before .before .before .before .before .before .before .before .before .before .before in
-    let if2-here = c .before .before .before .before .before .before .before .before .before .before .before .before .before .before .before in
-    let if3-here = c .before .before .before .before .before .before .before .before .before .before .before .before .before .before in
-    let read-here = c .before .before .before .before .before .before .before .before .before .before .before in
-    let enum-told-here = c .before .before .before .before .before in
-    let word-at-here = c .before .before .before .before in
-    let a = start-here .args in
-    let e = rw (enum-told-here .enum-told .given .1) at (read-here .read .ensures) in
-    let if4-here = c .before .before .before in (
-      read-laidOut (a .text .now) (a .archive .now) (a .contents .now) (a .bodies .now) _ _ _ _ e,
-      omega (arith, if4-here .if4 .left, word-at-here .word-at .ensures .0, length-files (a .archive .now)),
-      if1-here .if1 .left,
+    let else-here = c .before .before .before in
+    let told = else-here .before .before in (
+      laid told,
+      omega (arith, else-here .if4 .left, else-here .before .file-count .ensures .0, length-files (case (tested (was-read told)) .archive)),
+      room (was-read told) .archive,
     )
 
--- src/lib.rt:84:17
-get-bytes-requires : tie.Need-get-bytes-requires
-get-bytes-requires c κs = search needs
-
--- src/lib.rt:85:17
-get-bytes-requires-2 : tie.Need-get-bytes-requires-2
-get-bytes-requires-2 c κs = search needs
-
--- src/lib.rt:86:13
-answering-requires : tie.Need-answering-requires
-answering-requires c κs = search needs
-
--- src/lib.rt:53:1
-same-length-3 : tie.Need-same-length-3
-same-length-3 c = search needs
-
--- src/lib.rt:53:1
-same-length-4 : tie.Need-same-length-4
-same-length-4 c = search needs
-
--- src/lib.rt:53:1
 returns-5 : tie.Need-returns-5
 returns-5 c =
-    let start-here = c .before .before .before .before .before .before .before .before .before .before .before .before .before .before .before .before .before .before .before .before .before .before in
-    let if1-here = c .before .before .before .before .before .before .before .before .before .before .before .before in
-    let if2-here = c .before .before .before .before .before .before .before .before .before .before .before in
-    let if3-here = c .before .before .before .before .before .before .before .before .before .before in
     let read-here = c .before .before .before .before .before .before .before in
-    let first-here = c .before in
-    let a = start-here .args in
-    let e = rw (first-here .first .given .1) at (read-here .read .ensures) in
-    promised _ _ _ (first-refused _ _ (if1-here .if1 .left) (if2-here .if2 .left) (if3-here .if3 .left) _ _ _ e)
+    promised _ _ _ (first-refused _ _ (room read-here) _ _ _ (read-is (read-here .read .result) _ _ _ _ (read-here .read .ensures) (c .before .first .given .1)))
 
--- src/lib.rt:53:1
-same-length-5 : tie.Need-same-length-5
-same-length-5 c = search needs
-
--- src/lib.rt:53:1
-same-length-6 : tie.Need-same-length-6
-same-length-6 c = search needs
-
--- src/lib.rt:53:1
-same-length-7 : tie.Need-same-length-7
-same-length-7 c = search needs
-
--- src/lib.rt:53:1
-same-length-8 : tie.Need-same-length-8
-same-length-8 c = search needs
-
--- src/lib.rt:53:1
-same-length-9 : tie.Need-same-length-9
-same-length-9 c = search needs
-
--- src/lib.rt:53:1
 returns-6 : tie.Need-returns-6
 returns-6 c =
-    let start-here = c .before .before .before .before .before .before .before .before .before .before .before .before .before .before .before .before .before .before .before .before .before .before .before .before .before .before .before .before .before .before .before .before .before .before .before .before .before .before .before .before in
-    let if1-here = c .before .before .before .before .before .before .before .before .before .before .before .before .before .before .before .before .before .before .before .before .before .before .before .before .before .before .before .before .before .before in
-    let if2-here = c .before .before .before .before .before .before .before .before .before .before .before .before .before .before .before .before .before .before .before .before .before .before .before .before .before .before .before .before .before in
-    let if3-here = c .before .before .before .before .before .before .before .before .before .before .before .before .before .before .before .before .before .before .before .before .before .before .before .before .before .before .before .before in
-    let read-here = c .before .before .before .before .before .before .before .before .before .before .before .before .before .before .before .before .before .before .before .before .before .before .before .before .before in
-    let enum-told-here = c .before .before .before .before .before .before .before .before .before .before .before .before .before .before .before .before .before .before .before in
-    let word-at-here = c .before .before .before .before .before .before .before .before .before .before .before .before .before .before .before .before .before .before in
-    let a = start-here .args in
-    let e = rw (enum-told-here .enum-told .given .1) at (read-here .read .ensures) in
-    let if4-here = c .before .before .before .before .before .before .before .before .before .before .before .before .before .before .before .before .before in
-    let read-without-here = c .before .before .before .before .before .before .before .before .before .before .before .before .before in
     let get-bytes-here = c .before .before .before .before in
-    let get-bytes2-here = c .before in
-    let answering-here = c in
-    promised _ _ _ (both-left _ _ (if1-here .if1 .left) (if2-here .if2 .left) (if3-here .if3 .left) _ _ _ _ e
-    (omega (arith, if4-here .if4 .left, word-at-here .word-at .ensures .0, length-files (a .archive .now)))
-    (answering-here .answering .result) (get-bytes-here .get-bytes .result) (get-bytes2-here .get-bytes2 .result) _ _ _
-    (read-without-here .read-without .ensures) (get-bytes-here .get-bytes .ensures) (get-bytes2-here .get-bytes2 .ensures) (answering-here .answering .ensures))
+    let read-without-here = get-bytes-here .before .before .before .before .before .before .before .before .before in
+    let else-here = read-without-here .before .before .before .before in
+    let told = else-here .before .before in
+    promised _ _ _ (both-left _ _ (room (was-read told)) _ _ _ _ (read-with told)
+    (omega (arith, else-here .if4 .left, else-here .before .file-count .ensures .0, length-files (case (tested (was-read told)) .archive)))
+    (c .answering .result) (get-bytes-here .get-bytes .result) (c .before .get-bytes2 .result) (read-without-here .read-without .result) _ _ _
+    (read-without-here .read-without .ensures) (get-bytes-here .get-bytes .ensures) (c .before .get-bytes2 .ensures) (c .answering .ensures))
 
 pub compare-without-spec : {M : Type 1} → statement M
 compare-without-spec =
     tie.close
-    (tie.spec
-    returns
-    returns-2
-    returns-3
-    read-requires
-    enum-known-first
-    enum-told
-    word-at-requires
-    same-length
-    same-length-2
-    returns-4
-    read-without-requires
-    get-bytes-requires
-    get-bytes-requires-2
-    answering-requires
-    same-length-3
-    same-length-4
-    returns-5
-    same-length-5
-    same-length-6
-    same-length-7
-    same-length-8
-    same-length-9
-    returns-6)
+    (tie.spec returns returns-2 returns-3 (λ c κs. search needs) (λ c. search needs) (λ c. search needs) file-count-requires (λ c. search needs)
+    (λ c. search needs) returns-4 read-without-requires (λ c κs. search needs) (λ c κs. search needs) (λ c κs. search needs) (λ c. search needs)
+    (λ c. search needs) returns-5 (λ c. search needs) (λ c. search needs) (λ c. search needs) (λ c. search needs) (λ c. search needs) returns-6)

@@ -1,89 +1,44 @@
 -- `compare::read_without` meets its contract. Assumes nothing.
-use mathlib.Core.Path.{sym, ap}
+use mathlib.Core.Path.{sym}
+use Prim.Native.Nat.{_≤_}
+use native.Mathlib.Omega.{arith}
+use lib.ListN.{length}
 use lib.Seq.{length-take-le}
 use Rattle.definition.specs.Archive.{struckOff}
-use Rattle.definition.specs.Reading.{Outcome}
-use Rattle.compare.proofs.Comparing.{front-copied}
-use native.Mathlib.Omega.{arith}
 use Rattle.laws.proofs.Archive.{struck-shorter}
+use Rattle.compare.proofs.Comparing.{second-read}
 use borrow.Author.Needs.{needs}
 use Rattle.compare.proofs.read_without.Statement.{statement}
 use Rattle.compare.proofs.read_without.Tie as tie
-use Rattle.compare.proofs.read_without.Reads as reads
-use Rattle.compare.proofs.read_without.Lts as lts
-use Rattle.archive_find.proofs.strike_off.Reads as strike-off-reads
-use Rattle.reader.proofs.read.Reads as read-reads
 
--- src/lib.rt:37:9
+abbrev begun : tie.After-strike-off → tie.Start
+begun c = c .before .before .before .before .before .before .before
+
+-- the archive without the file fits
+fits : (c : tie.Start) → length (struckOff (c .args .file) (c .args .archive .now)) ≤ length (c .args .struck .now)
+fits c = let p = c .pre in omega (arith, p .2, struck-shorter (c .args .file) (c .args .archive .now) (p .0) (p .1))
+
+-- and so does what was struck off
+shorter : (c : tie.After-strike-off) → c .strike-off .result ≤ length (c .strike-off .last .1 .1 .0)
+shorter c = omega (arith, c .strike-off .ensures .0, c .strike-off .kept .1 .1 .0, fits (begun c))
+
 strike-off-requires : tie.Need-strike-off-requires
-strike-off-requires c κs =
-    let start-here = c .before .before .before .before .before .before in
-    let a = start-here .args in
-    let p = start-here .pre in
-    (p .0, p .1, omega (arith, p .2, struck-shorter (a .file) (a .archive .now) (p .0) (p .1)))
+strike-off-requires c κs = let s = c .before .before .before .before .before .before in (s .pre .0, s .pre .1, fits s)
 
--- src/lib.rt:38:16
 slice-reshare-prefix-without : tie.Need-slice-reshare-prefix-without
-slice-reshare-prefix-without c =
-    let start-here = c .before .before .before .before .before .before .before .before .before in
-    let strike-off-here = c .before .before in
-    let a = start-here .args in
-    let p = start-here .pre in
-    omega (arith, strike-off-here .strike-off .ensures .0, strike-off-here .strike-off .kept .1 .1 .0, p .2, struck-shorter (a .file) (a .archive .now) (p .0) (p .1))
+slice-reshare-prefix-without c = shorter (c .before .before)
 
--- src/lib.rt:38:16
 slice-aggregate-without : tie.Need-slice-aggregate-without
-slice-aggregate-without c =
-    let start-here = c .before .before .before .before .before .before .before .before .before .before in
-    let strike-off-here = c .before .before .before in
-    let a = start-here .args in
-    let p = start-here .pre in
-    sym (length-take-le _ _
-    (omega (arith, strike-off-here .strike-off .ensures .0, strike-off-here .strike-off .kept .1 .1 .0, p .2, struck-shorter (a .file) (a .archive .now) (p .0) (p .1))))
+slice-aggregate-without c = sym (length-take-le _ _ (shorter (c .before .before .before)))
 
--- src/lib.rt:38:5
-read-requires : tie.Need-read-requires
-read-requires c κs = search needs
-
--- src/lib.rt:26:1
-same-length : tie.Need-same-length
-same-length c = search needs
-
--- src/lib.rt:26:1
-same-length-2 : tie.Need-same-length-2
-same-length-2 c = search needs
-
--- src/lib.rt:26:1
-same-length-3 : tie.Need-same-length-3
-same-length-3 c = search needs
-
--- src/lib.rt:26:1
 returns : tie.Need-returns
 returns c =
-    let start-here = c .before .before .before .before .before .before .before .before .before .before .before .before .before .before .before .before .before in
-    let strike-off-here = c .before .before .before .before .before .before .before .before .before .before in
     let read-here = c .before .before .before .before in
-    let a = start-here .args in
-    let p = start-here .pre in
-    let shorter = struckOff (a .file) (a .archive .now) in
-    let f = front-copied (a .struck .now) shorter (omega (arith, p .2, struck-shorter (a .file) (a .archive .now) (p .0) (p .1))) in
-    let copied = rw (strike-off-here .strike-off .ensures .0) at (strike-off-here .strike-off .ensures .1) in
-    let read = rw (strike-off-here .strike-off .ensures .0, copied, f) at (read-here .read .ensures) in
-    record {
-      struckOff-left = copied;
-      contents-left = ap (λ (o : Outcome). o .contents) read;
-      bodies-left = ap (λ (o : Outcome). o .bodies) read;
-    }
+    let strike-off-here = read-here .before .before .before .before .before .before in
+    second-read (read-here .read .result) _ _ _ _ _ _ _ _ _ _ (fits (begun strike-off-here)) (strike-off-here .strike-off .ensures .0) (strike-off-here .strike-off .ensures .1) (read-here .read .ensures)
 
 pub read-without-spec : {M : Type 1} → statement M
 read-without-spec =
     tie.close
-    (tie.spec
-    strike-off-requires
-    slice-reshare-prefix-without
-    slice-aggregate-without
-    read-requires
-    same-length
-    same-length-2
-    same-length-3
-    returns)
+    (tie.spec strike-off-requires slice-reshare-prefix-without slice-aggregate-without (λ c κs. search needs) (λ c. search needs) (λ c. search needs)
+    (λ c. search needs) returns)

@@ -10,39 +10,9 @@ use Rattle.components.proofs.Names.{nothing-there, no-name, wild, name-
 use Rattle.components.proofs.next_component_name.Statement.{statement}
 use Rattle.components.proofs.next_component_name.Tie as tie
 
-returns : tie.Need-returns
-returns c =
-    let start-here = c .before .before in
-    nothing-there (start-here .args .text .now) (c .if1 .taken)
-
-shared-slice-read-c : tie.Need-shared-slice-read-c
-shared-slice-read-c c = search needs
-
-returns-2 : tie.Need-returns-2
-returns-2 c =
-    let start-here = c .before .before .before .before in
-    wild (start-here .args .text .now) (search needs) (c .if2 .taken)
-
-allowed-in-quark-name-requires : tie.Need-allowed-in-quark-name-requires
-allowed-in-quark-name-requires c κs = search needs
-
 returns-3 : tie.Need-returns-3
 returns-3 c =
-    let start-here = c .before .before .before .before .before .before in
-    let if2-here = c .before .before in
-    no-name (start-here .args .text .now) (search needs) (if2-here .if2 .left) (sym (c .before .allowed-in-quark-name .ensures) ∙ not-true _ (c .if3 .taken))
-
-sub-next-component : tie.Need-sub-next-component
-sub-next-component c = search needs
-
-part-next-component-start : tie.Need-part-next-component-start
-part-next-component-start c = search needs
-
-part-next-component-end : tie.Need-part-next-component-end
-part-next-component-end c = search needs
-
-next-component-requires : tie.Need-next-component-requires
-next-component-requires c κs = search needs
+    no-name _ (search needs) (c .before .before .if2 .left) (sym (c .before .allowed-in-quark-name .ensures) ∙ not-true _ (c .if3 .taken))
 
 add-t4 : tie.Need-add-t4
 add-t4 c =
@@ -52,25 +22,12 @@ add-t4 c =
 
 returns-4 : tie.Need-returns-4
 returns-4 c =
-    let start-here = c .before .before .before .before .before .before .before .before in
-    let if2-here = c .before .before .before .before in
-    let if3-here = c .before .before in
-    let allowed-in-quark-name-here = c .before .before .before in
-    name-there (start-here .args .text .now) (search needs) (if2-here .if2 .left)
-    (sym (allowed-in-quark-name-here .allowed-in-quark-name .ensures) ∙ not-false _ (if3-here .if3 .left)) (c .next-component .result) (c .next-component .ensures)
+    name-there _ (search needs) (c .before .before .before .before .if2 .left)
+    (sym (c .before .before .before .allowed-in-quark-name .ensures) ∙ not-false _ (c .before .before .if3 .left)) _ (c .next-component .ensures)
 
 pub next-component-name-spec : {M : Type 1} → statement M
 next-component-name-spec =
     tie.close
     (tie.spec
-    returns
-    shared-slice-read-c
-    returns-2
-    allowed-in-quark-name-requires
-    returns-3
-    sub-next-component
-    part-next-component-start
-    part-next-component-end
-    next-component-requires
-    add-t4
-    returns-4)
+    (λ c. nothing-there _ (c .if1 .taken)) (λ c. search needs) (λ c. wild _ (search needs) (c .if2 .taken)) (λ c κs. search needs) returns-3 (λ c. search needs) (λ c. search needs)
+    (λ c. search needs) (λ c κs. search needs) add-t4 returns-4)

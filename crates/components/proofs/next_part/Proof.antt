@@ -3,44 +3,17 @@ use Rattle.components.proofs.Parts.{bound-fits, parted}
 use Rattle.components.proofs.next_part.Statement.{statement}
 use Rattle.components.proofs.next_part.Tie as tie
 
-parse-binding-requires : tie.Need-parse-binding-requires
-parse-binding-requires c κs = search needs
-
-sub-next-component-name : tie.Need-sub-next-component-name
-sub-next-component-name c =
-    let start-here = c .before .before in
-    bound-fits (start-here .args .text .now) (c .parse-binding .result) (c .parse-binding .ensures)
-
-part-next-component-name-start : tie.Need-part-next-component-name-start
-part-next-component-name-start c =
-    let start-here = c .before .before in
-    bound-fits (start-here .args .text .now) (c .parse-binding .result) (c .parse-binding .ensures)
-
-part-next-component-name-end : tie.Need-part-next-component-name-end
-part-next-component-name-end c = search needs
-
-next-component-name-requires : tie.Need-next-component-name-requires
-next-component-name-requires c κs = search needs
-
-add-t6 : tie.Need-add-t6
-add-t6 c = search needs
+inside : tie.Need-sub-next-component-name
+inside c = bound-fits _ (c .parse-binding .result) (c .parse-binding .ensures)
 
 returns : tie.Need-returns
 returns c =
-    let start-here = c .before .before .before .before .before in
-    let parse-binding-here = c .before .before .before in
-    let next-component-name-here = c .before in
-    parted (start-here .args .text .now) (parse-binding-here .parse-binding .result) (parse-binding-here .parse-binding .ensures)
-    (next-component-name-here .next-component-name .result) (next-component-name-here .next-component-name .ensures)
+    let bound = c .before .before .before .parse-binding in
+    let component = c .before .next-component-name in
+    parted _ (bound .result) (bound .ensures) (component .result) (component .ensures)
 
 pub next-part-spec : {M : Type 1} → statement M
 next-part-spec =
     tie.close
     (tie.spec
-    parse-binding-requires
-    sub-next-component-name
-    part-next-component-name-start
-    part-next-component-name-end
-    next-component-name-requires
-    add-t6
-    returns)
+    (λ c κs. search needs) inside inside (λ c. search needs) (λ c κs. search needs) (λ c. search needs) returns)

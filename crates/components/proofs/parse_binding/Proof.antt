@@ -12,22 +12,10 @@ Inv-loop text loose₀ i₀ loose i = Binding-at text loose i
 abbrev μ-loop : tie.MeasureT-loop
 μ-loop text loose₀ i₀ loose i = length text - i
 
-loop-holds : tie.Need-loop-holds Inv-loop μ-loop
-loop-holds c = binding-first (c .args .text .now)
-
-shared-slice-read-c : tie.Need-shared-slice-read-c Inv-loop μ-loop
-shared-slice-read-c c = search needs
-
 returns : tie.Need-returns Inv-loop μ-loop
 returns c =
     let loop-here = c .before .before .before .before in
     binding-stop (loop-here .loop .inv) (search needs) (c .before .if1 .taken) (c .if2 .taken)
-
-add-i : tie.Need-add-i Inv-loop μ-loop
-add-i c = search needs
-
-loop-less : tie.Need-loop-less Inv-loop μ-loop
-loop-less c = search needs
 
 loop-again : tie.Need-loop-again Inv-loop μ-loop
 loop-again c =
@@ -44,12 +32,4 @@ pub parse-binding-spec : {M : Type 1} → statement M
 parse-binding-spec =
     tie.close
     (tie.spec
-    Inv-loop
-    μ-loop
-    loop-holds
-    shared-slice-read-c
-    returns
-    add-i
-    loop-less
-    loop-again
-    returns-2)
+    Inv-loop μ-loop (λ c. binding-first (c .args .text .now)) (λ c. search needs) returns (λ c. search needs) (λ c. search needs) loop-again returns-2)

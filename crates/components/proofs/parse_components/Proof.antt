@@ -12,74 +12,20 @@ Inv-loop text rest₀ count₀ size₀ named₀ rest count size named = Counting
 abbrev μ-loop : tie.MeasureT-loop
 μ-loop text rest₀ count₀ size₀ named₀ rest count size named = length rest
 
-loop-holds : tie.Need-loop-holds Inv-loop μ-loop
-loop-holds c = counting-first _
-
-next-part-requires : tie.Need-next-part-requires Inv-loop μ-loop
-next-part-requires c κs = search needs
-
-sub-t12 : tie.Need-sub-t12 Inv-loop μ-loop
-sub-t12 c =
-    let loop-here = c .before .before in
-    loop-here .loop .inv .left .most
-
 returns : tie.Need-returns Inv-loop μ-loop
-returns c =
-    let loop-here = c .before .before in
-    let next-part-here = c .before in
-    let if1-here = c in
-    counting-done (loop-here .loop .inv) (next-part-here .next-part .ensures) (if1-here .if1 .taken)
-
-add-count : tie.Need-add-count Inv-loop μ-loop
-add-count c = omega arith
-
-sub-size : tie.Need-sub-size Inv-loop μ-loop
-sub-size c = search needs
-
-add-size : tie.Need-add-size Inv-loop μ-loop
-add-size c = omega arith
-
-add-size-2 : tie.Need-add-size-2 Inv-loop μ-loop
-add-size-2 c = omega arith
-
-sub-rest : tie.Need-sub-rest Inv-loop μ-loop
-sub-rest c = omega arith
-
-part-rest-start : tie.Need-part-rest-start Inv-loop μ-loop
-part-rest-start c = omega arith
-
-part-rest-end : tie.Need-part-rest-end Inv-loop μ-loop
-part-rest-end c = search needs
+returns c = counting-done (c .before .before .loop .inv) (c .before .next-part .ensures) (c .if1 .taken)
 
 loop-less : tie.Need-loop-less Inv-loop μ-loop
 loop-less c =
-    let loop-here = c .before .before .before in
-    let next-part-here = c .before .before in
-    omega (arith, length-part-rest (loop-here .loop .rest .now) (next-part-here .next-part .result .end), next-part-here .next-part .ensures .inside)
+    let part = c .before .before .next-part in
+    omega (arith, length-part-rest (c .before .before .before .loop .rest .now) (part .result .end), part .ensures .inside)
 
 loop-again : tie.Need-loop-again Inv-loop μ-loop
-loop-again c =
-    let loop-here = c .before .before .before in
-    let next-part-here = c .before .before in
-    let if1-here = c .before in
-    counting-next (loop-here .loop .inv) (next-part-here .next-part .ensures) (if1-here .if1 .left)
+loop-again c = counting-next (c .before .before .before .loop .inv) (c .before .before .next-part .ensures) (c .before .if1 .left)
 
 pub parse-components-spec : {M : Type 1} → statement M
 parse-components-spec =
     tie.close
     (tie.spec
-    Inv-loop
-    μ-loop
-    loop-holds
-    next-part-requires
-    sub-t12
-    returns
-    add-count
-    sub-size
-    add-size
-    add-size-2
-    sub-rest
-    part-rest-start
-    part-rest-end
-    loop-less
-    loop-again)
+    Inv-loop μ-loop (λ c. counting-first _) (λ c κs. search needs) (λ c. c .before .before .loop .inv .left .most) returns (λ c. omega arith) (λ c. search needs) (λ c. omega arith) (λ c. omega arith) (λ c. omega arith)
+    (λ c. omega arith) (λ c. search needs) loop-less loop-again)

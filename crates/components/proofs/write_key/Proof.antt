@@ -15,10 +15,7 @@ abbrev μ-loop : tie.MeasureT-loop
 
 -- the part has room in the store
 room : (c : tie.Else1 Inv-loop μ-loop) → let l = c .before .before .loop in let n = c .before .next-part .result in l .place + (1 + (n .end - n .start)) ≤ length (l .store)
-room c =
-    let loop-here = c .before .before in
-    let next-part-here = c .before in
-    omega (arith, part-room (loop-here .loop .inv) (next-part-here .next-part .ensures) (c .if1 .left))
+room c = omega (arith, part-room (c .before .before .loop .inv) (c .before .next-part .ensures) (c .if1 .left))
 
 loop-holds : tie.Need-loop-holds Inv-loop μ-loop
 loop-holds c =
@@ -26,109 +23,32 @@ loop-holds c =
     let a = start-here .args in
     writing-first (a .text .now) (a .store .now) (a .at) (start-here .pre)
 
-next-part-requires : tie.Need-next-part-requires Inv-loop μ-loop
-next-part-requires c κs = search needs
-
-same-length : tie.Need-same-length Inv-loop μ-loop
-same-length c =
-    let loop-here = c .before .before in
-    loop-here .loop .inv .long
-
 returns : tie.Need-returns Inv-loop μ-loop
-returns c =
-    let loop-here = c .before .before in
-    let next-part-here = c .before in
-    writing-done (loop-here .loop .inv) (next-part-here .next-part .ensures) (c .if1 .taken)
-
-binding-byte-requires : tie.Need-binding-byte-requires Inv-loop μ-loop
-binding-byte-requires c κs = search needs
-
-slice-write-store : tie.Need-slice-write-store Inv-loop μ-loop
-slice-write-store c =
-    let if1-here = c .before in
-    omega (arith, room if1-here)
-
-sub-copy-in : tie.Need-sub-copy-in Inv-loop μ-loop
-sub-copy-in c = omega arith
-
-part-copy-in-start : tie.Need-part-copy-in-start Inv-loop μ-loop
-part-copy-in-start c = omega arith
-
-part-copy-in-end : tie.Need-part-copy-in-end Inv-loop μ-loop
-part-copy-in-end c = omega arith
-
-add-copy-in : tie.Need-add-copy-in Inv-loop μ-loop
-add-copy-in c = omega arith
+returns c = writing-done (c .before .before .loop .inv) (c .before .next-part .ensures) (c .if1 .taken)
 
 copy-in-requires : tie.Need-copy-in-requires Inv-loop μ-loop
 copy-in-requires c κs =
-    let loop-here = c .before .before .before .before .before in
-    let next-part-here = c .before .before .before .before in
     let if1-here = c .before .before .before in
-    let binding-byte-here = c .before .before in
-    copy-room (loop-here .loop .inv) (next-part-here .next-part .ensures) (if1-here .if1 .left) (binding-byte-here .binding-byte .result)
-
-sub-place : tie.Need-sub-place Inv-loop μ-loop
-sub-place c = omega arith
-
-add-place : tie.Need-add-place Inv-loop μ-loop
-add-place c =
-    let if1-here = c .before .before .before .before .before .before in
-    omega (arith, room if1-here)
-
-add-place-2 : tie.Need-add-place-2 Inv-loop μ-loop
-add-place-2 c =
-    let if1-here = c .before .before .before .before .before .before in
-    omega (arith, room if1-here)
-
-sub-rest : tie.Need-sub-rest Inv-loop μ-loop
-sub-rest c = omega arith
-
-part-rest-start : tie.Need-part-rest-start Inv-loop μ-loop
-part-rest-start c = omega arith
-
-part-rest-end : tie.Need-part-rest-end Inv-loop μ-loop
-part-rest-end c = search needs
+    copy-room (if1-here .before .before .loop .inv) (if1-here .before .next-part .ensures) (if1-here .if1 .left) (c .before .before .binding-byte .result)
 
 loop-less : tie.Need-loop-less Inv-loop μ-loop
 loop-less c =
-    let loop-here = c .before .before .before .before .before .before .before .before .before in
-    let next-part-here = c .before .before .before .before .before .before .before .before in
     let if1-here = c .before .before .before .before .before .before .before in
-    omega (arith, length-part-rest (loop-here .loop .rest .now) (next-part-here .next-part .result .end), next-part-here .next-part .ensures .inside, if1-here .if1 .left)
+    let part = if1-here .before .next-part in
+    omega (arith, length-part-rest (if1-here .before .before .loop .rest .now) (part .result .end), part .ensures .inside, if1-here .if1 .left)
 
 loop-again : tie.Need-loop-again Inv-loop μ-loop
 loop-again c =
-    let loop-here = c .before .before .before .before .before .before .before .before .before in
-    let next-part-here = c .before .before .before .before .before .before .before .before in
-    let if1-here = c .before .before .before .before .before .before .before in
-    let binding-byte-here = c .before .before .before .before .before .before in
     let copy-in-here = c .before .before .before in
-    writing-next (loop-here .loop .inv) (next-part-here .next-part .ensures) (if1-here .if1 .left) (binding-byte-here .binding-byte .result)
-    (binding-byte-here .binding-byte .ensures) (copy-in-here .copy-in .last .1 .0) (copy-in-here .copy-in .ensures)
+    let binding-here = copy-in-here .before .before .before in
+    let if1-here = binding-here .before in
+    writing-next (if1-here .before .before .loop .inv) (if1-here .before .next-part .ensures) (if1-here .if1 .left) _ (binding-here .binding-byte .ensures)
+    _ (copy-in-here .copy-in .ensures)
 
 pub write-key-spec : {M : Type 1} → statement M
 write-key-spec =
     tie.close
     (tie.spec
-    Inv-loop
-    μ-loop
-    loop-holds
-    next-part-requires
-    same-length
-    returns
-    binding-byte-requires
-    slice-write-store
-    sub-copy-in
-    part-copy-in-start
-    part-copy-in-end
-    add-copy-in
-    copy-in-requires
-    sub-place
-    add-place
-    add-place-2
-    sub-rest
-    part-rest-start
-    part-rest-end
-    loop-less
-    loop-again)
+    Inv-loop μ-loop loop-holds (λ c κs. search needs) (λ c. c .before .before .loop .inv .long) returns (λ c κs. search needs) (λ c. omega (arith, room (c .before))) (λ c. omega arith)
+    (λ c. omega arith) (λ c. omega arith) (λ c. omega arith) copy-in-requires (λ c. omega arith) (λ c. omega (arith, room (c .before .before .before .before .before .before))) (λ c. omega (arith, room (c .before .before .before .before .before .before))) (λ c. omega arith) (λ c. omega arith)
+    (λ c. search needs) loop-less loop-again)

@@ -1,198 +1,50 @@
--- `getres::add` leaves an archive where it leaves one. Assumes nothing.
-use mathlib.Core.Path.{sym, ap, _∙_}
+-- `getres::add` leaves an archive. Assumes nothing.
+use mathlib.Core.Path.{sym}
 use native.Mathlib.Omega.{arith}
-use mathlib.Core.Bool.{true}
 use lib.ListN.{take}
 use lib.Seq.{length-take-le}
-use Rattle.definition.specs.Archive.{laidOut}
-use Rattle.getres.specs.Adding.{fileOf}
-use Rattle.getres.proofs.Adding.{added-laid, put-front}
+use Rattle.archive_edit.specs.Adding.{fileOf}
+use Rattle.archive_edit.proofs.Adding.{added-holds}
+use Rattle.getres.proofs.Loading.{put-holds}
 use borrow.Author.Needs.{needs}
 use Rattle.getres.proofs.add.Statement.{statement}
 use Rattle.getres.proofs.add.Tie as tie
-use Rattle.getres.proofs.add.Reads as reads
-use Rattle.getres.proofs.add.Lts as lts
-use Rattle.getres.proofs.files.add_file.Reads as add-file-reads
-use Rattle.scan.proofs.put.Reads as put-reads
-use Rattle.getres.proofs.reports.complain.Reads as complain-reads
 
--- src/main.rt:144:26
-slice-reshare-prefix-add-file : tie.Need-slice-reshare-prefix-add-file
-slice-reshare-prefix-add-file c = search needs
-
--- src/main.rt:144:26
-slice-aggregate-add-file : tie.Need-slice-aggregate-add-file
-slice-aggregate-add-file c =
-    let start-here = c .before .before .before .before in
-    sym (length-take-le (start-here .args .size) (start-here .args .archive .now) (omega (arith, start-here .pre)))
-
--- src/main.rt:144:56
-slice-aggregate-add-file-2 : tie.Need-slice-aggregate-add-file-2
-slice-aggregate-add-file-2 c = search needs
-
--- src/main.rt:144:9
-add-file-requires : tie.Need-add-file-requires
-add-file-requires c κs = search needs
-
--- src/main.rt:146:21
-enum-known-added : tie.Need-enum-known-added
-enum-known-added c = search needs
-
--- src/main.rt:147:17
 array-share-prefix-out : tie.Need-array-share-prefix-out
 array-share-prefix-out c =
-    let add-file-here = c .before .before .before .before in
-    let added-here = c .before in
-    omega (arith, rw (added-here .added .given .1) at (add-file-here .add-file .ensures .inside), add-file-here .add-file .kept .1 .1 .1 .0)
+    let added = c .before in
+    let addfile = added .before .before .before in
+    let s = addfile .before .before .before .before .before .before in
+    omega (arith, added-holds (fileOf (s .args .name .now) (s .args .body .now)) (take (s .args .size) (s .args .archive .now)) _ (addfile .add-file .last .1 .1 .1 .0) (added .added .given .0 .0) (s .pre .1 .laid) (rw (added .added .given .1) at (addfile .add-file .ensures)) .inside, addfile .add-file .kept .1 .1 .1 .0)
 
--- src/main.rt:147:17
-slice-aggregate-put : tie.Need-slice-aggregate-put
-slice-aggregate-put c =
-    let add-file-here = c .before .before .before .before .before in
-    let added-here = c .before .before in
-    sym (length-take-le (added-here .added .given .0 .0) (add-file-here .add-file .last .1 .1 .1 .0) (rw (added-here .added .given .1) at (add-file-here .add-file .ensures .inside)))
+slice-aggregate-copy-in : tie.Need-slice-aggregate-copy-in
+slice-aggregate-copy-in c =
+    let added = c .before .before in
+    let addfile = added .before .before .before in
+    let s = addfile .before .before .before .before .before .before in
+    sym (length-take-le _ _ (added-holds (fileOf (s .args .name .now) (s .args .body .now)) (take (s .args .size) (s .args .archive .now)) _ (addfile .add-file .last .1 .1 .1 .0) (added .added .given .0 .0) (s .pre .1 .laid) (rw (added .added .given .1) at (addfile .add-file .ensures)) .inside))
 
--- src/main.rt:147:13
-put-requires : tie.Need-put-requires
-put-requires c κs =
-    let start-here = c .before .before .before .before .before .before .before .before .before .before .before .before in
-    let add-file-here = c .before .before .before .before .before .before in
-    let added-here = c .before .before .before in
-    let i = rw (added-here .added .given .1) at (add-file-here .add-file .ensures .inside) in
-    omega (arith, start-here .pre .0, i, add-file-here .add-file .kept .1 .1 .1 .0, length-take-le (added-here .added .given .0 .0) (add-file-here .add-file .last .1 .1 .1 .0) i)
+copy-in-requires : tie.Need-copy-in-requires
+copy-in-requires c κs =
+    let added = c .before .before .before in
+    let addfile = added .before .before .before in
+    let s = addfile .before .before .before .before .before .before in
+    omega (arith, s .pre .0, addfile .add-file .kept .1 .1 .1 .0, added-holds (fileOf (s .args .name .now) (s .args .body .now)) (take (s .args .size) (s .args .archive .now)) _ (addfile .add-file .last .1 .1 .1 .0) (added .added .given .0 .0) (s .pre .1 .laid) (rw (added .added .given .1) at (addfile .add-file .ensures)) .inside, length-take-le (added .added .given .0 .0) (addfile .add-file .last .1 .1 .1 .0) (added-holds (fileOf (s .args .name .now) (s .args .body .now)) (take (s .args .size) (s .args .archive .now)) _ (addfile .add-file .last .1 .1 .1 .0) (added .added .given .0 .0) (s .pre .1 .laid) (rw (added .added .given .1) at (addfile .add-file .ensures)) .inside))
 
--- src/main.rt:148:13
-same-length : tie.Need-same-length
-same-length c = search needs
-
--- src/main.rt:148:13
 returns : tie.Need-returns
 returns c =
-    let start-here = c .before .before .before .before .before .before .before .before .before .before .before .before .before .before .before in
-    let add-file-here = c .before .before .before .before .before .before .before .before .before in
-    let added-here = c .before .before .before .before .before .before in
-    let put-here = c .before .before in
-    let a = start-here .args in
-    let n = added-here .added .given .0 .0 in
-    let out = add-file-here .add-file .last .1 .1 .1 .0 in
-    let inside = rw (added-here .added .given .1) at (add-file-here .add-file .ensures .inside) in
-    let laid = rw (added-here .added .given .1) at (add-file-here .add-file .ensures .equals) in
-    let same = put-front (a .archive .now) (put-here .put .last .1 .0) out (put-here .put .result) n inside (put-here .put .ensures .0) (put-here .put .ensures .1) in (
-      omega (arith, start-here .pre .0, inside, add-file-here .add-file .kept .1 .1 .1 .0, put-here .put .kept .1 .0),
-      ap laidOut same ∙ added-laid (take (a .size) (a .archive .now)) (start-here .pre .2) (fileOf (a .name .now) (a .body .now)) (take n out) laid,
-    )
-
--- src/main.rt:150:43
-enum-told : tie.Need-enum-told
-enum-told c = search needs
-
--- src/main.rt:150:43
-slice-aggregate-complain : tie.Need-slice-aggregate-complain
-slice-aggregate-complain c = search needs
-
--- src/main.rt:150:28
-complain-requires : tie.Need-complain-requires
-complain-requires c κs = search needs
-
--- src/main.rt:151:40
-enum-told-2 : tie.Need-enum-told-2
-enum-told-2 c = search needs
-
--- src/main.rt:151:40
-slice-aggregate-complain-2 : tie.Need-slice-aggregate-complain-2
-slice-aggregate-complain-2 c = search needs
-
--- src/main.rt:151:25
-complain-requires-2 : tie.Need-complain-requires-2
-complain-requires-2 c κs = search needs
-
--- src/main.rt:152:42
-enum-told-3 : tie.Need-enum-told-3
-enum-told-3 c = search needs
-
--- src/main.rt:152:42
-slice-aggregate-complain-3 : tie.Need-slice-aggregate-complain-3
-slice-aggregate-complain-3 c = search needs
-
--- src/main.rt:152:27
-complain-requires-3 : tie.Need-complain-requires-3
-complain-requires-3 c κs = search needs
-
--- src/main.rt:153:43
-enum-told-4 : tie.Need-enum-told-4
-enum-told-4 c = search needs
-
--- src/main.rt:153:43
-slice-aggregate-complain-4 : tie.Need-slice-aggregate-complain-4
-slice-aggregate-complain-4 c = search needs
-
--- src/main.rt:153:28
-complain-requires-4 : tie.Need-complain-requires-4
-complain-requires-4 c κs = search needs
-
--- src/main.rt:139:1
-same-length-2 : tie.Need-same-length-2
-same-length-2 c = search needs
-
--- src/main.rt:139:1
-returns-2 : tie.Need-returns-2
-returns-2 c = search needs
-
--- src/main.rt:139:1
-same-length-3 : tie.Need-same-length-3
-same-length-3 c = search needs
-
--- src/main.rt:139:1
-returns-3 : tie.Need-returns-3
-returns-3 c = search needs
-
--- src/main.rt:139:1
-same-length-4 : tie.Need-same-length-4
-same-length-4 c = search needs
-
--- src/main.rt:139:1
-returns-4 : tie.Need-returns-4
-returns-4 c = search needs
-
--- src/main.rt:139:1
-same-length-5 : tie.Need-same-length-5
-same-length-5 c = search needs
-
--- src/main.rt:139:1
-returns-5 : tie.Need-returns-5
-returns-5 c = search needs
+    let copyin = c .before .before in
+    let added = copyin .before .before .before .before in
+    let addfile = added .before .before .before in
+    let s = addfile .before .before .before .before .before .before in
+    put-holds _ _ (copyin .copy-in .ensures) (sym (length-take-le _ _ (added-holds (fileOf (s .args .name .now) (s .args .body .now)) (take (s .args .size) (s .args .archive .now)) _ (addfile .add-file .last .1 .1 .1 .0) (added .added .given .0 .0) (s .pre .1 .laid) (rw (added .added .given .1) at (addfile .add-file .ensures)) .inside))) (omega (arith, s .pre .0, addfile .add-file .kept .1 .1 .1 .0, added-holds (fileOf (s .args .name .now) (s .args .body .now)) (take (s .args .size) (s .args .archive .now)) _ (addfile .add-file .last .1 .1 .1 .0) (added .added .given .0 .0) (s .pre .1 .laid) (rw (added .added .given .1) at (addfile .add-file .ensures)) .inside, length-take-le (added .added .given .0 .0) (addfile .add-file .last .1 .1 .1 .0) (added-holds (fileOf (s .args .name .now) (s .args .body .now)) (take (s .args .size) (s .args .archive .now)) _ (addfile .add-file .last .1 .1 .1 .0) (added .added .given .0 .0) (s .pre .1 .laid) (rw (added .added .given .1) at (addfile .add-file .ensures)) .inside))) (added-holds (fileOf (s .args .name .now) (s .args .body .now)) (take (s .args .size) (s .args .archive .now)) _ (addfile .add-file .last .1 .1 .1 .0) (added .added .given .0 .0) (s .pre .1 .laid) (rw (added .added .given .1) at (addfile .add-file .ensures)) .laid)
 
 pub add-spec : {M : Type 1} → statement M
 add-spec =
     tie.close
     (tie.spec
-    slice-reshare-prefix-add-file
-    slice-aggregate-add-file
-    slice-aggregate-add-file-2
-    add-file-requires
-    enum-known-added
-    array-share-prefix-out
-    slice-aggregate-put
-    put-requires
-    same-length
-    returns
-    enum-told
-    slice-aggregate-complain
-    complain-requires
-    enum-told-2
-    slice-aggregate-complain-2
-    complain-requires-2
-    enum-told-3
-    slice-aggregate-complain-3
-    complain-requires-3
-    enum-told-4
-    slice-aggregate-complain-4
-    complain-requires-4
-    same-length-2
-    returns-2
-    same-length-3
-    returns-3
-    same-length-4
-    returns-4
-    same-length-5
-    returns-5)
+    (λ c. search needs) (λ c. search needs) (λ c. search needs) (λ c κs. search needs) (λ c. search needs) array-share-prefix-out
+    slice-aggregate-copy-in copy-in-requires (λ c. search needs) returns (λ c. search needs) (λ c. search needs)
+    (λ c κs. search needs) (λ c. search needs) (λ c. search needs) (λ c κs. search needs) (λ c. search needs) (λ c. search needs)
+    (λ c κs. search needs) (λ c. search needs) (λ c. search needs) (λ c κs. search needs) (λ c. search needs) (λ c. search needs)
+    (λ c. search needs) (λ c. search needs) (λ c. search needs) (λ c. search needs) (λ c. search needs) (λ c. search needs))

@@ -1,3 +1,4 @@
+-- `image_judge::is_image` meets its contract. Assumes nothing.
 use mathlib.Core.Path.{sym, _∙_}
 use native.Mathlib.Omega.{arith}
 use Rattle.image_judge.proofs.Judged.{contents-short, bodies-short, too-many, too-much, by-rows}
@@ -5,70 +6,15 @@ use borrow.Author.Needs.{needs}
 use Rattle.image_judge.proofs.is_image.Statement.{statement}
 use Rattle.image_judge.proofs.is_image.Tie as tie
 
-returns : tie.Need-returns
-returns c =
-    let start-here = c .before .before .before in
-    let if1-here = c in
-    sym (contents-short (start-here .args .contents .now) (start-here .args .bodies .now) (omega (arith, if1-here .if1 .taken)))
-
-returns-2 : tie.Need-returns-2
-returns-2 c =
-    let start-here = c .before .before .before .before in
-    let if2-here = c in
-    sym (bodies-short (start-here .args .contents .now) (start-here .args .bodies .now) (omega (arith, if2-here .if2 .taken)))
-
-shared-slice-read-count : tie.Need-shared-slice-read-count
-shared-slice-read-count c = search needs
-
-cast-count : tie.Need-cast-count
-cast-count c =
-    let shared-slice-known3-here = c in
-    omega (arith, shared-slice-known3-here .shared-slice-known3 .given 0)
-
-returns-3 : tie.Need-returns-3
-returns-3 c =
-    let start-here = c .before .before .before .before .before .before in
-    let if3-here = c in
-    sym (too-many (start-here .args .contents .now) (start-here .args .bodies .now) (omega (arith, if3-here .if3 .taken)))
-
-shared-slice-read-used : tie.Need-shared-slice-read-used
-shared-slice-read-used c = search needs
-
-cast-used : tie.Need-cast-used
-cast-used c =
-    let shared-slice-known4-here = c in
-    omega (arith, shared-slice-known4-here .shared-slice-known4 .given 1)
-
-returns-4 : tie.Need-returns-4
-returns-4 c =
-    let start-here = c .before .before .before .before .before .before .before .before in
-    let if4-here = c in
-    sym (too-much (start-here .args .contents .now) (start-here .args .bodies .now) (omega (arith, if4-here .if4 .taken)))
-
-rows-hold-requires : tie.Need-rows-hold-requires
-rows-hold-requires c κs = omega arith
-
 returns-5 : tie.Need-returns-5
 returns-5 c =
-    let start-here = c .before .before .before .before .before .before .before .before .before in
-    let if1-here = c .before .before .before .before .before .before in
     let if2-here = c .before .before .before .before .before in
-    let if3-here = c .before .before .before in
-    let if4-here = c .before in
-    let rows-hold-here = c in
-    rows-hold-here .rows-hold .ensures ∙ sym (by-rows (start-here .args .contents .now) (start-here .args .bodies .now) (omega (arith, if1-here .if1 .left)) (omega (arith, if2-here .if2 .left)) (omega (arith, if3-here .if3 .left)) (omega (arith, if4-here .if4 .left)))
+    c .rows-hold .ensures ∙ sym (by-rows _ _ (if2-here .before .if1 .left) (if2-here .if2 .left) (c .before .before .before .if3 .left) (c .before .if4 .left))
 
 pub is-image-spec : {M : Type 1} → statement M
 is-image-spec =
     tie.close
     (tie.spec
-    returns
-    returns-2
-    shared-slice-read-count
-    cast-count
-    returns-3
-    shared-slice-read-used
-    cast-used
-    returns-4
-    rows-hold-requires
-    returns-5)
+    (λ c. sym (contents-short _ _ (c .if1 .taken))) (λ c. sym (bodies-short _ _ (c .if2 .taken))) (λ c. search needs) (λ c. omega (arith, c .shared-slice-known3 .given 0))
+    (λ c. sym (too-many _ _ (c .if3 .taken))) (λ c. search needs) (λ c. omega (arith, c .shared-slice-known4 .given 1)) (λ c. sym (too-much _ _ (c .if4 .taken)))
+    (λ c κs. omega arith) returns-5)

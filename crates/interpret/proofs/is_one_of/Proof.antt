@@ -7,9 +7,6 @@ use Rattle.interpret.proofs.Words.{first-of-three, second-of-three, thi
 use Rattle.interpret.proofs.is_one_of.Statement.{statement}
 use Rattle.interpret.proofs.is_one_of.Tie as tie
 
-is-word-requires : tie.Need-is-word-requires
-is-word-requires c κs = search needs
-
 returns : tie.Need-returns
 returns c =
     let start-here = c .before .before .before .before .before .before in
@@ -18,9 +15,6 @@ returns c =
     let b = start-here .args .b .now in
     let d = start-here .args .c .now in
     sym (first-of-three is a b d (sym (c .before .is-word .ensures) ∙ c .if1 .taken))
-
-is-word-requires-2 : tie.Need-is-word-requires-2
-is-word-requires-2 c κs = search needs
 
 returns-2 : tie.Need-returns-2
 returns-2 c =
@@ -33,9 +27,6 @@ returns-2 c =
     let if1-here = c .before .before in
     sym
     (second-of-three is a b d (sym (is-word-here .is-word .ensures) ∙ if1-here .if1 .left) (sym (c .before .is-word2 .ensures) ∙ c .if2 .taken))
-
-is-word-requires-3 : tie.Need-is-word-requires-3
-is-word-requires-3 c κs = search needs
 
 returns-3 : tie.Need-returns-3
 returns-3 c =
@@ -56,4 +47,4 @@ returns-3 c =
 pub is-one-of-spec : {M : Type 1} → statement M
 is-one-of-spec =
     tie.close
-    (tie.spec is-word-requires returns is-word-requires-2 returns-2 is-word-requires-3 returns-3)
+    (tie.spec (λ c κs. search needs) returns (λ c κs. search needs) returns-2 (λ c κs. search needs) returns-3)

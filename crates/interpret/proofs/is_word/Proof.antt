@@ -27,12 +27,6 @@ shared-slice-read-to-ascii-lowercase :
     tie.Need-shared-slice-read-to-ascii-lowercase Inv-loop μ-loop
 shared-slice-read-to-ascii-lowercase c = search needs
 
-to-ascii-lowercase-requires : tie.Need-to-ascii-lowercase-requires Inv-loop μ-loop
-to-ascii-lowercase-requires c κs = search needs
-
-shared-slice-read-if2 : tie.Need-shared-slice-read-if2 Inv-loop μ-loop
-shared-slice-read-if2 c = search needs
-
 returns-2 : tie.Need-returns-2 Inv-loop μ-loop
 returns-2 c =
     let start-here = c .before .before .before .before .before .before .before .before .before in
@@ -44,12 +38,6 @@ returns-2 c =
     let h : i < length text = search needs in
     let k : i < length word = search needs in
     sym (loop-here .loop .inv ∙ word-stop text word i h k (λ e. c .if2 .taken (to-ascii-lowercase-here .to-ascii-lowercase .ensures ∙ e)))
-
-add-i : tie.Need-add-i Inv-loop μ-loop
-add-i c = search needs
-
-loop-less : tie.Need-loop-less Inv-loop μ-loop
-loop-less c = search needs
 
 loop-again : tie.Need-loop-again Inv-loop μ-loop
 loop-again c =
@@ -73,15 +61,5 @@ pub is-word-spec : {M : Type 1} → statement M
 is-word-spec =
     tie.close
     (tie.spec
-    Inv-loop
-    μ-loop
-    returns
-    loop-holds
-    shared-slice-read-to-ascii-lowercase
-    to-ascii-lowercase-requires
-    shared-slice-read-if2
-    returns-2
-    add-i
-    loop-less
-    loop-again
-    returns-3)
+    Inv-loop μ-loop returns loop-holds shared-slice-read-to-ascii-lowercase (λ c κs. search needs) (λ c. search needs) returns-2
+    (λ c. search needs) (λ c. search needs) loop-again returns-3)

@@ -11,21 +11,6 @@ returns c =
     let start-here = c .before .before in
     number-none (start-here .args .text .now) (c .if1 .taken)
 
-shared-slice-read-sign : tie.Need-shared-slice-read-sign
-shared-slice-read-sign c = search needs
-
-sub-signed-number : tie.Need-sub-signed-number
-sub-signed-number c = search needs
-
-part-signed-number-start : tie.Need-part-signed-number-start
-part-signed-number-start c = search needs
-
-part-signed-number-end : tie.Need-part-signed-number-end
-part-signed-number-end c = search needs
-
-signed-number-requires : tie.Need-signed-number-requires
-signed-number-requires c κs = search needs
-
 returns-2 : tie.Need-returns-2
 returns-2 c =
     let start-here = c .before .before .before .before .before .before in
@@ -33,18 +18,6 @@ returns-2 c =
     let text = start-here .args .text .now in
     let h : 0 < length text = search needs in
     c .signed-number .ensures ∙ number-after-minus text h (if2-here .if2 .taken)
-
-sub-signed-number-2 : tie.Need-sub-signed-number-2
-sub-signed-number-2 c = search needs
-
-part-signed-number-start-2 : tie.Need-part-signed-number-start-2
-part-signed-number-start-2 c = search needs
-
-part-signed-number-end-2 : tie.Need-part-signed-number-end-2
-part-signed-number-end-2 c = search needs
-
-signed-number-requires-2 : tie.Need-signed-number-requires-2
-signed-number-requires-2 c κs = search needs
 
 returns-3 : tie.Need-returns-3
 returns-3 c =
@@ -54,9 +27,6 @@ returns-3 c =
     let text = start-here .args .text .now in
     let h : 0 < length text = search needs in
     c .signed-number2 .ensures ∙ number-after-plus text h (if2-here .if2 .left) (if3-here .if3 .taken)
-
-signed-number-requires-3 : tie.Need-signed-number-requires-3
-signed-number-requires-3 c κs = search needs
 
 returns-4 : tie.Need-returns-4
 returns-4 c =
@@ -71,17 +41,5 @@ pub parse-i64-spec : {M : Type 1} → statement M
 parse-i64-spec =
     tie.close
     (tie.spec
-    returns
-    shared-slice-read-sign
-    sub-signed-number
-    part-signed-number-start
-    part-signed-number-end
-    signed-number-requires
-    returns-2
-    sub-signed-number-2
-    part-signed-number-start-2
-    part-signed-number-end-2
-    signed-number-requires-2
-    returns-3
-    signed-number-requires-3
-    returns-4)
+    returns (λ c. search needs) (λ c. search needs) (λ c. search needs) (λ c. search needs) (λ c κs. search needs) returns-2
+    (λ c. search needs) (λ c. search needs) (λ c. search needs) (λ c κs. search needs) returns-3 (λ c κs. search needs) returns-4)

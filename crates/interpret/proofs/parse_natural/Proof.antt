@@ -30,12 +30,6 @@ loop-holds c =
     let start-here = c .before .before in
     (search needs, ap magnitude (natural-first (start-here .args .text .now) (λ e. omega (arith, c .if1 .left))))
 
-shared-slice-read-c : tie.Need-shared-slice-read-c Inv-loop μ-loop
-shared-slice-read-c c = search needs
-
-in-range-requires : tie.Need-in-range-requires Inv-loop μ-loop
-in-range-requires c κs = search needs
-
 returns-2 : tie.Need-returns-2 Inv-loop μ-loop
 unfolding naturalIn
 returns-2 c =
@@ -70,9 +64,6 @@ returns-3 c =
     let h : i < length text = search needs in
     sym (loop-here .loop .inv .1 ∙ digits-past text n i h (c .if3 .taken))
 
-mul-n : tie.Need-mul-n Inv-loop μ-loop
-mul-n c = search needs
-
 sub-n : tie.Need-sub-n Inv-loop μ-loop
 sub-n c = omega (arith, bounds (c .before))
 
@@ -81,12 +72,6 @@ cast-n c = omega (arith, bounds (c .before))
 
 add-n : tie.Need-add-n Inv-loop μ-loop
 add-n c = omega (arith, bounds (c .before))
-
-add-i : tie.Need-add-i Inv-loop μ-loop
-add-i c = search needs
-
-loop-less : tie.Need-loop-less Inv-loop μ-loop
-loop-less c = search needs
 
 loop-again : tie.Need-loop-again Inv-loop μ-loop
 loop-again c =
@@ -124,20 +109,5 @@ pub parse-natural-spec : {M : Type 1} → statement M
 parse-natural-spec =
     tie.close
     (tie.spec
-    Inv-loop
-    μ-loop
-    returns
-    loop-holds
-    shared-slice-read-c
-    in-range-requires
-    returns-2
-    returns-3
-    mul-n
-    sub-n
-    cast-n
-    add-n
-    add-i
-    loop-less
-    loop-again
-    returns-4
-    returns-5)
+    Inv-loop μ-loop returns loop-holds (λ c. search needs) (λ c κs. search needs) returns-2 returns-3 (λ c. search needs) sub-n
+    cast-n add-n (λ c. search needs) (λ c. search needs) loop-again returns-4 returns-5)

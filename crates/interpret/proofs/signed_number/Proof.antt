@@ -5,12 +5,6 @@ use Rattle.interpret.proofs.Numbers.{natural-most, natural-signed, noth
 use Rattle.interpret.proofs.signed_number.Statement.{statement}
 use Rattle.interpret.proofs.signed_number.Tie as tie
 
-parse-natural-requires : tie.Need-parse-natural-requires
-parse-natural-requires c κs = search needs
-
-enum-known-read : tie.Need-enum-known-read
-enum-known-read c = search needs
-
 with-sign-requires : tie.Need-with-sign-requires
 with-sign-requires c κs =
     let start-here = c .before .before .before .before .before in
@@ -18,9 +12,6 @@ with-sign-requires c κs =
     let parse-natural-here = c .before .before .before in
     natural-most (read-here .read .given .0 .0) (naturalOf (start-here .args .text .now))
     (rw (read-here .read .given .1) at (parse-natural-here .parse-natural .ensures))
-
-enum-told : tie.Need-enum-told
-enum-told c = search needs
 
 returns : tie.Need-returns
 returns c =
@@ -42,9 +33,4 @@ pub signed-number-spec : {M : Type 1} → statement M
 signed-number-spec =
     tie.close
     (tie.spec
-    parse-natural-requires
-    enum-known-read
-    with-sign-requires
-    enum-told
-    returns
-    returns-2)
+    (λ c κs. search needs) (λ c. search needs) with-sign-requires (λ c. search needs) returns returns-2)

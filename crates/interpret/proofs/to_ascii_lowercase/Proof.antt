@@ -4,9 +4,6 @@ use Rattle.interpret.proofs.Words.{lower-upper, lower-below, lower-abov
 use Rattle.interpret.proofs.to_ascii_lowercase.Statement.{statement}
 use Rattle.interpret.proofs.to_ascii_lowercase.Tie as tie
 
-add-result : tie.Need-add-result
-add-result c = search needs
-
 returns : tie.Need-returns
 returns c = lower-upper _ (omega arith) (omega arith)
 
@@ -17,4 +14,4 @@ returns-3 : tie.Need-returns-3
 returns-3 c = lower-above _ (omega arith)
 
 pub to-ascii-lowercase-spec : {M : Type 1} → statement M
-to-ascii-lowercase-spec = tie.close (tie.spec add-result returns returns-2 returns-3)
+to-ascii-lowercase-spec = tie.close (tie.spec (λ c. search needs) returns returns-2 returns-3)

@@ -6,18 +6,6 @@ use Rattle.interpret.proofs.Words.{truth-word, truth-zero, truth-other}
 use Rattle.interpret.proofs.to_bool.Statement.{statement}
 use Rattle.interpret.proofs.to_bool.Tie as tie
 
-parse-i64-requires : tie.Need-parse-i64-requires
-parse-i64-requires c κs = search needs
-
-enum-known-number : tie.Need-enum-known-number
-enum-known-number c = search needs
-
-enum-told : tie.Need-enum-told
-enum-told c = search needs
-
-word-to-bool-requires : tie.Need-word-to-bool-requires
-word-to-bool-requires c κs = search needs
-
 returns : tie.Need-returns
 returns c =
     let start-here = c .before .before .before .before .before in
@@ -47,10 +35,4 @@ pub to-bool-spec : {M : Type 1} → statement M
 to-bool-spec =
     tie.close
     (tie.spec
-    parse-i64-requires
-    enum-known-number
-    enum-told
-    word-to-bool-requires
-    returns
-    returns-2
-    returns-3)
+    (λ c κs. search needs) (λ c. search needs) (λ c. search needs) (λ c κs. search needs) returns returns-2 returns-3)

@@ -4,9 +4,6 @@ use Rattle.interpret.proofs.Numbers.{minus-fits, number-minus, number-p
 use Rattle.interpret.proofs.with_sign.Statement.{statement}
 use Rattle.interpret.proofs.with_sign.Tie as tie
 
-cast-z : tie.Need-cast-z
-cast-z c = search needs
-
 sub-t6 : tie.Need-sub-t6
 sub-t6 c =
     let start-here = c .before .before in
@@ -33,4 +30,4 @@ returns-4 c =
     number-past (start-here .args .n) (omega arith) (start-here .args .negative) (c .if3 .left)
 
 pub with-sign-spec : {M : Type 1} → statement M
-with-sign-spec = tie.close (tie.spec cast-z sub-t6 returns returns-2 returns-3 returns-4)
+with-sign-spec = tie.close (tie.spec (λ c. search needs) sub-t6 returns returns-2 returns-3 returns-4)

@@ -5,16 +5,7 @@ use Rattle.resource_manager.proofs.Fitting.{bytes-small}
 use borrow.Author.Needs.{needs}
 use Rattle.resource_manager.proofs.resource_manager_get_bytes.Statement.{statement}
 use Rattle.resource_manager.proofs.resource_manager_get_bytes.Tie as tie
-use Rattle.resource_manager.proofs.resource_manager_get_bytes.Reads as reads
-use Rattle.resource_manager.proofs.resource_manager_get_bytes.Lts as lts
-use Rattle.lookup.proofs.get_bytes.Reads as get-bytes-reads
-use Rattle.resource_manager.proofs.place_code.Reads as place-code-reads
 
--- src/lib.rt:52:9
-get-bytes-requires : tie.Need-get-bytes-requires
-get-bytes-requires c κs = search needs
-
--- src/lib.rt:53:5
 place-code-requires : tie.Need-place-code-requires
 place-code-requires c κs =
     let start-here = c .before .before .before .before .before in
@@ -22,7 +13,6 @@ place-code-requires c κs =
     let a = start-here .args in
     bytes-small (a .contents .now) (a .bodies .now) (a .name .now) (a .class .now) (get-bytes-here .get-bytes .result) (get-bytes-here .get-bytes .ensures)
 
--- src/lib.rt:43:1
 returns : tie.Need-returns
 returns c =
     let get-bytes-here = c .before in
@@ -31,4 +21,4 @@ returns c =
 
 pub resource-manager-get-bytes-spec : {M : Type 1} → statement M
 resource-manager-get-bytes-spec =
-    tie.close (tie.spec get-bytes-requires place-code-requires returns)
+    tie.close (tie.spec (λ c κs. search needs) place-code-requires returns)

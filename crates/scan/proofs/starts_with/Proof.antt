@@ -1,76 +1,29 @@
-use mathlib.Core.Path.{_≡_, refl, _∙_}
-use Prim.Native.Nat.{_-_, _≤_, _<_}
+use mathlib.Core.Path.{_≡_, refl, sym, _∙_}
+use Prim.Native.Nat.{_-_, _≤_}
 use lib.ListN.{length, drop}
 use borrow.Author.Needs.{needs}
-use Rattle.definition.specs.Parsing.{after}
-use Rattle.scan.proofs.Beginnings.{after-short, after-on, after-other, after-all}
+use Rattle.scan.specs.Scanned.{startsWith}
+use Rattle.scan.proofs.Beginnings.{starts-short, starts-on, starts-other, starts-all}
 use Rattle.scan.proofs.starts_with.Statement.{statement}
 use Rattle.scan.proofs.starts_with.Tie as tie
 
 abbrev Inv-loop : tie.InvT-loop
-Inv-loop text word i₀ i = (i ≤ length word) × (after word text ≡ after (drop i word) (drop i text))
+Inv-loop text word i₀ i = (i ≤ length word) × (startsWith word text ≡ startsWith (drop i word) (drop i text))
 
 abbrev μ-loop : tie.MeasureT-loop
 μ-loop text word i₀ i = length word - i
 
-returns : tie.Need-returns Inv-loop μ-loop
-returns c =
-    let start-here = c .before in
-    after-short (start-here .args .word .now) (start-here .args .text .now) (c .if1 .taken)
-
-loop-holds : tie.Need-loop-holds Inv-loop μ-loop
-loop-holds c = (search needs, refl)
-
-shared-slice-read-if2 : tie.Need-shared-slice-read-if2 Inv-loop μ-loop
-shared-slice-read-if2 c = search needs
-
-shared-slice-read-if2-2 : tie.Need-shared-slice-read-if2-2 Inv-loop μ-loop
-shared-slice-read-if2-2 c = search needs
-
 returns-2 : tie.Need-returns-2 Inv-loop μ-loop
-returns-2 c =
-    let start-here = c .before .before .before .before .before .before in
-    let loop-here = c .before .before .before .before in
-    let t = start-here .args .text .now in
-    let w = start-here .args .word .now in
-    let i = loop-here .loop .i in
-    let h : i < length w = search needs in
-    loop-here .loop .inv .1 ∙ after-other w t i h (search needs) (c .if2 .taken)
-
-add-i : tie.Need-add-i Inv-loop μ-loop
-add-i c = search needs
-
-loop-less : tie.Need-loop-less Inv-loop μ-loop
-loop-less c = search needs
+returns-2 c = sym (c .before .before .before .before .loop .inv .1 ∙ starts-other _ _ _ (c .before .before .before .loop-test .taken) (search needs) (c .if2 .taken))
 
 loop-again : tie.Need-loop-again Inv-loop μ-loop
 loop-again c =
-    let start-here = c .before .before .before .before .before .before in
     let loop-here = c .before .before .before .before in
-    let t = start-here .args .text .now in
-    let w = start-here .args .word .now in
-    let i = loop-here .loop .i in
-    let h : i < length w = search needs in
-    (search needs, loop-here .loop .inv .1 ∙ after-on w t i h (search needs) (c .if2 .left))
-
-returns-3 : tie.Need-returns-3 Inv-loop μ-loop
-returns-3 c =
-    let start-here = c .before .before .before in
-    let loop-here = c .before in
-    loop-here .loop .inv .1 ∙ after-all (start-here .args .word .now) (start-here .args .text .now) (loop-here .loop .i) (search needs)
+    (search needs, loop-here .loop .inv .1 ∙ starts-on _ _ _ (c .before .before .before .loop-test .taken) (search needs) (c .if2 .left))
 
 pub starts-with-spec : {M : Type 1} → statement M
 starts-with-spec =
     tie.close
     (tie.spec
-    Inv-loop
-    μ-loop
-    returns
-    loop-holds
-    shared-slice-read-if2
-    shared-slice-read-if2-2
-    returns-2
-    add-i
-    loop-less
-    loop-again
-    returns-3)
+    Inv-loop μ-loop (λ c. sym (starts-short _ _ (c .if1 .taken))) (λ c. (search needs, refl)) (λ c. search needs) (λ c. search needs) returns-2
+    (λ c. search needs) (λ c. search needs) loop-again (λ c. sym (c .before .loop .inv .1 ∙ starts-all _ _ _ (c .loop-test .left))))

@@ -6,24 +6,6 @@ use Rattle.values.proofs.Escapes.{octal-range, room-for-digit, octal-nu
 use Rattle.values.proofs.octal.Statement.{statement}
 use Rattle.values.proofs.octal.Tie as tie
 
-sub-times-eight : tie.Need-sub-times-eight
-sub-times-eight c = omega (arith, octal-range _ (c .pre .0))
-
-times-eight-requires : tie.Need-times-eight-requires
-times-eight-requires c κs = search needs
-
-sub-times-eight-2 : tie.Need-sub-times-eight-2
-sub-times-eight-2 c = omega (arith, octal-range _ (c .before .pre .1))
-
-add-times-eight : tie.Need-add-times-eight
-add-times-eight c = omega (arith, octal-range _ (c .before .pre .0), octal-range _ (c .before .pre .1))
-
-times-eight-requires-2 : tie.Need-times-eight-requires-2
-times-eight-requires-2 c κs = search needs
-
-sub-result : tie.Need-sub-result
-sub-result c = omega (arith, octal-range _ (c .before .before .pre .2))
-
 add-result : tie.Need-add-result
 add-result c =
     let start-here = c .before .before in
@@ -41,11 +23,4 @@ pub octal-spec : {M : Type 1} → statement M
 octal-spec =
     tie.close
     (tie.spec
-    sub-times-eight
-    times-eight-requires
-    sub-times-eight-2
-    add-times-eight
-    times-eight-requires-2
-    sub-result
-    add-result
-    returns)
+    (λ c. omega (arith, octal-range _ (c .pre .0))) (λ c κs. search needs) (λ c. omega (arith, octal-range _ (c .before .pre .1))) (λ c. omega (arith, octal-range _ (c .before .pre .0), octal-range _ (c .before .pre .1))) (λ c κs. search needs) (λ c. omega (arith, octal-range _ (c .before .before .pre .2))) add-result returns)

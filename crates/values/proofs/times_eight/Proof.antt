@@ -4,15 +4,6 @@ use Rattle.values.proofs.Escapes.{eight-times}
 use Rattle.values.proofs.times_eight.Statement.{statement}
 use Rattle.values.proofs.times_eight.Tie as tie
 
-wrapping-add-u8-requires : tie.Need-wrapping-add-u8-requires
-wrapping-add-u8-requires c κs = search needs
-
-wrapping-add-u8-requires-2 : tie.Need-wrapping-add-u8-requires-2
-wrapping-add-u8-requires-2 c κs = search needs
-
-wrapping-add-u8-requires-3 : tie.Need-wrapping-add-u8-requires-3
-wrapping-add-u8-requires-3 c κs = search needs
-
 returns : tie.Need-returns
 returns c =
     let start-here = c .before .before .before in
@@ -25,7 +16,4 @@ pub times-eight-spec : {M : Type 1} → statement M
 times-eight-spec =
     tie.close
     (tie.spec
-    wrapping-add-u8-requires
-    wrapping-add-u8-requires-2
-    wrapping-add-u8-requires-3
-    returns)
+    (λ c κs. search needs) (λ c κs. search needs) (λ c κs. search needs) returns)

@@ -37,9 +37,6 @@ cast-result c =
     let a = c .before in
     rw (toZ-ofZ (a .fits .number)) (plus-cast (a .args .number) (a .fits .number) (test-is (a .args .number) (a .fits .number) true (c .if1 .taken)))
 
-returns : tie.Need-returns
-returns c = search needs
-
 sub-result : tie.Need-sub-result
 sub-result c = minus-fits (c .before .args .number) (c .before .fits .number) (c .if1 .left)
 
@@ -53,9 +50,6 @@ add-result c =
     let a = c .before in
     rw (minus-back (a .args .number) (a .fits .number) (c .if1 .left)) (record { fits = omega (arith, a .fits .number .sfits) })
 
-returns-2 : tie.Need-returns-2
-returns-2 c = search needs
-
 pub magnitude-spec : {M : Type 1} → statement M
 magnitude-spec =
-    tie.close (tie.spec cast-result returns sub-result cast-result-2 add-result returns-2)
+    tie.close (tie.spec cast-result (λ c. search needs) sub-result cast-result-2 add-result (λ c. search needs))

@@ -1,0 +1,3 @@
+-- Laws of getres's answers.
+pub mod Showing
+pub mod Telling

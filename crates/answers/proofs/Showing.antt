@@ -1,0 +1,146 @@
+-- What getres shows is what the definition answers. Assumes nothing.
+use mathlib.Core.Bool.{Bool, true, false}
+use mathlib.Core.List.{List, []}
+use mathlib.Core.Option.{Option, some, none}
+use mathlib.Core.Path.{_≡_, refl, sym, ap, _∙_}
+use Prim.Native.Nat.{ℕ, _+_, _-_, _≤_, _<_}
+use native.Mathlib.Omega.{arith}
+use lib.ListN.{take, drop}
+use lib.Seq.{slice}
+use Rattle.definition.specs.Lists.{same}
+use Rattle.definition.specs.Image.{isImage}
+use Rattle.definition.specs.Text.{Entry}
+use Rattle.definition.specs.Evaluation.{definition}
+use Rattle.definition.specs.Query.{Query, positions, malformed, pastLimit, queryOf}
+use Rattle.definition.specs.Reading.{Answer, accepted, refused as refusedReading, Outcome, outcome, reading, plain, readEntries}
+use Rattle.definition.specs.Lookup.{Reply, given, noValue as noReply, refused, Place, getBytes, answerIn, answerOf}
+use Rattle.definition.specs.ThirdTerm.{Case, withFile, withoutFile, lookup}
+use Rattle.laws.proofs.Lists.{not-both, both-ways, same-eq, eq-same, part-slice}
+use Rattle.laws.proofs.Reading.{Reads, accepted-reads}
+use Rattle.laws.proofs.ThirdTerm.{reading-answers, reading-replies}
+use Rattle.lookup.specs.declared.Lookup.{Lookup}
+use Rattle.lookup.specs.declared.Lookup.the-variants.{Found, Nothing, Refused}
+use Rattle.lookup.specs.Replies.{replied}
+use Rattle.lookup.proofs.Looking.{no-image, past, found-inside}
+use Rattle.compare.specs.declared.Compared.the-variants.{Both}
+use Rattle.compare.specs.Comparing.{Left, comparing, leaving}
+use Rattle.compare.proofs.Comparing.{answered-both}
+use Rattle.reader.specs.Said.{said}
+use Rattle.reader.specs.declared.Answer as reader
+use Rattle.reports.specs.Showing.{Shown, value, noValue, refusedBy, shown, Inside}
+use Rattle.answers.specs.Answering.{ofBytes, ofQuery, ofReading, afterReading, LooksUp, answered}
+
+-- ---- A lookup's answer
+
+-- a query of no parts is within the limits
+no-parts : (k : ℕ) → queryOf [] [] ≡ pastLimit k → ⊥
+unfolding definition
+no-parts k e = let z : _≡_ {A = ℕ} 0 1 = cc in omega arith
+
+shown-refused : (b : List ℕ) (x : Lookup) (k : ℕ) → replied x ≡ refused k → shown b x ≡ refusedBy k
+shown-refused b (Found p n) k e = absurd (let z : _≡_ {A = ℕ} 0 1 = cc in omega arith)
+shown-refused b Nothing k e = absurd (let z : _≡_ {A = ℕ} 0 1 = cc in omega arith)
+shown-refused b (Refused j) k e = let i : j ≡ k = cc in ap refusedBy i
+
+shown-bytes : (b : List ℕ) (x : Lookup) (o : Option (List ℕ)) → answerIn b (replied x) ≡ o → ((k : ℕ) → replied x ≡ refused k → ⊥) → shown b x ≡ ofBytes o
+unfolding answerIn
+shown-bytes b (Found p n) o e h = ap ofBytes e
+shown-bytes b Nothing o e h = ap ofBytes e
+shown-bytes b (Refused k) o e h = absurd (h k refl)
+
+inside-of : (c b name class : List ℕ) (x : Lookup) → replied x ≡ getBytes c b name class → Inside b x
+inside-of c b name class (Found p n) e = found-inside c b name class p n e
+inside-of c b name class Nothing e = tt
+inside-of c b name class (Refused k) e = tt
+
+inside-refused : (b : List ℕ) (x : Lookup) (k : ℕ) → replied x ≡ refused k → Inside b x
+inside-refused b (Found p n) k e = absurd (let z : _≡_ {A = ℕ} 0 1 = cc in omega arith)
+inside-refused b Nothing k e = tt
+inside-refused b (Refused j) k e = tt
+
+module _ (text archive contents bodies : List ℕ) (r : Reads text archive contents bodies) where
+  abbrev es : List Entry
+  es = plain (readEntries text archive)
+
+  abbrev c : List ℕ
+  c = reading text archive contents bodies .contents
+
+  abbrev b : List ℕ
+  b = reading text archive contents bodies .bodies
+
+  read-image : isImage c b ≡ true
+  read-image = at (isImage c b) refl
+    where
+      at : (t : Bool) → isImage c b ≡ t → isImage c b ≡ true
+      at true e = e
+      at false e = absurd (reading-replies text archive contents bodies r [] [] no-parts 8 (sym (no-image c b [] [] e)))
+
+  module _ (name class : List ℕ) (x : Lookup) (h : replied x ≡ getBytes c b name class) where
+    bytes-are : answerIn b (replied x) ≡ answerOf es (queryOf name class)
+    bytes-are = ap (answerIn b) h ∙ reading-answers text archive contents bodies r name class
+
+    apart : ((k : ℕ) → queryOf name class ≡ pastLimit k → ⊥) → (k : ℕ) → replied x ≡ refused k → ⊥
+    apart g k e = reading-replies text archive contents bodies r name class g k (sym h ∙ e)
+
+    shown-is : shown b x ≡ ofQuery es (queryOf name class)
+    unfolding ofQuery answerOf
+    shown-is = at (queryOf name class) refl
+      where
+        at : (q : Query) → queryOf name class ≡ q → shown b x ≡ ofQuery es q
+        at (positions qs) e =
+            shown-bytes b x (answerOf es (positions qs)) (bytes-are ∙ ap (answerOf es) e) (apart (λ k f. let z : _≡_ {A = ℕ} 0 1 = cc in omega arith))
+        at malformed e = shown-bytes b x none (bytes-are ∙ ap (answerOf es) e) (apart (λ k f. let z : _≡_ {A = ℕ} 0 1 = cc in omega arith))
+        at (pastLimit k) e = shown-refused b x k (h ∙ sym (past c b name class read-image k e))
+
+module _ (text archive name class contents bodies c b : List ℕ) where
+  refused-shown : (x : Lookup) (k : ℕ) → reading text archive contents bodies .answer ≡ refusedReading k → replied x ≡ refused k
+      → (shown b x ≡ answered text archive name class contents bodies) × Inside b x
+  unfolding answered ofReading
+  refused-shown x k e h = (shown-refused b x k h ∙ rw e refl, inside-refused b x k h)
+
+  accepted-shown : (x : Lookup) (n o : ℕ) → reading text archive contents bodies .answer ≡ accepted n o → c ≡ reading text archive contents bodies .contents
+      → b ≡ reading text archive contents bodies .bodies → replied x ≡ getBytes c b name class
+      → (shown b x ≡ answered text archive name class contents bodies) × Inside b x
+  unfolding answered ofReading
+  accepted-shown x n o e ec eb h =
+      let reads : Reads text archive contents bodies = accepted-reads text archive contents bodies (rw e refl) in
+      let h′ : replied x ≡ getBytes (reading text archive contents bodies .contents) (reading text archive contents bodies .bodies) name class =
+      h ∙ ap (λ (y : List ℕ). getBytes y b name class) ec ∙ ap (λ (y : List ℕ). getBytes (reading text archive contents bodies .contents) y name class) eb in
+      (ap (λ (y : List ℕ). shown y x) eb ∙ shown-is text archive contents bodies reads name class x h′ ∙ rw e refl, inside-of c b name class x h)
+
+  -- what was looked up shows what the definition answers, and lies in the bodies
+  pub looked : (x : Lookup) → LooksUp text archive name class contents bodies c b x → (shown b x ≡ answered text archive name class contents bodies) × Inside b x
+  unfolding afterReading
+  looked x l = at (reading text archive contents bodies .answer) refl
+    where
+      at : (a : Answer) → reading text archive contents bodies .answer ≡ a → (shown b x ≡ answered text archive name class contents bodies) × Inside b x
+      at (accepted n o) e = accepted-shown x n o e (l .contents-left) (l .bodies-left) (l .answers ∙ ap (λ (a : Answer). afterReading a (getBytes c b name class)) e)
+      at (refusedReading k) e = refused-shown x k e (l .answers ∙ ap (λ (a : Answer). afterReading a (getBytes c b name class)) e)
+
+  pub refused-looks : (k : ℕ) → outcome (refusedReading k) c b ≡ reading text archive contents bodies → LooksUp text archive name class contents bodies c b (Refused k)
+  unfolding afterReading
+  refused-looks k e = record {
+    answers = ap (λ (o : Outcome). afterReading (o .answer) (getBytes c b name class)) e;
+    contents-left = ap (λ (o : Outcome). o .contents) e;
+    bodies-left = ap (λ (o : Outcome). o .bodies) e;
+  }
+
+  pub accepted-looks : (n o : ℕ) (x : Lookup) → outcome (accepted n o) c b ≡ reading text archive contents bodies → replied x ≡ getBytes c b name class
+      → LooksUp text archive name class contents bodies c b x
+  unfolding afterReading
+  accepted-looks n o x e h = record {
+    answers = h ∙ ap (λ (p : Outcome). afterReading (p .answer) (getBytes c b name class)) e;
+    contents-left = ap (λ (p : Outcome). p .contents) e;
+    bodies-left = ap (λ (p : Outcome). p .bodies) e;
+  }
+
+-- ---- Two answers
+
+-- the call's two lookups lie in what was read
+pub both-inside : (c : Case) (struck s c₁ b₁ c₂ b₂ : List ℕ) (x y : Lookup) (second : reader.Answer) → leaving (Both x y second) s c₁ b₁ c₂ b₂ ≡ comparing c struck
+    → Inside b₁ x × Inside b₂ y
+both-inside c struck s c₁ b₁ c₂ b₂ x y second e =
+    let m = answered-both c struck (leaving (Both x y second) s c₁ b₁ c₂ b₂) (replied x) (replied y) (said second) refl e in (
+      rw (ap (λ (l : Left). l .bodies) (m .made)) (inside-of (withFile c .contents) (withFile c .bodies) (c .name) (c .class) x (m .first-looked)),
+      rw (ap (λ (l : Left). l .bodies′) (m .made)) (inside-of (withoutFile c .contents) (withoutFile c .bodies) (c .name) (c .class) y (m .second-looked)),
+    )

@@ -1,0 +1,2 @@
+-- What the contracts of getres's answers cite beside the definition.
+pub mod Answering

@@ -1,0 +1,2 @@
+-- Laws of the arguments.
+pub mod Words

@@ -1,0 +1,3 @@
+-- What the contracts of the arguments cite.
+pub mod Planning
+pub mod Examples

@@ -1,0 +1,92 @@
+-- Lookups and readings of a value, refusals among them, in whole buffers, by evaluating the definition.
+use mathlib.Core.Bool.{Bool, true}
+use mathlib.Core.List.{List, [], _∷_, _++_}
+use mathlib.Core.Path.{_≡_, refl}
+use Prim.Native.Nat.{ℕ, zero, suc}
+use Prim.Native.String.{String}
+use lib.ListN.{replicate, drop}
+use lib.IntN.{negsuc}
+use Rattle.definition.specs.Lists.{ascii}
+use Rattle.definition.specs.Reading.{Outcome, reading}
+use Rattle.definition.specs.Lookup.{Reply, given, noValue, refused as refusedReply, Place, getBytes}
+use Rattle.definition.specs.Value.{getString, getBool, getValue, Number, number, notANumber, shown}
+use Rattle.definition.specs.Evaluation.{definition, noFiles}
+
+-- n copies of a text, one after another
+unfoldable pub copies : ℕ → List ℕ → List ℕ
+copies zero t = []
+copies (suc n) t = t ++ copies n t
+
+-- buffers that are just long enough and full of sevens, and two more words and bytes behind them
+unfoldable pub contents : List ℕ
+contents = replicate 1540 7
+
+unfoldable pub bodies : List ℕ
+bodies = replicate 32770 7
+
+-- a name of n parts `a`
+unfoldable pub name : ℕ → List ℕ
+name n = copies n (ascii "a.")
+
+unfoldable pub include : List ℕ
+include = ascii "#include \"p\"\n"
+
+-- a lookup in the image of a text
+unfoldable pub look : String → List ℕ → List ℕ → Reply Place
+look t n c =
+    let o = reading (ascii t) noFiles contents bodies in
+    getBytes (o .contents) (o .bodies) n c
+
+-- an image with another entry count, another use, a start that is off, and a key of two bindings
+lookups :
+    (getBytes (513 ∷ drop 1 contents) bodies (ascii "a") [] ≡ refusedReply 8)
+    × (getBytes [] bodies (ascii "a") [] ≡ refusedReply 8)
+    × (getBytes (0 ∷ 1 ∷ drop 2 contents) bodies (ascii "a") [] ≡ refusedReply 8)
+    × (getBytes (1 ∷ 2 ∷ 0 ∷ 2 ∷ 0 ∷ contents) (ascii ".a" ++ bodies) (ascii "a") [] ≡ given (record { start = 2; length = 0 }))
+    × (getBytes (1 ∷ 2 ∷ 1 ∷ 2 ∷ 0 ∷ contents) (ascii ".a" ++ bodies) (ascii "a") [] ≡ refusedReply 8)
+    × (getBytes (1 ∷ 3 ∷ 0 ∷ 3 ∷ 0 ∷ contents) (ascii "..a" ++ bodies) (ascii "a") [] ≡ refusedReply 8)
+    × (getBytes (1 ∷ 2 ∷ 0 ∷ 2 ∷ 0 ∷ contents) (ascii ".?" ++ bodies) (ascii "a") [] ≡ refusedReply 8)
+    × (look "a:1" (replicate 1025 97) [] ≡ refusedReply 9)
+    × (look "a:1" [] (replicate 1025 46) ≡ refusedReply 9)
+    × (look "a:1" (name 33) [] ≡ refusedReply 10)
+    × (look "a:1" (name 32) [] ≡ noValue)
+    -- malformed is tested before 10
+    × (look "a:1" (name 33) (ascii ".a") ≡ noValue)
+    × (look "a:1" (ascii "a") [] ≡ given (record { start = 2; length = 1 }))
+    -- none differs from an empty value
+    × (look "a:" (ascii "a") [] ≡ given (record { start = 2; length = 0 }))
+    × (look "a:" [] [] ≡ noValue)
+unfolding definition copies contents bodies name look
+lookups = (refl, refl, refl, refl, refl, refl, refl, refl, refl, refl, refl, refl, refl, refl, refl)
+
+-- the calls that read a value, in the image of a text whose value is v
+module _ (v : String) where
+  image : Outcome
+  image = reading (ascii "a:" ++ ascii v) noFiles contents bodies
+
+  asString : Reply Place
+  asString = getString (image .contents) (image .bodies) (ascii "a") []
+
+  asBool : Reply Bool
+  asBool = getBool (image .contents) (image .bodies) (ascii "a") []
+
+  asNumber : Reply Number
+  asNumber = getValue (image .contents) (image .bodies) (ascii "a") []
+
+  showing : String → List ℕ
+  showing n = shown (image .contents) (image .bodies) (ascii n) [] (ascii "default")
+
+readingsOfAValue :
+    (asString "\\377" ≡ noValue)
+    × (asBool "\\377" ≡ noValue)
+    × (asNumber "\\377" ≡ noValue)
+    × (asString "ok" ≡ given (record { start = 2; length = 2 }))
+    × (asBool "yes" ≡ given true)
+    × (asBool "x" ≡ noValue)
+    × (asNumber "-7" ≡ given (number (negsuc 6)))
+    × (asNumber "x" ≡ given notANumber)
+    × (showing "x" "a" ≡ ascii "x")
+    × (showing "" "a" ≡ [])
+    × (showing "x" "b" ≡ ascii "default")
+unfolding definition contents bodies image asString asBool asNumber showing
+readingsOfAValue = (refl, refl, refl, refl, refl, refl, refl, refl, refl, refl, refl)

@@ -1,0 +1,59 @@
+// What getres writes: answers to standard output, all else to standard error.
+use io::write_all;
+use libc::STDERR_FILENO;
+use libc::STDOUT_FILENO;
+use reports::Report;
+
+// Says why a call of the system failed on what.
+pub fn fail(what: &[u8]) {
+    write_all(STDERR_FILENO, b"getres: ");
+    os::fail(what);
+}
+
+pub fn complain(what: &[u8], why: &[u8]) {
+    write_all(STDERR_FILENO, b"getres: ");
+    write_all(STDERR_FILENO, what);
+    write_all(STDERR_FILENO, b": ");
+    write_all(STDERR_FILENO, why);
+    write_all(STDERR_FILENO, b"\n");
+}
+
+// Writes a report, and answers its status, which is 2 if an answer cannot be written.
+pub fn tell(report: Report, bytes: &[u8]) -> u8 {
+    if report.wrong {
+        write_all(STDERR_FILENO, bytes);
+        return report.status;
+    }
+    if write_all(STDOUT_FILENO, bytes) {
+        return report.status;
+    }
+    fail(b"standard output");
+    2
+}
+
+pub fn write_help(fd: i32) {
+    write_all(
+        fd,
+        b"usage: getres [--file [NAME=]PATH].. [--without NAME] [--] TEXT NAME [CLASS]\n\
+        \n\
+        Prints the value that the X resources of the file TEXT give to a name and a class.\n\
+        A TEXT of - is standard input.\n\
+        \n\
+        \x20 --file [NAME=]PATH  a file that includes find by NAME, or else by PATH as it is written\n\
+        \x20 --without NAME      two answers, with that file and without it, and whether they differ\n\
+        \x20 --status-fd N       writes the status to descriptor N, 3 to 9\n\
+        \x20 --help              prints this\n\
+        \n\
+        Status: 0 a value, 1 none; with --without 0 equal, 1 different; 2 refused, or an error.\n",
+    );
+}
+
+pub fn write_status(fd: i32, status: u8) {
+    if status == 0 {
+        write_all(fd, b"0");
+    } else if status == 1 {
+        write_all(fd, b"1");
+    } else {
+        write_all(fd, b"2");
+    }
+}

@@ -1,0 +1,266 @@
+-- The line reader and the include function, which call each other, meet their contracts: the depth left falls. Assumes nothing.
+use mathlib.Core.Path.{_∙_}
+use Prim.Native.Nat.{ℕ, _+_, _*_, _≤_, _<_}
+use native.Mathlib.Omega.{arith}
+use lib.ListN.{length}
+use borrow.Author.Needs.{needs}
+use borrow.Fn.Kinds.{In}
+use borrow.Fn.PlainCycle.{Measures, is, falls, and}
+use Rattle.definition.specs.Archive.{filesOf}
+use Rattle.definition.specs.Text.{lineAt}
+use Rattle.archive.proofs.Walk.{Stands}
+use Rattle.image.specs.Running.{world}
+use Rattle.lines.proofs.Lined.{Skips, Includes, Enters, lined}
+use Rattle.parser.specs.Putting.{Puts}
+use Rattle.includes.proofs.Opening.{no-depth, Sought, not-found, is-at, all-opened, room-on, opened}
+use Rattle.includes.proofs.Loop.{
+  Reading,
+  reading-first,
+  reading-done,
+  reading-skip,
+  skip-less,
+  reading-include,
+  include-less,
+  include-stops,
+  reading-entry,
+  entry-inside,
+  entry-less,
+  entry-stops,
+}
+use Rattle.includes.proofs.include.Reads as include
+use Rattle.includes.proofs.include.Kinds as include-kinds
+use Rattle.includes.proofs.+include+parse_database.Lts-include as include-lts
+use Rattle.includes.proofs.parse_database.Reads as parse-database
+use Rattle.includes.proofs.parse_database.Kinds as parse-database-kinds
+use Rattle.includes.proofs.+include+parse_database.Lts-parse_database as parse-database-lts
+use Rattle.archive_find.proofs.find.Reads as find-reads
+use Rattle.archive_find.proofs.folder_of.Reads as folder-of-reads
+use Rattle.lines.proofs.parse_line.Reads as parse-line-reads
+use Rattle.parser.proofs.parse_entry.Reads as parse-entry-reads
+use Rattle.includes.proofs.+include+parse_database.{statement}
+use Rattle.includes.proofs.+include+parse_database.Tie.{close}
+
+abbrev μ-include : Measures 5 include-kinds.ps ℕ
+μ-include κs a = 2 * a .1 .1 .1 .0
+
+abbrev μ-parse-database : Measures 5 parse-database-kinds.ps ℕ
+μ-parse-database κs a = 2 * a .1 .1 .1 .0 + 1
+
+abbrev include-at : ℕ → In 5 include-kinds.ps
+include-at t = and 5 include-kinds.ps (is 5 include-kinds.ps μ-include t) include.Pre
+
+abbrev include-below : ℕ → In 5 include-kinds.ps
+include-below t = and 5 include-kinds.ps (falls 5 include-kinds.ps _<_ μ-include t) include.Pre
+
+abbrev parse-database-at : ℕ → In 5 parse-database-kinds.ps
+parse-database-at t = and 5 parse-database-kinds.ps (is 5 parse-database-kinds.ps μ-parse-database t) parse-database.Pre
+
+abbrev parse-database-below : ℕ → In 5 parse-database-kinds.ps
+parse-database-below t = and 5 parse-database-kinds.ps (falls 5 parse-database-kinds.ps _<_ μ-parse-database t) parse-database.Pre
+
+abbrev include-calls : ℕ → include-lts.Claims
+include-calls t = (find-reads.Asked, find-reads.Learnt, folder-of-reads.Asked, folder-of-reads.Learnt, parse-database-below t, parse-database.Post)
+
+abbrev parse-database-calls : ℕ → parse-database-lts.Claims
+parse-database-calls t = (parse-line-reads.Asked, parse-line-reads.Learnt, include-below t, include.Post, parse-entry-reads.Asked, parse-entry-reads.Learnt)
+
+abbrev Inv-loop : parse-database-lts.InvT-loop
+Inv-loop text folder archive depth words₀ store₀ s₀ rest₀ words store s rest = Reading depth (filesOf archive) folder text (world s₀ words₀ store₀) s words store rest
+
+abbrev μ-loop : parse-database-lts.MeasureT-loop
+μ-loop text folder archive depth words₀ store₀ s₀ rest₀ words store s rest = length rest
+
+module _ (t : ℕ) where
+  -- ---- An include
+
+  -- the search's answer
+  sought : (c : include-lts.After-find (include-calls t) (include-at t) include.Post) → (
+      let a = c .before .before .before .before .before .before .before .args in
+      Sought (a .archive .now) (a .folder .now) (a .name .now) (a .depth) (a .totals) (a .words .now) (a .store .now) (c .find .result)
+      )
+  sought c =
+      let p = c .before .before .before .before .before .before .before .pre .1 in
+      record { deep = omega (arith, c .before .if1 .left); room = p .0; laid = p .1; found = c .find .ensures }
+
+  -- the file stands in the archive
+  stands : (c : include-lts.Else2 (include-calls t) (include-at t) include.Post) → (
+      let m = c .before .before .found .given .0 .0 in
+      let find-here = c .before .before .before .before in
+      Stands (find-here .before .before .before .before .before .before .before .args .archive .now) (m .start) m
+      )
+  stands c = is-at (sought (c .before .before .before .before)) (c .before .before .found .given .1) .inside
+
+  include-returns : include-lts.Need-returns (include-calls t) (include-at t) include.Post
+  include-returns c =
+      let a = c .before .before .before .before .before .before .args in
+      no-depth (a .archive .now) (a .folder .now) (a .name .now) (a .depth) (a .totals) (a .words .now) (a .store .now) (c .if1 .taken)
+
+  include-parse-database-requires : include-lts.Need-parse-database-requires (include-calls t) (include-at t) include.Post
+  include-parse-database-requires c κs =
+      let here = c .before .before .before .before .before in
+      let find-here = here .before .before .before .before in
+      let start-here = find-here .before .before .before .before .before .before .before in
+      (omega (arith, start-here .pre .0, find-here .before .if1 .left), (room-on (sought find-here) (here .before .before .found .given .1) (here .if2 .left), start-here .pre .1 .1))
+
+  include-returns-4 : include-lts.Need-returns-4 (include-calls t) (include-at t) include.Post
+  include-returns-4 c =
+      let call-here = c .before .before .before .before in
+      let here = call-here .before .before .before .before .before .before in
+      opened (sought (here .before .before .before .before)) (here .before .before .found .given .1) (here .if2 .left) (call-here .before .before .before .before .folder-of .ensures .0) _ _ _ (call-here .parse-database .ensures)
+
+  -- ---- A text
+
+  -- a line that is passed over
+  skipped : (c : parse-database-lts.After-known-told (parse-database-calls t) (parse-database-at t) parse-database.Post Inv-loop μ-loop) → (let rest = c .before .before .before .before .before .loop .rest .now in Skips rest (lineAt rest) (c .before .line .given .0 .0))
+  skipped c = rw (c .before .line .given .1) at (lined _ (c .before .before .before .before .loop-test .taken) (c .before .before .before .parse-line .ensures))
+
+  -- an include
+  named : (c : parse-database-lts.After-known-told2 (parse-database-calls t) (parse-database-at t) parse-database.Post Inv-loop μ-loop) → (
+      let rest = c .before .before .before .before .before .loop .rest .now in
+      let given = c .before .line2 .given .0 in
+      Includes rest (lineAt rest) (given .0) (given .1 .0) (given .1 .1 .0)
+      )
+  named c = rw (c .before .line2 .given .1) at (lined _ (c .before .before .before .before .loop-test .taken) (c .before .before .before .parse-line .ensures))
+
+  -- an entry
+  entered : (c : parse-database-lts.After-known-told5 (parse-database-calls t) (parse-database-at t) parse-database.Post Inv-loop μ-loop) → (
+      let rest = c .before .before .before .before .before .loop .rest .now in
+      let given = c .before .line3 .given .0 in
+      Enters rest (lineAt rest) (given .0) (given .1 .0) (given .1 .1 .0)
+      )
+  entered c = rw (c .before .line3 .given .1) at (lined _ (c .before .before .before .before .loop-test .taken) (c .before .before .before .parse-line .ensures))
+
+  -- which is stored
+  put : (c : parse-database-lts.After-known-told6 (parse-database-calls t) (parse-database-at t) parse-database.Post Inv-loop μ-loop) → (
+      let call-here = c .before .before .before .before .before .before .before in
+      let line-here = call-here .before .before .before in
+      let loop = line-here .before .before .before .before .before .loop in
+      let call = call-here .parse-entry in
+      Puts (loop .rest .now) (line-here .before .line3 .given .0 .0) (world (loop .s) (loop .words) (loop .store))
+      (call .last .1 .1 .1 .1 .1 .0) (call .last .1 .1 .1 .1 .1 .1 .0) (c .before .put .given .0 .0) (c .before .put .given .0 .1 .0)
+      )
+  put c = rw (c .before .put .given .1) at (c .before .before .before .before .before .before .before .parse-entry .ensures)
+
+  parse-database-add-name : parse-database-lts.Need-add-name (parse-database-calls t) (parse-database-at t) parse-database.Post Inv-loop μ-loop
+  parse-database-add-name c =
+      let loop-here = c .before .before .before .before .before in
+      omega (arith, named c .named, loop-here .loop .inv .rest-most, loop-here .before .before .before .before .before .before .good .0 .0)
+
+  parse-database-include-requires : parse-database-lts.Need-include-requires (parse-database-calls t) (parse-database-at t) parse-database.Post Inv-loop μ-loop
+  parse-database-include-requires c κs =
+      let loop-here = c .before .before .before .before .before .before .before .before in
+      let start-here = loop-here .before .before .before .before .before .before in
+      (omega (arith, start-here .pre .0), (loop-here .loop .inv .room, start-here .pre .1 .1))
+
+  parse-database-sub-rest-2 : parse-database-lts.Need-sub-rest-2 (parse-database-calls t) (parse-database-at t) parse-database.Post Inv-loop μ-loop
+  parse-database-sub-rest-2 c =
+      let call-here = c .before .before .before .before .before .before .before in
+      named (call-here .before .before .before .before) .inside
+
+  parse-database-part-rest-start-2 : parse-database-lts.Need-part-rest-start-2 (parse-database-calls t) (parse-database-at t) parse-database.Post Inv-loop μ-loop
+  parse-database-part-rest-start-2 c =
+      let call-here = c .before .before .before .before .before .before .before in
+      named (call-here .before .before .before .before) .inside
+
+  parse-database-loop-less-2 : parse-database-lts.Need-loop-less-2 (parse-database-calls t) (parse-database-at t) parse-database.Post Inv-loop μ-loop
+  parse-database-loop-less-2 c =
+      let call-here = c .before .before .before .before .before .before .before .before in
+      let line-here = call-here .before .before .before .before in
+      include-less (line-here .before .before .before .before .before .loop .inv) (named line-here)
+
+  parse-database-loop-again-2 : parse-database-lts.Need-loop-again-2 (parse-database-calls t) (parse-database-at t) parse-database.Post Inv-loop μ-loop
+  parse-database-loop-again-2 c =
+      let call-here = c .before .before .before .before .before .before .before .before in
+      let line-here = call-here .before .before .before .before in
+      let kept = call-here .include .kept .1 .1 .1 .1 .1 in
+      reading-include (line-here .before .before .before .before .before .loop .inv) (named line-here) _ _ _ (rw (c .before .before .step .given .1) at (call-here .include .ensures)) (kept .0) (kept .1 .0)
+
+  parse-database-same-length : parse-database-lts.Need-same-length (parse-database-calls t) (parse-database-at t) parse-database.Post Inv-loop μ-loop
+  parse-database-same-length c =
+      let call-here = c .before .before .before .before .before .before .before in
+      let line-here = call-here .before .before .before .before in
+      call-here .include .kept .1 .1 .1 .1 .1 .0 ∙ line-here .before .before .before .before .before .loop .inv .words-same
+
+  parse-database-same-length-2 : parse-database-lts.Need-same-length-2 (parse-database-calls t) (parse-database-at t) parse-database.Post Inv-loop μ-loop
+  parse-database-same-length-2 c =
+      let call-here = c .before .before .before .before .before .before .before in
+      let line-here = call-here .before .before .before .before in
+      call-here .include .kept .1 .1 .1 .1 .1 .1 .0 ∙ line-here .before .before .before .before .before .loop .inv .bytes-same
+
+  parse-database-returns : parse-database-lts.Need-returns (parse-database-calls t) (parse-database-at t) parse-database.Post Inv-loop μ-loop
+  parse-database-returns c =
+      let call-here = c .before .before .before .before .before .before .before in
+      let line-here = call-here .before .before .before .before in
+      include-stops (line-here .before .before .before .before .before .loop .inv) (named line-here) _ _ _ (rw (c .before .step2 .given .1) at (call-here .include .ensures))
+
+  parse-database-parse-entry-requires : parse-database-lts.Need-parse-entry-requires (parse-database-calls t) (parse-database-at t) parse-database.Post Inv-loop μ-loop
+  parse-database-parse-entry-requires c κs =
+      let l = entered (c .before .before) in
+      record { inside = l .inside; parts = l .parts; key = l .key; room = c .before .before .before .before .before .before .before .loop .inv .room }
+
+  parse-database-sub-rest-3 : parse-database-lts.Need-sub-rest-3 (parse-database-calls t) (parse-database-at t) parse-database.Post Inv-loop μ-loop
+  parse-database-sub-rest-3 c =
+      let call-here = c .before .before .before .before .before .before .before in
+      let line-here = call-here .before .before .before in
+      entry-inside (line-here .before .before .before .before .before .loop .inv) (entered line-here) (put c)
+
+  parse-database-part-rest-start-3 : parse-database-lts.Need-part-rest-start-3 (parse-database-calls t) (parse-database-at t) parse-database.Post Inv-loop μ-loop
+  parse-database-part-rest-start-3 c =
+      let call-here = c .before .before .before .before .before .before .before in
+      let line-here = call-here .before .before .before in
+      entry-inside (line-here .before .before .before .before .before .loop .inv) (entered line-here) (put c)
+
+  parse-database-loop-less-3 : parse-database-lts.Need-loop-less-3 (parse-database-calls t) (parse-database-at t) parse-database.Post Inv-loop μ-loop
+  parse-database-loop-less-3 c =
+      let call-here = c .before .before .before .before .before .before .before .before in
+      let line-here = call-here .before .before .before in
+      entry-less (line-here .before .before .before .before .before .loop .inv) (entered line-here) (put (c .before))
+
+  parse-database-loop-again-3 : parse-database-lts.Need-loop-again-3 (parse-database-calls t) (parse-database-at t) parse-database.Post Inv-loop μ-loop
+  parse-database-loop-again-3 c =
+      let call-here = c .before .before .before .before .before .before .before .before in
+      let line-here = call-here .before .before .before in
+      let kept = call-here .parse-entry .kept .1 .1 .1 .1 .1 in
+      reading-entry (line-here .before .before .before .before .before .loop .inv) (entered line-here) (put (c .before)) (kept .0) (kept .1 .0)
+
+  parse-database-same-length-3 : parse-database-lts.Need-same-length-3 (parse-database-calls t) (parse-database-at t) parse-database.Post Inv-loop μ-loop
+  parse-database-same-length-3 c =
+      let call-here = c .before .before .before .before .before .before .before in
+      let line-here = call-here .before .before .before in
+      call-here .parse-entry .kept .1 .1 .1 .1 .1 .0 ∙ line-here .before .before .before .before .before .loop .inv .words-same
+
+  parse-database-same-length-4 : parse-database-lts.Need-same-length-4 (parse-database-calls t) (parse-database-at t) parse-database.Post Inv-loop μ-loop
+  parse-database-same-length-4 c =
+      let call-here = c .before .before .before .before .before .before .before in
+      let line-here = call-here .before .before .before in
+      call-here .parse-entry .kept .1 .1 .1 .1 .1 .1 .0 ∙ line-here .before .before .before .before .before .loop .inv .bytes-same
+
+  parse-database-returns-2 : parse-database-lts.Need-returns-2 (parse-database-calls t) (parse-database-at t) parse-database.Post Inv-loop μ-loop
+  parse-database-returns-2 c =
+      let call-here = c .before .before .before .before .before .before .before in
+      let line-here = call-here .before .before .before in
+      entry-stops (line-here .before .before .before .before .before .loop .inv) (entered line-here) _ _ _ (rw (c .before .put2 .given .1) at (call-here .parse-entry .ensures))
+
+pub +include+parse-database-spec : {M : Type 1} → statement M
++include+parse-database-spec = close μ-include μ-parse-database
+    (λ t. include-lts.spec (include-calls t) (include-at t) include.Post
+    (include-returns t) (λ c κs. search needs) (λ c. search needs) (λ c. search needs)
+    (λ c. not-found (sought t (c .before .before)) (c .enum-told .given .1))
+    (λ c. all-opened (sought t (c .before .before .before .before)) (c .before .before .found .given .1) (c .if2 .taken)) (λ c. search needs)
+    (λ c. stands t c .name-in) (λ c. let s = stands t c in omega (arith, s .name-in, s .body-in, s .end-in))
+    (λ c. let s = stands t c in omega (arith, s .name-in, s .body-in, s .end-in)) (λ c κs. search needs) (λ c. stands t (c .before .before) .body-in)
+    (λ c. let s = stands t (c .before .before) in omega (arith, s .body-in, s .end-in))
+    (λ c. let s = stands t (c .before .before) in omega (arith, s .body-in, s .end-in)) (λ c. search needs) (include-parse-database-requires t)
+    (λ c. search needs) (λ c. search needs) (include-returns-4 t))
+    λ t. parse-database-lts.spec (parse-database-calls t) (parse-database-at t) parse-database.Post Inv-loop μ-loop
+    (λ c. reading-first _ _ _ (c .before .before .before .before .before .pre .1 .0)) (λ c κs. search needs) (λ c. search needs)
+    (λ c. skipped t c .inside) (λ c. skipped t c .inside) (λ c. search needs)
+    (λ c. skip-less (c .before .before .before .before .before .before .loop .inv) (skipped t (c .before)))
+    (λ c. reading-skip (c .before .before .before .before .before .before .loop .inv) (skipped t (c .before))) (λ c. search needs)
+    (parse-database-add-name t) (λ c. search needs) (λ c. search needs) (λ c. named t c .named) (parse-database-include-requires t)
+    (λ c. search needs) (parse-database-sub-rest-2 t) (parse-database-part-rest-start-2 t) (λ c. search needs) (parse-database-loop-less-2 t)
+    (parse-database-loop-again-2 t) (λ c. search needs) (parse-database-same-length t) (parse-database-same-length-2 t) (parse-database-returns t)
+    (λ c. search needs) (parse-database-parse-entry-requires t) (λ c. search needs) (parse-database-sub-rest-3 t) (parse-database-part-rest-start-3 t)
+    (λ c. search needs) (parse-database-loop-less-3 t) (parse-database-loop-again-3 t) (λ c. search needs) (parse-database-same-length-3 t)
+    (parse-database-same-length-4 t) (parse-database-returns-2 t) (λ c. c .before .loop .inv .words-same) (λ c. c .before .loop .inv .bytes-same)
+    (λ c. reading-done (c .before .loop .inv) (c .loop-test .left))

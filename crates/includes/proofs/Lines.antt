@@ -1,0 +1,73 @@
+-- A text's events, line by line, as a run meets them. Assumes nothing.
+use mathlib.Core.List.{List, [], _∷_, _++_}
+use mathlib.Core.Option.{some, none}
+use mathlib.Core.Path.{_≡_, refl, ap}
+use Prim.Native.Nat.{ℕ, suc, _+_, _-_, _≤_, _<_}
+use native.Mathlib.Omega.{arith}
+use borrow.Author.Tests.{le-leb, lt-leb}
+use Rattle.definition.specs.Limits.{mostOpens}
+use Rattle.definition.specs.Parsing.{found}
+use Rattle.definition.specs.Archive.{File, bodyOf, folderOf, pathOf}
+use Rattle.definition.specs.Text.{Entry, Line, skipped, include, entry, lineAt, linesOf}
+use Rattle.definition.specs.Including.{Chain, eventsOf, opening, including}
+use Rattle.laws.proofs.Parsing.{many-stop, many-more}
+use Rattle.laws.proofs.Keys.{line-shrinks}
+use Rattle.image.specs.Running.{World, world, Ran, went, stopped, put, counted, openOne, andThen, run}
+use Rattle.image.proofs.Runs.{run-append}
+use Rattle.includes.specs.Texts.{textEvents}
+
+lines-end : linesOf [] ≡ []
+unfolding linesOf lineAt
+lines-end = ap (λ p. p .items) (many-stop lineAt line-shrinks [] refl)
+
+lines-step : (t : List ℕ) (l : Line) (u : List ℕ) → lineAt t ≡ found l u → linesOf t ≡ l ∷ linesOf u
+unfolding linesOf
+lines-step t l u e = ap (λ p. p .items) (many-more lineAt line-shrinks t l u e)
+
+module _ (d : ℕ) (fs : List File) (folder : List ℕ) (ch : Chain) (w : World) where
+  abbrev rest : List ℕ → World → Ran
+  rest u v = run v (textEvents d fs folder ch u)
+
+  pub text-end : run w (textEvents d fs folder ch []) ≡ went w
+  unfolding textEvents eventsOf run
+  text-end = rw lines-end refl
+
+  module _ (t u : List ℕ) where
+    pub text-skips : lineAt t ≡ found skipped u → rest t w ≡ rest u w
+    unfolding textEvents eventsOf
+    text-skips e = rw (lines-step t skipped u e) refl
+
+    pub text-enters : (x : Entry) → lineAt t ≡ found (entry x) u → rest t w ≡ andThen (put w x) (rest u)
+    unfolding textEvents eventsOf run
+    text-enters x e = rw (lines-step t (entry x) u e) refl
+
+    pub text-includes : (n : List ℕ) → lineAt t ≡ found (include n) u → rest t w ≡ andThen (run w (including d fs folder ch n)) (rest u)
+    unfolding textEvents eventsOf
+    text-includes n e =
+        rw (lines-step t (include n) u e)
+        (run-append (including d fs folder ch n) (eventsOf (including d fs folder ch) ch (linesOf u)) w)
+
+-- ---- An include, by what is found
+
+module _ (fs : List File) (folder : List ℕ) (ch : Chain) (n : List ℕ) (w : World) where
+  pub include-deep : went w ≡ run w (including 0 fs folder ch n)
+  unfolding including run
+  include-deep = refl
+
+  module _ (d : ℕ) (h : 0 < d) where
+    down : d ≡ suc (d - 1)
+    down = omega arith
+
+    pub include-absent : bodyOf fs (pathOf folder n) ≡ none → went w ≡ run w (including d fs folder ch n)
+    unfolding including opening run
+    include-absent e = rw (down, e) refl
+
+    pub include-full : (b : List ℕ) → bodyOf fs (pathOf folder n) ≡ some b → mostOpens ≤ w .totals .opens → stopped 4 (w .words) (w .bytes) ≡ run w (including d fs folder ch n)
+    unfolding including opening run openOne andThen
+    include-full b e k = rw (down, e, le-leb mostOpens (w .totals .opens) k) refl
+
+    pub include-reads : (b : List ℕ) → bodyOf fs (pathOf folder n) ≡ some b → w .totals .opens < mostOpens
+        → run (world (counted (w .totals)) (w .words) (w .bytes)) (textEvents (d - 1) fs (folderOf (pathOf folder n)) (ch ++ pathOf folder n ∷ []) b)
+        ≡ run w (including d fs folder ch n)
+    unfolding including opening run openOne andThen textEvents
+    include-reads b e k = let back : suc (d - 1) - 1 ≡ d - 1 = omega arith in rw (down, e, lt-leb mostOpens (w .totals .opens) k, back) refl

@@ -1,0 +1,2 @@
+-- What the contracts of lines and includes cite beside the definition.
+pub mod Texts

@@ -1,0 +1,115 @@
+// Lines and includes: `parse_data_with_base_directory` and `parse_database` of the Rust. They call each other, and the depths left fall.
+ghost use mathlib.Core.Path.{_≡_};
+ghost use mathlib.Core.Bool.{true};
+ghost use mathlib.Core.List.{List};
+ghost use Rattle.definition.specs.Archive.{laidOut, filesOf};
+ghost use Rattle.definition.specs.Including.{Chain, including};
+ghost use Rattle.image.specs.Running.{world, Room, run, answered};
+ghost use Rattle.includes.specs.Texts.{textEvents};
+use archive_find::Found;
+use archive_find::find;
+use archive_find::folder_of;
+use image::Step;
+use image::Totals;
+use limits::MOST_OPENS;
+use lines::Line;
+use lines::parse_line;
+use parser::Put;
+use parser::parse_entry;
+
+// Reads the file that an include of `name` from `folder` asks for, in the include's place. `depth` depths are left below the text.
+fn include(
+    name: &[u8],
+    folder: &[u8],
+    archive: &[u8],
+    depth: usize,
+    totals: Totals,
+    words: &mut [u16],
+    store: &mut [u8],
+) -> Step
+    requires { ⌜ Room totals (now words) (now store) × (laidOut (now archive) ≡ true) ⌝ }
+    ensures { λ r. ⌜ ((chain : Chain) → answered r (now (words .exit)) (now (store .exit)) ≡ run (world totals (now (words .entry)) (now (store .entry))) (including depth (filesOf (now (archive .entry))) (now (folder .entry)) chain (now (name .entry)))) ⌝ }
+{
+    if depth == 0 {
+        return Step::Go(totals);
+    }
+    let found = find(archive, folder, name);
+    let Found::At(member) = found else {
+        return Step::Go(totals);
+    };
+    let opens = totals.opens;
+    let entries = totals.entries;
+    let used = totals.used;
+    if opens >= MOST_OPENS {
+        return Step::Stop(4);
+    }
+    let next = Totals {
+        opens: opens + 1,
+        entries,
+        used,
+    };
+    let start = member.start;
+    let body = member.body;
+    let end = member.end;
+    let below = folder_of(&archive[start..body]);
+    parse_database(
+        &archive[body..end],
+        below,
+        archive,
+        depth - 1,
+        next,
+        words,
+        store,
+    )
+}
+
+// Reads a text of `folder`, line by line, with `depth` depths left below it.
+pub fn parse_database(
+    text: &[u8],
+    folder: &[u8],
+    archive: &[u8],
+    depth: usize,
+    totals: Totals,
+    words: &mut [u16],
+    store: &mut [u8],
+) -> Step
+    requires { ⌜ Room totals (now words) (now store) × (laidOut (now archive) ≡ true) ⌝ }
+    ensures { λ r. ⌜ ((chain : Chain) → answered r (now (words .exit)) (now (store .exit)) ≡ run (world totals (now (words .entry)) (now (store .entry))) (textEvents depth (filesOf (now (archive .entry))) (now (folder .entry)) chain (now (text .entry)))) ⌝ }
+{
+    let mut s = totals;
+    let mut rest = text;
+    while rest.len() > 0 {
+        let line = parse_line(rest);
+        match line {
+            Line::Skip(n) => {
+                rest = &rest[n..];
+            }
+            Line::Include(start, length, n) => {
+                let name = &rest[start..start + length];
+                let step = include(name, folder, archive, depth, s, words, store);
+                match step {
+                    Step::Go(next) => {
+                        s = next;
+                        rest = &rest[n..];
+                    }
+                    Step::Stop(k) => {
+                        return Step::Stop(k);
+                    }
+                }
+            }
+            Line::Entry(value, count, size) => {
+                let put = parse_entry(rest, value, count, size, s, words, store);
+                match put {
+                    Put::Done(n, next) => {
+                        s = next;
+                        rest = &rest[n..];
+                    }
+                    Put::Stop(k) => {
+                        return Step::Stop(k);
+                    }
+                }
+            }
+        }
+    }
+    Step::Go(s)
+}

@@ -1,0 +1,2 @@
+-- What a split key is, and what its bounds stand for.
+pub mod Keys

@@ -1,0 +1,2 @@
+-- The mathematics behind the proofs of the code.
+pub mod Ends

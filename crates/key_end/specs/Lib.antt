@@ -1,0 +1,2 @@
+-- What a key's end tells.
+pub mod Ends

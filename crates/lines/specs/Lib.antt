@@ -1,0 +1,2 @@
+-- What the contracts of the lines cite beside the definition.
+pub mod Places

@@ -1,0 +1,38 @@
+-- The line at the front of a text, by its places there: what the code answers.
+use mathlib.Core.List.{List, [], _∷_}
+use mathlib.Core.Option.{Option, some, none}
+use Prim.Native.Nat.{ℕ, _+_, _-_}
+use lib.Dec.{eqb}
+use lib.ListN.{length}
+use Rattle.definition.specs.Lists.{if_then_else_, takeWhile}
+use Rattle.definition.specs.Bytes.{newline, exclamation, hash, notNewline}
+use Rattle.definition.specs.Text.{assigned}
+use Rattle.scan.specs.Scanned.{includeAt}
+use Rattle.scan.specs.declared.Include as scan
+use Rattle.scan.specs.declared.Include.the-variants.{Named, Other}
+use Rattle.components.specs.Parts.{partsOf, keyFirst}
+use Rattle.lines.specs.declared.Line.{Line}
+use Rattle.lines.specs.declared.Line.the-variants.{Skip, Include, Entry}
+
+-- where the first line ends
+abbrev pub endOf : List ℕ → ℕ
+endOf t = length (takeWhile notNewline t)
+
+-- a line of a directive, whose `#` is its first byte
+unfoldable pub directiveIn : ℕ → scan.Include → Line
+directiveIn end (Named start size) = Include (1 + start) size end
+directiveIn end Other = Skip end
+
+-- a line that is no comment and no directive; u follows its `:`
+unfoldable pub resourceIn : List ℕ → Option (List ℕ) → Line
+resourceIn t none = Skip (endOf t)
+resourceIn t (some u) = Entry (length t - length u) (length (partsOf t)) (length (keyFirst t))
+
+-- as lineAt, which has the line's bytes
+unfoldable pub lineIn : List ℕ → Line
+lineIn [] = Skip 0
+lineIn (c ∷ t) =
+    if eqb c newline then Skip 1 else
+    if eqb c exclamation then Skip (endOf (c ∷ t)) else
+    if eqb c hash then directiveIn (endOf (c ∷ t)) (includeAt t) else
+    resourceIn (c ∷ t) (assigned (c ∷ t))

@@ -1,5 +1,0 @@
--- Laws of the list program.
-pub mod Numbers
-pub mod Lines
-pub mod Walking
-pub mod Printing

@@ -1,0 +1,4 @@
+-- Laws of the list program's lines.
+pub mod Lines
+pub mod Rows
+pub mod Printing

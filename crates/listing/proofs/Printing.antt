@@ -1,0 +1,138 @@
+-- From the answer of the reading call to what is written. Assumes nothing.
+use mathlib.Core.List.{List, [], _∷_, _++_, append-assoc}
+use mathlib.Core.Path.{_≡_, refl, ap, sym, _∙_}
+use Prim.Native.Nat.{ℕ, zero, suc, _+_, _*_, _≤_, _<_}
+use native.Mathlib.Omega.{arith}
+use lib.ListN.{length, getD, length-append, length-map}
+use Rattle.definition.specs.Lists.{ascii, zeroes}
+use Rattle.definition.specs.Limits.{contentsWords, bodyBytes, mostEntries, rowWords}
+use Rattle.definition.specs.Text.{Entry}
+use Rattle.definition.specs.Including.{Entered, opensOf}
+use Rattle.definition.specs.Image.{Row, keyOf, keyAt, keyEnd, rowsIn, rowsFrom, countOf, contentsOf, storeOf, writtenOver, imageContents, imageBodies}
+use Rattle.definition.specs.Evaluation.{noFiles}
+use Rattle.definition.specs.Reading.{accepted, refused, Outcome, outcome, reading, plain, readEntries, met}
+use Rattle.laws.proofs.Lists.{slice-at}
+use Rattle.laws.proofs.Image.{rowsAt, length-zeroes, written-long, contents-fit, image-rows, image-count}
+use Rattle.laws.proofs.Limits.{used-store}
+use Rattle.laws.proofs.Reading.{Reads, accepted-reads, reads-outcome}
+use Rattle.image.specs.Rows.{rowStart, rowAt}
+use Rattle.image.proofs.Rows.{row-is}
+use Rattle.printing.specs.Putting.{Puts}
+use Rattle.printing.proofs.Pieces.{piece-of, then-piece, piece-counts}
+use Rattle.listing.specs.Listing.{entryLine, entryLines, wordLine, written, printed, rowLines, Listable, listBytes, Lists}
+use Rattle.listing.proofs.Lines.{entry-most, word-most}
+
+-- ---- The lines of entries
+
+pub lines-most : (i : ℕ) (es : List Entry) → length (entryLines i es) ≤ 43 * length es + length (storeOf es)
+unfolding entryLines storeOf
+lines-most i [] = omega arith
+lines-most i (e ∷ es) =
+    let k = keyOf (e .parts) in
+    omega (arith, lines-most (i + 1) es, entry-most i k (length (e .value)), length-append (entryLine i k (length (e .value))) (entryLines (i + 1) es), length-append (k ++ e .value) (storeOf es), length-append k (e .value))
+
+-- what stands in a store that the rows were made of
+lines-of : (i : ℕ) (es : List Entry) (before after bodies : List ℕ) → bodies ≡ before ++ (storeOf es ++ after)
+    → rowLines i (rowsAt (length before) es) bodies ≡ entryLines i es
+unfolding rowLines rowsAt entryLines storeOf
+lines-of i [] before after bodies b = refl
+lines-of i (e ∷ es) before after bodies b =
+    let k = keyOf (e .parts) in
+    let v = e .value in
+    let b₁ : bodies ≡ before ++ (k ++ (v ++ storeOf es ++ after)) = b ∙ simp append-assoc in
+    let b₂ : bodies ≡ (before ++ k ++ v) ++ (storeOf es ++ after) = b ∙ simp append-assoc in
+    let key : keyAt bodies (record { start = length before; keyLength = length k; valueLength = length v }) ≡ k =
+    rw b₁ (slice-at before k (v ++ storeOf es ++ after) (length before) (length before + length k) refl refl) in
+    let place : length (before ++ k ++ v) ≡ length before + length k + length v = omega (arith, length-append (before ++ k) v, length-append before k) in
+    let ih : rowLines (i + 1) (rowsAt (length before + length k + length v) es) bodies ≡ entryLines (i + 1) es =
+    rw place at (lines-of (i + 1) es (before ++ k ++ v) after bodies b₂) in
+    ap (λ (t : List ℕ). entryLine i t (length v) ++ rowLines (i + 1) (rowsAt (length before + length k + length v) es) bodies) key
+    ∙ ap (λ (t : List ℕ). entryLine i k (length v) ++ t) ih
+
+keys-end : (es : List Entry) (at i : ℕ) (d : Row) → i < length es → keyEnd (getD (rowsAt at es) i d) ≤ at + length (storeOf es)
+unfolding rowsAt storeOf
+keys-end [] at i d h = absurd (omega arith)
+keys-end (e ∷ es) at zero d h =
+    let k = keyOf (e .parts) in
+    omega (arith, length-append (k ++ e .value) (storeOf es), length-append k (e .value))
+keys-end (e ∷ es) at (suc i) d h =
+    let k = keyOf (e .parts) in
+    omega (arith, keys-end es (at + length k + length (e .value)) i d (omega arith), length-append (k ++ e .value) (storeOf es), length-append k (e .value))
+
+-- ---- What was read
+
+abbrev words : List ℕ
+words = zeroes contentsWords
+
+abbrev bytes : List ℕ
+bytes = zeroes bodyBytes
+
+module _ (text c b : List ℕ) (n o : ℕ) (e : outcome (accepted n o) c b ≡ reading text noFiles words bytes) where
+  abbrev es : List Entry
+  es = plain (readEntries text noFiles)
+
+  reads : Reads text noFiles words bytes
+  reads = accepted-reads text noFiles words bytes (rw (← e) refl)
+
+  left : outcome (accepted n o) c b
+      ≡ outcome (accepted (0 + length (readEntries text noFiles)) (0 + opensOf (met text noFiles))) (imageContents es words) (imageBodies es bytes)
+  left = e ∙ reads-outcome text noFiles words bytes reads
+
+  contents-are : c ≡ imageContents es words
+  contents-are = ap (λ (x : Outcome). x .contents) left
+
+  bodies-are : b ≡ imageBodies es bytes
+  bodies-are = ap (λ (x : Outcome). x .bodies) left
+
+  long : length (readEntries text noFiles) ≡ length es
+  long = sym (length-map (readEntries text noFiles) (λ (x : Entered). x .entry))
+
+  count : n ≡ length es
+  count =
+      let a : accepted n o ≡ accepted (0 + length (readEntries text noFiles)) (0 + opensOf (met text noFiles)) = ap (λ (x : Outcome). x .answer) left in
+      let m : n ≡ 0 + length (readEntries text noFiles) = cc in
+      omega (arith, long)
+
+  few : length es ≤ mostEntries
+  few = omega (arith, reads .limits .entries-most, long)
+
+  small : length (storeOf es) ≤ bodyBytes
+  small = omega (arith, reads .limits .used-most, used-store (met text noFiles))
+
+  lines-are : rowLines 0 (rowsIn c) b ≡ entryLines 0 es
+  unfolding writtenOver
+  lines-are =
+      ap (λ (x : List ℕ). rowLines 0 (rowsIn x) b) contents-are
+      ∙ ap (λ (x : List ℕ). rowLines 0 (rowsIn (imageContents es words)) x) bodies-are
+      ∙ ap (λ (rs : List Row). rowLines 0 rs (imageBodies es bytes)) (image-rows es words)
+      ∙ lines-of 0 es [] _ (imageBodies es bytes) (append-assoc (storeOf es) _ _)
+
+  key-within : (i : ℕ) → i < countOf c → keyEnd (rowAt c i) ≤ length b
+  key-within i h =
+      let d : Row = record { start = 0; keyLength = 0; valueLength = 0 } in
+      let m : i < length es = omega (arith, h, ap countOf contents-are, image-count es words) in
+      let row : rowAt c i ≡ getD (rowsAt 0 es) i d = sym (row-is c i d h) ∙ ap (λ (x : List ℕ). getD (rowsIn x) i d) contents-are ∙ ap (λ (rs : List Row). getD rs i d) (image-rows es words) in
+      omega (arith, ap keyEnd row, keys-end es 0 i d m, small, ap length bodies-are, written-long bodyBytes bytes (storeOf es) small (omega (arith, length-zeroes bodyBytes)), length-zeroes bodyBytes)
+
+  -- the rows can be listed after the first line
+  pub listable : (out : List ℕ) (at : ℕ) → at ≤ 29 → listBytes ≤ length out → Listable c b out at
+  listable out at h room = record {
+    rows-within = omega (arith, ap countOf contents-are, image-count es words, few, ap length contents-are, written-long contentsWords words (contentsOf es) (contents-fit es few) (omega (arith, length-zeroes contentsWords)), length-zeroes contentsWords);
+    keys-within = key-within;
+    room = omega (arith, ap length lines-are, lines-most 0 es, few, small);
+  }
+
+  is-printed : wordLine (ascii "entries") n ++ rowLines 0 (rowsIn c) b ≡ printed text
+  unfolding printed written
+  is-printed = ap (λ (t : List ℕ). wordLine (ascii "entries") n ++ t) lines-are ∙ rw (← e, count)
+
+  pub accepted-lists : {out o₁ o₂ : List ℕ} {e₁ e₂ : ℕ} → Puts (wordLine (ascii "entries") n) out 0 o₁ e₁ → Puts (rowLines 0 (rowsIn c) b) o₁ e₁ o₂ e₂ → Lists text out o₂ e₂
+  accepted-lists p q = let puts = piece-of is-printed (then-piece p q) in record { puts = puts; counts = piece-counts puts }
+
+refused-printed : (text c b : List ℕ) (k : ℕ) → outcome (refused k) c b ≡ reading text noFiles words bytes → wordLine (ascii "refused") k ≡ printed text
+unfolding printed written
+refused-printed text c b k e = rw (← e)
+
+pub refused-lists : (text : List ℕ) {c b : List ℕ} {k : ℕ} {out o₁ : List ℕ} {e₁ : ℕ} → outcome (refused k) c b ≡ reading text noFiles words bytes
+    → Puts (wordLine (ascii "refused") k) out 0 o₁ e₁ → Lists text out o₁ e₁
+refused-lists text {c} {b} {k} e p = let puts = piece-of (refused-printed text c b k e) p in record { puts = puts; counts = piece-counts puts }

@@ -1,0 +1,13 @@
+-- `marks::no_row` meets its contract. Assumes nothing.
+use mathlib.Core.Path.{refl}
+use Rattle.definition.specs.Lists.{zeroes}
+use Rattle.marks.specs.Rows.{marksOf}
+use Rattle.marks.proofs.no_row.Statement.{statement}
+use Rattle.marks.proofs.no_row.Tie as tie
+
+returns : tie.Need-returns
+unfolding marksOf zeroes
+returns c = refl
+
+pub no-row-spec : {M : Type 1} → statement M
+no-row-spec = tie.close (tie.spec returns)

@@ -1,0 +1,2 @@
+-- What the code's rows of marks stand for.
+pub mod Rows

@@ -1,4 +1,0 @@
--- What the code's structs and bytes stand for.
-pub mod Rows
-pub mod Keys
-pub mod Places

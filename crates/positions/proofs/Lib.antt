@@ -1,0 +1,3 @@
+-- The mathematics behind the proofs of the code.
+pub mod Positions
+pub mod Marking

@@ -1,0 +1,2 @@
+-- What the code's spans and bytes stand for.
+pub mod Spans

@@ -1,0 +1,3 @@
+-- Laws of bytes put into a buffer.
+pub mod Pieces
+pub mod Numbers

@@ -1,0 +1,2 @@
+-- What the contracts of those that print cite.
+pub mod Putting

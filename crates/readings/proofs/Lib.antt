@@ -1,0 +1,2 @@
+-- Laws of the readings.
+pub mod Readings

@@ -1,0 +1,2 @@
+-- Laws of getres's reports.
+pub mod Telling
