@@ -18,7 +18,7 @@ BEGIN {
     for (i in words)
         citing[words[i]] = 1
     # files of examples, which are cited with the line that is meant
-    split("Examples Manual Numbers NameBytes bounds/Bounds list/Examples", words, " ")
+    split("Examples Manual Numbers NameBytes bounds/Bounds bounds/Lookups listing/Examples arguments/Examples", words, " ")
     for (i in words)
         examples[words[i]] = 1
     # what the names of a suite's tests are quoted in
@@ -60,7 +60,7 @@ FILENAME == "-" {
             sub(/\.txt$/, "", steps[n])
             tests[s, steps[n]] = 1
         }
-    if ($0 ~ /^crates\/[a-z_]+$/)
+    if ($0 ~ /^crates\/[a-z0-9_]+$/)
         anywhere[steps[2]] = crate[steps[2]] = 1
     next
 }
@@ -181,7 +181,7 @@ function cited(s,    i, head, rest, n, names) {
             wrong("no such test")
         return 1
     }
-    if (i && head ~ /^([a-z_]+\/)?[A-Z][A-Za-z]*$/) {
+    if (i && head ~ /^([a-z0-9_]+\/)?[A-Z][A-Za-z]*$/) {
         if (rest ~ /^[^ ]+[^ ,] /) {
             n = index(rest, " ")
             in_specs(head, substr(rest, 1, n - 1), substr(rest, n + 1))
@@ -199,7 +199,7 @@ function cited(s,    i, head, rest, n, names) {
                 wrong(names[i] " is not declared there")
         return 1
     }
-    if (s ~ /^[a-z_]+\/[a-z0-9_]+\.edit$/) {
+    if (s ~ /^[a-z0-9_]+\/[a-z0-9_]+\.edit$/) {
         sub(/\//, "/must-fail/", s)
         if (!("crates/" s in exists))
             wrong("no such edit")

@@ -233,7 +233,7 @@ function held(p, type, f,    n, t, i) {
 function import(path, line,    crate, where, n, names, i, pair) {
     if (!sub(/^.*use Rattle·/, "", line))
         return
-    match(line, /^[a-z_]+/)
+    match(line, /^[a-z0-9_]+/)
     crate = substr(line, 1, RLENGTH)
     line = substr(line, RLENGTH + 1)
     sub(/^·[a-z]+/, "", line)
