@@ -34,7 +34,7 @@ BEGIN {
     # words of Rust, C and the documents
     split("u8 u16 usize i64 bool Option Result String Vec FnMut FromStr ZipLongest MatchKind str slice from_str borrow try_borrow " \
         "parse_with_matcher new_from_default new_from_get_property_reply new_from_data_with_base_directory GET_RESOURCE_DATABASE " \
-        "shelf pub use mod none NULL Ok Err std stdout grep diff rustc refl mallinfo2 RESOURCE_MANAGER_SRC", words, " ")
+        "shelf pub use mod none NULL Ok Err std stdout grep diff rustc python3 refl mallinfo2 RESOURCE_MANAGER_SRC", words, " ")
     for (i in words)
         foreign[words[i]] = 1
 }
