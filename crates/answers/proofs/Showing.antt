@@ -22,11 +22,6 @@ use Rattle.lookup.specs.declared.Lookup.{Lookup}
 use Rattle.lookup.specs.declared.Lookup.the-variants.{Found, Nothing, Refused}
 use Rattle.lookup.specs.Replies.{replied}
 use Rattle.lookup.proofs.Looking.{no-image, past, found-inside}
-use Rattle.compare.specs.declared.Compared.the-variants.{Both}
-use Rattle.compare.specs.Comparing.{Left, comparing, leaving}
-use Rattle.compare.proofs.Comparing.{answered-both}
-use Rattle.reader.specs.Said.{said}
-use Rattle.reader.specs.declared.Answer as reader
 use Rattle.reports.specs.Showing.{Shown, value, noValue, refusedBy, shown, Inside}
 use Rattle.answers.specs.Answering.{ofBytes, ofQuery, ofReading, afterReading, LooksUp, answered}
 
@@ -48,7 +43,7 @@ shown-bytes b (Found p n) o e h = ap ofBytes e
 shown-bytes b Nothing o e h = ap ofBytes e
 shown-bytes b (Refused k) o e h = absurd (h k refl)
 
-inside-of : (c b name class : List ℕ) (x : Lookup) → replied x ≡ getBytes c b name class → Inside b x
+pub inside-of : (c b name class : List ℕ) (x : Lookup) → replied x ≡ getBytes c b name class → Inside b x
 inside-of c b name class (Found p n) e = found-inside c b name class p n e
 inside-of c b name class Nothing e = tt
 inside-of c b name class (Refused k) e = tt
@@ -133,14 +128,3 @@ module _ (text archive name class contents bodies c b : List ℕ) where
     contents-left = ap (λ (p : Outcome). p .contents) e;
     bodies-left = ap (λ (p : Outcome). p .bodies) e;
   }
-
--- ---- Two answers
-
--- the call's two lookups lie in what was read
-pub both-inside : (c : Case) (struck s c₁ b₁ c₂ b₂ : List ℕ) (x y : Lookup) (second : reader.Answer) → leaving (Both x y second) s c₁ b₁ c₂ b₂ ≡ comparing c struck
-    → Inside b₁ x × Inside b₂ y
-both-inside c struck s c₁ b₁ c₂ b₂ x y second e =
-    let m = answered-both c struck (leaving (Both x y second) s c₁ b₁ c₂ b₂) (replied x) (replied y) (said second) refl e in (
-      rw (ap (λ (l : Left). l .bodies) (m .made)) (inside-of (withFile c .contents) (withFile c .bodies) (c .name) (c .class) x (m .first-looked)),
-      rw (ap (λ (l : Left). l .bodies′) (m .made)) (inside-of (withoutFile c .contents) (withoutFile c .bodies) (c .name) (c .class) y (m .second-looked)),
-    )

@@ -4,16 +4,15 @@ use mathlib.Core.Option.{Option, some, none}
 use mathlib.Core.Path.{_≡_}
 use Prim.Native.Nat.{ℕ}
 use Rattle.definition.specs.Lists.{zeroes}
-use Rattle.definition.specs.Limits.{archiveBytes, contentsWords, bodyBytes}
+use Rattle.definition.specs.Limits.{contentsWords, bodyBytes}
 use Rattle.definition.specs.Text.{Entry}
 use Rattle.definition.specs.Query.{Query, positions, malformed, pastLimit, queryOf}
 use Rattle.definition.specs.Reading.{Answer, accepted, refused, reading, plain, readEntries}
 use Rattle.definition.specs.Lookup.{Reply, refused as refusedLookup, Place, getBytes, answerOf}
 use Rattle.lookup.specs.declared.Lookup.{Lookup}
 use Rattle.lookup.specs.Replies.{replied}
-use Rattle.compare.specs.Comparing.{Comparison, both, noFile, refusedBy as refusedCall, Left, asked, comparing}
-use Rattle.reports.specs.Showing.{Shown, value, noValue, refusedBy, shownIn}
-use Rattle.reports.specs.Telling.{Told, refused as refusedTold, told, bothTold, notAmong}
+use Rattle.reports.specs.Showing.{Shown, value, noValue, refusedBy}
+use Rattle.reports.specs.Telling.{Told, told}
 
 -- ---- A text read, and the query looked up in it
 
@@ -53,15 +52,3 @@ answered text archive name class contents bodies =
 -- of a main text, an archive, and a query's name and class
 unfoldable pub answerTold : List ℕ → List ℕ → List ℕ → List ℕ → Told
 answerTold text archive name class = told (answered text archive name class (zeroes contentsWords) (zeroes bodyBytes))
-
--- what the comparing call answers and leaves, told of a file's name
-unfoldable pub comparedTold : List ℕ → Left → Comparison → Told
-comparedTold file l (both a b second) = bothTold file (shownIn (l .bodies) a) (shownIn (l .bodies′) b)
-comparedTold file l noFile = notAmong file
-comparedTold file l (refusedCall k) = refusedTold k
-
--- of a main text, an archive, the number of a file on it, the name it was asked for by, and a query's name and class
-unfoldable pub twiceTold : List ℕ → List ℕ → ℕ → List ℕ → List ℕ → List ℕ → Told
-twiceTold text archive number file name class =
-    let l = comparing (asked text archive number name class (zeroes contentsWords) (zeroes bodyBytes) (zeroes contentsWords) (zeroes bodyBytes)) (zeroes archiveBytes) in
-    comparedTold file l (l .answer)

@@ -11,7 +11,7 @@ ghost use Rattle.definition.specs.Limits.{archiveBytes};
 ghost use Rattle.io.specs.Counts.{Counts};
 ghost use Rattle.getres.specs.Loading.{Holds};
 use answers::answer;
-use answers::answer_twice;
+use answers_without::answer_twice;
 use archive_edit::Added;
 use archive_edit::add_file;
 use arguments::Plan;

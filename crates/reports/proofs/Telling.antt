@@ -4,7 +4,6 @@ use mathlib.Core.List.{List, _++_}
 use mathlib.Core.Path.{_≡_, refl, ap, sym, _∙_}
 use Prim.Native.Nat.{ℕ, _+_, _-_, _≤_}
 use native.Mathlib.Omega.{arith}
-use lib.Dec.{eqb}
 use lib.ListN.{length, take, drop, length-append, length-drop}
 use lib.Seq.{slice, length-take-le}
 use Rattle.definition.specs.Lists.{if_then_else_, ascii, same}
@@ -13,7 +12,7 @@ use Rattle.lookup.specs.declared.Lookup.{Lookup}
 use Rattle.lookup.specs.declared.Lookup.the-variants.{Found, Nothing, Refused}
 use Rattle.printing.specs.Putting.{Puts}
 use Rattle.printing.proofs.Pieces.{piece-of, then-piece, piece-counts}
-use Rattle.reports.specs.Refusals.{refusalOf}
+use Rattle.refusals.specs.Refusals.{refusalOf}
 use Rattle.reports.specs.Showing.{Shown, shown, Inside, wordsOf, lineOf, sameShown}
 use Rattle.reports.specs.Telling.{Told, output, refused, told, bothTold, notAmong, Reports}
 use Rattle.reports.specs.declared.Report.{Report}
@@ -105,34 +104,6 @@ unfolding lineOf
 line-most label file bodies x h =
     let w = wordsOf (shown bodies x) in
     omega (arith, words-most bodies x h, length-append (label ++ file ++ ascii ": " ++ w) (ascii "\n"), length-append (label ++ file ++ ascii ": ") w, length-append (label ++ file) (ascii ": "), length-append label file)
-
-pub reason-most : (k : ℕ) → length (refusalOf k) ≤ 60
-unfolding refusalOf
-reason-most k = at (eqb k 1) (eqb k 2) (eqb k 3) (eqb k 4) (eqb k 5) (eqb k 6) (eqb k 7) (eqb k 8) (eqb k 9) (eqb k 10)
-  where
-    at : (a b c d e f g h i j : Bool) → length (
-        if a then ascii "refused 1: the buffers are too short" else
-        if b then ascii "refused 2: the main text has more than 32,768 bytes" else
-        if c then ascii "refused 3: the files are not laid out as an archive" else
-        if d then ascii "refused 4: the includes open files more than 4,096 times" else
-        if e then ascii "refused 5: an entry has more than 16 parts" else
-        if f then ascii "refused 6: there are more than 512 entries" else
-        if g then ascii "refused 7: keys and values have more than 32,768 bytes" else
-        if h then ascii "refused 8: the buffers hold no database" else
-        if i then ascii "refused 9: the name or the class has more than 1,024 bytes" else
-        if j then ascii "refused 10: the name or the class has more than 32 parts" else
-        ascii "refused") ≤ 60
-    at true b c d e f g h i j = omega arith
-    at false true c d e f g h i j = omega arith
-    at false false true d e f g h i j = omega arith
-    at false false false true e f g h i j = omega arith
-    at false false false false true f g h i j = omega arith
-    at false false false false false true g h i j = omega arith
-    at false false false false false false true h i j = omega arith
-    at false false false false false false false true i j = omega arith
-    at false false false false false false false false true j = omega arith
-    at false false false false false false false false false true = omega arith
-    at false false false false false false false false false false = omega arith
 
 -- ---- Two answers compared
 

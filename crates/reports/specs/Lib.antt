@@ -1,4 +1,3 @@
 -- What the contracts of getres's reports cite beside the definition.
-pub mod Refusals
 pub mod Showing
 pub mod Telling

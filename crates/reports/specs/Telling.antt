@@ -7,7 +7,7 @@ use Rattle.definition.specs.Lists.{if_then_else_, ascii}
 use Rattle.definition.specs.Limits.{bodyBytes}
 use Rattle.io.specs.Counts.{Counts}
 use Rattle.printing.specs.Putting.{Puts}
-use Rattle.reports.specs.Refusals.{refusalOf}
+use Rattle.refusals.specs.Refusals.{refusalOf}
 use Rattle.reports.specs.Showing.{Shown, value, noValue, refusedBy, lineOf, sameShown}
 use Rattle.reports.specs.declared.Report.{Report}
 

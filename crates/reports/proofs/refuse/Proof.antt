@@ -1,7 +1,8 @@
 -- `reports::refuse` meets its contract. Assumes nothing.
 use native.Mathlib.Omega.{arith}
 use Rattle.printing.proofs.Pieces.{piece-long}
-use Rattle.reports.proofs.Telling.{reason-most, refused-reports}
+use Rattle.refusals.proofs.Words.{reason-most}
+use Rattle.reports.proofs.Telling.{refused-reports}
 use borrow.Author.Needs.{needs}
 use Rattle.reports.proofs.refuse.Statement.{statement}
 use Rattle.reports.proofs.refuse.Tie as tie

@@ -1,9 +1,9 @@
--- `reports::put_reason` meets its contract. Assumes nothing.
+-- `refusals::put_reason` meets its contract. Assumes nothing.
 use borrow.Author.Tests.{ne-eqb}
-use Rattle.reports.specs.Refusals.{refusalOf}
+use Rattle.refusals.specs.Refusals.{refusalOf}
 use borrow.Author.Needs.{needs}
-use Rattle.reports.proofs.put_reason.Statement.{statement}
-use Rattle.reports.proofs.put_reason.Tie as tie
+use Rattle.refusals.proofs.put_reason.Statement.{statement}
+use Rattle.refusals.proofs.put_reason.Tie as tie
 
 returns : tie.Need-returns
 unfolding refusalOf

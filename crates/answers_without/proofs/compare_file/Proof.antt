@@ -1,11 +1,10 @@
--- `answers::compare_file` meets its contract. Assumes nothing.
+-- `answers_without::compare_file` meets its contract. Assumes nothing.
 use native.Mathlib.Omega.{arith}
 use Rattle.definition.specs.Lists.{zeroes}
-use Rattle.answers.proofs.Showing.{both-inside}
-use Rattle.answers.proofs.Telling.{both-told, none-told, refused-told}
+use Rattle.answers_without.proofs.Twice.{both-inside, both-told, none-told, refused-told}
 use borrow.Author.Needs.{needs}
-use Rattle.answers.proofs.compare_file.Statement.{statement}
-use Rattle.answers.proofs.compare_file.Tie as tie
+use Rattle.answers_without.proofs.compare_file.Statement.{statement}
+use Rattle.answers_without.proofs.compare_file.Tie as tie
 
 abbrev start-of : tie.After-compare-without → tie.Start
 start-of c = c .before .before .before .before .before .before .before .before .before .before .before .before

@@ -1,7 +1,7 @@
--- `answers::answer_twice` meets its contract. Assumes nothing.
+-- `answers_without::answer_twice` meets its contract. Assumes nothing.
 use borrow.Author.Needs.{needs}
-use Rattle.answers.proofs.answer_twice.Statement.{statement}
-use Rattle.answers.proofs.answer_twice.Tie as tie
+use Rattle.answers_without.proofs.answer_twice.Statement.{statement}
+use Rattle.answers_without.proofs.answer_twice.Tie as tie
 
 returns : tie.Need-returns
 returns c = rw (← c .before .before .before .before .number-of .ensures) (c .before .before .compare-file .ensures)

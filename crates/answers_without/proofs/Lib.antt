@@ -1,0 +1,2 @@
+-- Laws of both answers.
+pub mod Twice

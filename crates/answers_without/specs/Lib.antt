@@ -1,0 +1,2 @@
+-- What the contracts of both answers cite beside the definition.
+pub mod Twice

@@ -1,0 +1,2 @@
+-- What the contract of the refusals cites.
+pub mod Refusals
