@@ -1,10 +1,10 @@
 -- The place that a lookup finds is small enough for its code, and what the boundary makes of each answer. Assumes nothing.
-use mathlib.Core.Bool.{Bool}
 use mathlib.Core.List.{List}
 use mathlib.Core.Path.{_≡_, refl, sym, ap, _∙_}
 use Prim.Native.Nat.{ℕ}
 use lib.IntN.{ℤ}
-use Rattle.definition.specs.Reading.{Outcome, outcome}
+use Rattle.definition.specs.Reading.{Outcome, outcome, reading}
+use Rattle.laws.proofs.Reading.{accepted-small}
 use Rattle.definition.specs.Lookup.{Reply, getBytes}
 use Rattle.definition.specs.Value.{Number, getString}
 use Rattle.definition.specs.ThirdTerm.{Case, withFile, withoutFile}
@@ -17,20 +17,23 @@ use Rattle.lookup.specs.declared.Lookup.{Lookup}
 use Rattle.lookup.specs.declared.Lookup.the-variants.{Found, Nothing, Refused}
 use Rattle.lookup.proofs.Looking.{found-placed}
 use Rattle.reader.specs.declared.Answer.{Answer}
+use Rattle.reader.specs.declared.Answer.the-variants.{Accepted, Refused as RefusedReading}
 use Rattle.reader.specs.Said.{said}
-use Rattle.readings.specs.Replies.{truthReplied, valueReplied}
-use Rattle.readings.specs.declared.Truth.{Truth}
+use Rattle.readings.specs.Replies.{valueReplied}
 use Rattle.readings.specs.declared.Value.{Value}
 use Rattle.readings.proofs.Readings.{string-found}
-use Rattle.resource_manager.specs.Boundary.{noneCode, crossed, Small, placeCode, boolCode, taken, compares, compareCode, codeWith, codeWithout, carried, CarriesTerm, Crosses}
+use Rattle.codes.specs.Codes.{noneCode, readCode, Few, placeCode, Small}
+use Rattle.resource_manager.specs.Boundary.{crossed, crossing, taken, compares, compareCode, carried, CarriesTerm, Crosses}
 
 -- ---- Readings and lookups, once the answer is told
 
-pub read-as : (r s : Answer) (c b : List ℕ) (o : Outcome) → outcome (said r) c b ≡ o → r ≡ s → crossed (outcome (said s) c b) ≡ crossed o
-read-as r s c b o e f = rw (← e, f) refl
+module _ (text archive contents bodies c b : List ℕ) where
+  pub read-few : (r : Answer) → outcome (said r) c b ≡ reading text archive contents bodies → Few r
+  read-few (Accepted n o) e = accepted-small text archive contents bodies c b n o e
+  read-few (RefusedReading k) e = tt
 
-pub bool-as : (r s : Truth) (x : Reply Bool) → truthReplied r ≡ x → r ≡ s → boolCode (truthReplied s) ≡ boolCode x
-bool-as r s x e f = rw (← e, f) refl
+pub read-crosses : (r : Answer) (n : ℕ) (c b : List ℕ) (o : Outcome) → outcome (said r) c b ≡ o → n ≡ readCode (said r) → crossing n c b ≡ crossed o
+read-crosses r n c b o e f = rw (← e, f) refl
 
 pub value-as : (lent : ℤ) (r s : Value) (x : Reply Number) → valueReplied r ≡ x → r ≡ s → taken (valueReplied s) lent ≡ taken x lent
 value-as lent r s x e f = rw (← e, f) refl

@@ -1,39 +1,17 @@
--- The answers of the definition as numbers of 64 bits, as the boundary to C gives them.
-use mathlib.Core.Bool.{Bool, true, false}
+-- What the calls for C give and leave, by the codes of their answers.
 use mathlib.Core.List.{List}
 use mathlib.Core.Path.{_≡_}
-use Prim.Native.Nat.{ℕ, _+_, _*_, _≤_}
+use Prim.Native.Nat.{ℕ, _≤_}
 use lib.IntN.{ℤ}
 use lib.ListN.{length}
-use Rattle.definition.specs.Limits.{bodyBytes}
-use Rattle.definition.specs.Reading.{Answer, accepted, refused, Outcome}
-use Rattle.definition.specs.Lookup.{Reply, given, noValue, refused as refusedBy, Place}
+use Rattle.definition.specs.Reading.{Outcome}
+use Rattle.definition.specs.Lookup.{Reply, given, noValue, refused as refusedBy}
 use Rattle.definition.specs.Value.{Number, number, notANumber}
 use Rattle.definition.specs.ThirdTerm.{Case, withFile, withoutFile, lookup, Given, ThirdTerm}
 use Rattle.compare.specs.Comparing.{Comparison, both, noFile, refusedBy as refusedAs, Left, bothRead, comparing}
-use Rattle.lookup.specs.declared.Lookup.{Lookup}
-use Rattle.lookup.specs.Replies.{LiesIn}
-
--- the parts of an answer above its status, from bit 16 on and from bit 32 on
-abbrev pub from16 : ℕ
-from16 = 65536
-
-abbrev pub from32 : ℕ
-from32 = 4294967296
-
--- statuses beside document 01's numbers
-abbrev pub noneCode : ℕ
-noneCode = 65535
-
-abbrev pub notANumberCode : ℕ
-notANumberCode = 65534
+use Rattle.codes.specs.Codes.{noneCode, notANumberCode, readCode, placeCode}
 
 -- ---- Readings
-
--- entries in bits 16 to 31 and opens in bits 32 to 47, or the number of the refusal
-abbrev pub readCode : Answer → ℕ
-readCode (accepted entries opens) = from16 * entries + from32 * opens
-readCode (refused k) = k
 
 -- a call's number and the two buffers afterwards
 pub record Crossing : Type 0 where
@@ -48,23 +26,6 @@ abbrev pub crossed : Outcome → Crossing
 crossed o = crossing (readCode (o .answer)) (o .contents) (o .bodies)
 
 -- ---- Lookups
-
--- the place in bits 16 to 31 and the length from bit 32 on, 65535 for none, or the number of the refusal
-abbrev pub placeCode : Reply Place → ℕ
-placeCode (given p) = from16 * p .start + from32 * p .length
-placeCode noValue = noneCode
-placeCode (refusedBy k) = k
-
--- a place in an image's bodies, so that its code fits
-abbrev pub Small : Lookup → Type 0
-Small found = LiesIn found bodyBytes
-
--- 65536 for true and 0 for false
-abbrev pub boolCode : Reply Bool → ℕ
-boolCode (given true) = from16
-boolCode (given false) = 0
-boolCode noValue = noneCode
-boolCode (refusedBy k) = k
 
 -- a call's number, and the lent number afterwards
 pub record Taking : Type 0 where

@@ -4,25 +4,17 @@ ghost use Rattle.definition.specs.Reading.{reading};
 ghost use Rattle.definition.specs.Lookup.{getBytes};
 ghost use Rattle.definition.specs.Value as definition;
 ghost use Rattle.definition.specs.Value.{getString, getBool, getValue};
-ghost use Rattle.lookup.specs.Replies.{replied};
-ghost use Rattle.resource_manager.specs.Boundary.{crossed, crossing, placeCode, Small, boolCode, taking, taken, compares, Crosses};
+ghost use Rattle.codes.specs.Codes.{placeCode, boolCode};
+ghost use Rattle.resource_manager.specs.Boundary.{crossed, crossing, taking, taken, compares, Crosses};
 ghost use Rattle.compare.specs.Comparing.{asked};
 ghost use Rattle.readings.specs.Showing.{shownAt};
+use codes::NONE;
+use codes::NOT_A_NUMBER;
+use codes::bool_code;
+use codes::place_code;
+use codes::read_code;
 use compare::Compared;
-use lookup::Lookup;
-use reader::Answer;
-use readings::Truth;
 use readings::Value;
-
-// The parts of an answer above its status, from bit 16 on and from bit 32 on.
-const FROM_16: u64 = 65536;
-
-const FROM_32: u64 = 4294967296;
-
-// Statuses beside document 01's numbers.
-const NONE: u64 = 65535;
-
-const NOT_A_NUMBER: u64 = 65534;
 
 // Document 01's reading call. The low 16 bits are 0, or the number of the refusal and that alone; entries stand in bits 16 to 31
 // and opens in bits 32 to 47.
@@ -36,21 +28,7 @@ pub extern "C" fn resource_manager_read(
     ensures { λ r. ⌜ crossing r (now (contents .exit)) (now (bodies .exit)) ≡ crossed (reading (now (text .entry)) (now (shelf .entry)) (now (contents .entry)) (now (bodies .entry))) ⌝ }
 {
     let answer = reader::read(text, shelf, contents, bodies);
-    match answer {
-        Answer::Accepted(entries, opens) => FROM_16 * (entries as u64) + FROM_32 * (opens as u64),
-        Answer::Refused(number) => number as u64,
-    }
-}
-
-fn place_code(found: Lookup) -> u64
-    requires { ⌜ Small found ⌝ }
-    ensures { λ r. ⌜ r ≡ placeCode (replied found) ⌝ }
-{
-    match found {
-        Lookup::Found(place, size) => FROM_16 * (place as u64) + FROM_32 * (size as u64),
-        Lookup::Nothing => NONE,
-        Lookup::Refused(number) => number as u64,
-    }
+    read_code(answer)
 }
 
 // The value of a query: its place in the bodies in bits 16 to 31 and its length from bit 32 on; 65535 for none; or the refusal.
@@ -110,16 +88,7 @@ pub extern "C" fn resource_manager_get_bool(
     ensures { λ r. ⌜ r ≡ boolCode (getBool (now (contents .entry)) (now (bodies .entry)) (now (name .entry)) (now (class .entry))) ⌝ }
 {
     let truth = readings::get_bool(contents, bodies, name, class);
-    match truth {
-        Truth::Is(value) => {
-            if value {
-                return FROM_16;
-            }
-            0
-        }
-        Truth::Nothing => NONE,
-        Truth::Refused(number) => number as u64,
-    }
+    bool_code(truth)
 }
 
 // 0 with the number in `out`; 65534 if the value is not a number, 65535 for none, or the refusal, with `out` as it was.

@@ -1,5 +1,5 @@
 -- `resource_manager::resource_manager_compare_without` meets its contract. Assumes nothing.
-use Rattle.resource_manager.specs.Boundary.{Small}
+use Rattle.codes.specs.Codes.{Small}
 use Rattle.resource_manager.proofs.Fitting.{both-small, crosses-both, crosses-none, crosses-refused}
 use borrow.Author.Needs.{needs}
 use Rattle.resource_manager.proofs.resource_manager_compare_without.Statement.{statement}

@@ -1,6 +1,6 @@
 -- `resource_manager::resource_manager_get_bytes` meets its contract. Assumes nothing.
 use mathlib.Core.Path.{ap, _∙_}
-use Rattle.resource_manager.specs.Boundary.{placeCode}
+use Rattle.codes.specs.Codes.{placeCode}
 use Rattle.resource_manager.proofs.Fitting.{bytes-small}
 use borrow.Author.Needs.{needs}
 use Rattle.resource_manager.proofs.resource_manager_get_bytes.Statement.{statement}

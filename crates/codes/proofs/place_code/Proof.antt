@@ -1,11 +1,11 @@
--- `resource_manager::place_code` meets its contract. Assumes nothing.
+-- `codes::place_code` meets its contract. Assumes nothing.
 use mathlib.Core.Path.{refl}
 use Prim.Native.Nat.{_+_, _≤_}
 use native.Mathlib.Omega.{arith}
 use Rattle.definition.specs.Limits.{bodyBytes}
 use borrow.Author.Needs.{needs}
-use Rattle.resource_manager.proofs.place_code.Statement.{statement}
-use Rattle.resource_manager.proofs.place_code.Tie as tie
+use Rattle.codes.proofs.place_code.Statement.{statement}
+use Rattle.codes.proofs.place_code.Tie as tie
 
 small : (c : tie.After-found) → c .found .given .0 .0 + c .found .given .0 .1 .0 ≤ bodyBytes
 small c = rw (c .found .given .1) at (c .before .before .pre)

@@ -1,0 +1,55 @@
+-- Answers as numbers of 64 bits: a status in the low 16 bits, 0 or document 01's number or one of two more, and what goes with 0 above it.
+use mathlib.Core.Bool.{Bool, true, false}
+use Prim.Native.Nat.{ℕ, _+_, _*_, _≤_}
+use Rattle.definition.specs.Limits.{bodyBytes, mostEntries, mostOpens}
+use Rattle.definition.specs.Reading.{Answer, accepted, refused}
+use Rattle.definition.specs.Lookup.{Reply, given, noValue, refused as refusedBy, Place}
+use Rattle.lookup.specs.declared.Lookup.{Lookup}
+use Rattle.lookup.specs.Replies.{LiesIn}
+use Rattle.reader.specs.declared.Answer as reader
+use Rattle.reader.specs.declared.Answer.the-variants as reader-answer
+
+-- the parts of an answer above its status, from bit 16 on and from bit 32 on
+abbrev pub from16 : ℕ
+from16 = 65536
+
+abbrev pub from32 : ℕ
+from32 = 4294967296
+
+-- statuses beside document 01's numbers
+abbrev pub noneCode : ℕ
+noneCode = 65535
+
+abbrev pub notANumberCode : ℕ
+notANumberCode = 65534
+
+-- ---- Readings
+
+-- entries in bits 16 to 31 and opens in bits 32 to 47, or the number of the refusal
+abbrev pub readCode : Answer → ℕ
+readCode (accepted entries opens) = from16 * entries + from32 * opens
+readCode (refused k) = k
+
+-- within the limits of an accepted reading, so that its code fits
+abbrev pub Few : reader.Answer → Type 0
+Few (reader-answer.Accepted entries opens) = (entries ≤ mostEntries) × (opens ≤ mostOpens)
+Few (reader-answer.Refused k) = Unit {0}
+
+-- ---- Lookups
+
+-- the place in bits 16 to 31 and the length from bit 32 on, 65535 for none, or the number of the refusal
+abbrev pub placeCode : Reply Place → ℕ
+placeCode (given p) = from16 * p .start + from32 * p .length
+placeCode noValue = noneCode
+placeCode (refusedBy k) = k
+
+-- a place in an image's bodies, so that its code fits
+abbrev pub Small : Lookup → Type 0
+Small found = LiesIn found bodyBytes
+
+-- 65536 for true and 0 for false
+abbrev pub boolCode : Reply Bool → ℕ
+boolCode (given true) = from16
+boolCode (given false) = 0
+boolCode noValue = noneCode
+boolCode (refusedBy k) = k

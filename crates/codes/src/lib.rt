@@ -1,0 +1,58 @@
+// Answers as numbers of 64 bits, as the boundary to C gives them.
+ghost use mathlib.Core.Path.{_≡_};
+ghost use Rattle.lookup.specs.Replies.{replied};
+ghost use Rattle.reader.specs.Said.{said};
+ghost use Rattle.readings.specs.Replies.{truthReplied};
+ghost use Rattle.codes.specs.Codes.{readCode, Few, placeCode, Small, boolCode};
+use lookup::Lookup;
+use reader::Answer;
+use readings::Truth;
+
+// The parts of an answer above its status, from bit 16 on and from bit 32 on.
+pub const FROM_16: u64 = 65536;
+
+pub const FROM_32: u64 = 4294967296;
+
+// Statuses beside document 01's numbers.
+pub const NONE: u64 = 65535;
+
+pub const NOT_A_NUMBER: u64 = 65534;
+
+// Entries in bits 16 to 31 and opens in bits 32 to 47, or the number of the refusal.
+pub fn read_code(answer: Answer) -> u64
+    requires { ⌜ Few answer ⌝ }
+    ensures { λ r. ⌜ r ≡ readCode (said answer) ⌝ }
+{
+    match answer {
+        Answer::Accepted(entries, opens) => FROM_16 * (entries as u64) + FROM_32 * (opens as u64),
+        Answer::Refused(number) => number as u64,
+    }
+}
+
+// The place in bits 16 to 31 and the length from bit 32 on; or none, or the number of the refusal.
+pub fn place_code(found: Lookup) -> u64
+    requires { ⌜ Small found ⌝ }
+    ensures { λ r. ⌜ r ≡ placeCode (replied found) ⌝ }
+{
+    match found {
+        Lookup::Found(place, size) => FROM_16 * (place as u64) + FROM_32 * (size as u64),
+        Lookup::Nothing => NONE,
+        Lookup::Refused(number) => number as u64,
+    }
+}
+
+// True is above the status, and false is 0.
+pub fn bool_code(truth: Truth) -> u64
+    ensures { λ r. ⌜ r ≡ boolCode (truthReplied truth) ⌝ }
+{
+    match truth {
+        Truth::Is(value) => {
+            if value {
+                return FROM_16;
+            }
+            0
+        }
+        Truth::Nothing => NONE,
+        Truth::Refused(number) => number as u64,
+    }
+}
