@@ -5,4 +5,3 @@ pub mod Runs
 pub mod Suffixes
 pub mod Beginnings
 pub mod Includes
-pub mod Copies

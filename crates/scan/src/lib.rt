@@ -174,12 +174,3 @@ pub fn copy_in(source: &[u8], store: &mut [u8], at: usize)
         i += 1;
     }
 }
-
-// Puts `bytes` at `at`, and answers the place after them.
-pub fn put(bytes: &[u8], out: &mut [u8], at: usize) -> usize
-    requires { ⌜ at + length (now bytes) ≤ length (now out) ⌝ }
-    ensures { λ r. ⌜ (r ≡ at + length (now (bytes .entry))) × (now (out .exit) ≡ paste (now (out .entry)) at (now (bytes .entry)) (length (now (bytes .entry)))) ⌝ }
-{
-    copy_in(bytes, out, at);
-    at + bytes.len()
-}
