@@ -16,9 +16,8 @@ use Rattle.laws.proofs.Parsing.{many-stop}
 use Rattle.laws.proofs.Keys.{piece-shrinks}
 use Rattle.values.specs.declared.Stored.{Stored}
 use Rattle.values.specs.declared.Stored.the-variants.{Done, Full}
-use Rattle.values.specs.Pieces.{Yields}
 use Rattle.values.specs.Decoded.{decodedAt, restAt, storedAt, Decoded}
-use Rattle.values.proofs.Escapes.{piece-plain}
+use Rattle.values.proofs.Pieces.{Yields, piece-plain}
 
 -- ---- The piece at i of a text
 

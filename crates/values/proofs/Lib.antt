@@ -1,5 +1,5 @@
 -- Laws of values.
 pub mod Skipping
-mod Escapes
+mod Pieces
 mod Decoding
 pub mod Values

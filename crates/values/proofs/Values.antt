@@ -16,10 +16,11 @@ use Rattle.definition.specs.Text.{lineEnds, octalOf, escapeAt, pieceAt}
 use Rattle.laws.proofs.Lists.{Suffix, suffix-whole, suffix-drop}
 use Rattle.laws.proofs.Keys.{if-either}
 use Rattle.scan.proofs.Suffixes.{LeavesRest, suffix-cons, many-suffix}
+use Rattle.escapes.specs.Pieces.{digits}
+use Rattle.escapes.proofs.Escapes.{digits-inside}
 use Rattle.values.specs.declared.Stored.{Stored}
 use Rattle.values.specs.declared.Stored.the-variants.{Done, Full}
 use Rattle.values.specs.Decoded.{decodedAt, restAt, storedAt, Decoded}
-use Rattle.values.proofs.Escapes.{digits, digits-inside}
 
 -- ---- The text after a value is the text from some place on
 

@@ -1,3 +1,2 @@
 -- What the contracts of values cite.
 pub mod Decoded
-pub mod Pieces

@@ -4,7 +4,7 @@ use Prim.Native.Nat.{ℕ, _-_}
 use native.Mathlib.Omega.{arith}
 use lib.ListN.{length, getD, drop}
 use borrow.Author.Needs.{needs}
-use Rattle.values.specs.Pieces.{Yields, IsPiece}
+use Rattle.values.proofs.Pieces.{Yields, IsPiece, answer-piece}
 use Rattle.values.proofs.Decoding.{over, ended, plain, escaped, Decoding, decoding-first, decoded, piece-fits, byte-more, full, drop-more}
 use Rattle.values.proofs.parse_value.Statement.{statement}
 use Rattle.values.proofs.parse_value.Tie as tie
@@ -30,7 +30,7 @@ plain-in c = plain _ _ (c .before .before .before .loop-test .taken) (c .before 
 piece-in : (c : tie.After-parse-escape Inv-loop μ-loop) → IsPiece (left (turn (c .before .before .before))) (c .parse-escape .result)
 piece-in c =
     let if2-here = c .before .before in
-    rw (escaped _ _ (if2-here .before .before .before .loop-test .taken) (if2-here .if2 .left)) at (c .parse-escape .ensures)
+    rw (escaped _ _ (if2-here .before .before .before .loop-test .taken) (if2-here .if2 .left)) at (answer-piece _ (c .parse-escape .ensures))
 
 byte-in : (c : tie.After-known-told Inv-loop μ-loop)
     → Yields (left (turn (c .before .before .before .before .before .before))) (c .before .piece .given .0 .0 ∷ []) (c .before .piece .given .0 .1 .0)

@@ -1,4 +1,4 @@
--- `values::octal_digits` meets its contract. Assumes nothing.
+-- `escapes::octal_digits` meets its contract. Assumes nothing.
 use mathlib.Core.Path.{sym, _∙_}
 use Prim.Native.Nat.{_-_, _≤_}
 use native.Mathlib.Omega.{arith}
@@ -7,9 +7,9 @@ use borrow.Author.Tests.{ltb-true, ltb-false}
 use borrow.Author.Needs.{needs}
 use Rattle.definition.specs.Bytes.{isOctal}
 use Rattle.scan.proofs.Runs.{Passed, passed-none}
-use Rattle.values.proofs.Escapes.{digits-short, digits-stop, digits-more, digits-end}
-use Rattle.values.proofs.octal_digits.Statement.{statement}
-use Rattle.values.proofs.octal_digits.Tie as tie
+use Rattle.escapes.proofs.Escapes.{digits-short, digits-stop, digits-more, digits-end}
+use Rattle.escapes.proofs.octal_digits.Statement.{statement}
+use Rattle.escapes.proofs.octal_digits.Tie as tie
 
 abbrev Inv-loop : tie.InvT-loop
 Inv-loop text n₀ n = (n ≤ 3) × Passed isOctal (take 3 text) n

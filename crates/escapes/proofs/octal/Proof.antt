@@ -1,10 +1,10 @@
--- `values::octal` meets its contract. No sum wraps but those of `times_eight`. Assumes nothing.
+-- `escapes::octal` meets its contract. No sum wraps but those of `times_eight`. Assumes nothing.
 use Prim.Native.Nat.{_-_, _≤_}
 use native.Mathlib.Omega.{arith}
 use borrow.Author.Needs.{needs}
-use Rattle.values.proofs.Escapes.{octal-range, room-for-digit, octal-number}
-use Rattle.values.proofs.octal.Statement.{statement}
-use Rattle.values.proofs.octal.Tie as tie
+use Rattle.escapes.proofs.Escapes.{octal-range, room-for-digit, octal-number}
+use Rattle.escapes.proofs.octal.Statement.{statement}
+use Rattle.escapes.proofs.octal.Tie as tie
 
 add-result : tie.Need-add-result
 add-result c =

@@ -1,26 +1,22 @@
--- Octal digits, escapes and pieces, as the code tells them apart. Assumes nothing.
+-- Octal digits and escapes, as the code tells them apart. Assumes nothing.
 use mathlib.Core.Bool.{Bool, true, false, _||_}
 use mathlib.Core.Logic.{_⊎_, inl, inr, ⊎-elim}
-use mathlib.Core.List.{List, [], _∷_, _++_, flatten}
-use mathlib.Core.Path.{_≡_, refl, sym, ap, _∙_}
+use mathlib.Core.List.{List, [], _∷_}
+use mathlib.Core.Path.{_≡_, refl, sym, _∙_}
 use Prim.Native.Nat.{ℕ, suc, _+_, _-_, _*_, _%_, _≤_, _<_}
 use native.Mathlib.Nat.{zero-add, add-mod, mod-add-mod, mod-eq-of-lt}
-use native.Mathlib.Numerals.{one-add}
 use native.Mathlib.Omega.{arith}
 use lib.Dec.{eqb, leb}
-use lib.ListN.{length, take, drop, getD, length-take, length-drop, drop-of-length-le, take-append-drop}
+use lib.ListN.{length, take, drop, getD, length-take, drop-of-length-le}
 use lib.Seq.{getD-take, take-take, drop-cons}
 use borrow.Author.Tests.{eq-eqb, ne-eqb, leb-true}
 use Rattle.definition.specs.Lists.{all, takeWhile}
-use Rattle.definition.specs.Parsing.{found, Parsed}
 use Rattle.definition.specs.Bytes.{tab, space, newline, backslash, letter-n, isBlank, isOctal}
-use Rattle.definition.specs.Text.{positional, lineEnds, octalOf, escapeAt, pieceAt}
-use Rattle.laws.proofs.Lists.{and-true, all-takeWhile, part-rest, take-run, length-takeWhile-le}
+use Rattle.definition.specs.Text.{positional, lineEnds}
+use Rattle.laws.proofs.Lists.{and-true, all-takeWhile, take-run, length-takeWhile-le}
 use Rattle.scan.proofs.Runs.{Passed, passed-more, passed-stop, passed-end}
-use Rattle.laws.proofs.Parsing.{many-more}
-use Rattle.laws.proofs.Keys.{piece-shrinks}
-use Rattle.values.specs.Decoded.{decodedAt, restAt}
-use Rattle.values.specs.Pieces.{Yields}
+use Rattle.escapes.specs.declared.Piece.the-variants.{Byte, Drop}
+use Rattle.escapes.specs.Pieces.{digits, octalIn, escapeIn}
 
 -- ---- Eight times a byte, and a number of three digits
 
@@ -57,9 +53,6 @@ octal-number a b c x y ha hb hc e f =
 
 -- ---- Octal digits at the front of a text
 
-abbrev pub digits : List ℕ → List ℕ
-digits t = takeWhile isOctal (take 3 t)
-
 -- n of them are passed
 module _ (t : List ℕ) {n : ℕ} (d : Passed isOctal (take 3 t) n) where
   pub digits-end : 3 ≤ n → n ≡ length (digits t)
@@ -85,7 +78,7 @@ module _ (t : List ℕ) where
   pub digits-inside : length (digits t) ≤ length t
   digits-inside = omega (arith, length-takeWhile-le isOctal (take 3 t), length-take 3 t)
 
-  digits-take : digits t ≡ take (length (digits t)) t
+  pub digits-take : digits t ≡ take (length (digits t)) t
   digits-take = sym (take-run isOctal (take 3 t)) ∙ take-take (length (digits t)) 3 t digits-few
 
 pub three-digits : (t : List ℕ) (n : ℕ) → n ≡ length (digits t) → n ≡ 3 → digits t ≡ getD t 0 0 ∷ getD t 1 0 ∷ getD t 2 0 ∷ []
@@ -104,45 +97,11 @@ three-octal t n e f =
     let r = and-true (isOctal (getD t 2 0)) _ (q .1) in
     (p .0, q .0, r .0)
 
--- ---- Pieces
-
--- a piece of the definition
-piece-yields : (t ys : List ℕ) (n : ℕ) → pieceAt t ≡ found ys (drop n t) → n ≤ length t → Yields t ys n
-unfolding flatten
-piece-yields t ys n e h =
-    let m = many-more pieceAt piece-shrinks t ys (drop n t) e in
-    record {
-      value = ap (λ (r : Parsed (List ℕ)). flatten (r .items)) m;
-      rest = ap (λ (r : Parsed (List ℕ)). r .rest) m;
-      some = omega (arith, length-drop n t, piece-shrinks t ys (drop n t) e);
-      inside = h;
-    }
-
-pub piece-plain : (t : List ℕ) → 0 < length t → (getD t 0 0 ≡ newline → ⊥) → (getD t 0 0 ≡ backslash → ⊥) → Yields t (getD t 0 0 ∷ []) 1
-unfolding pieceAt
-piece-plain [] h e f = absurd (omega arith)
-piece-plain (c ∷ t) h e f = piece-yields (c ∷ t) (c ∷ []) 1 (rw (ne-eqb c newline e, ne-eqb c backslash f) refl) h
-
--- octal digits are plain
-digits-plain : (ds u : List ℕ) → all isOctal ds ≡ true → (decodedAt (ds ++ u) ≡ ds ++ decodedAt u) × (restAt (ds ++ u) ≡ restAt u)
-unfolding all
-digits-plain [] u h = (refl, refl)
-digits-plain (d ∷ ds) u h =
-    let a = and-true (isOctal d) (all isOctal ds) h in
-    let r = octal-range d (a .0) in
-    let g = piece-plain (d ∷ ds ++ u) (omega arith) (λ e. omega arith) (λ e. omega arith) in
-    let ih = digits-plain ds u (a .1) in
-    (g .value ∙ ap (λ (l : List ℕ). d ∷ l) (ih .0), g .rest ∙ ih .1)
-
 -- ---- Escapes: t follows the backslash
 
-escape-yields : (t ys : List ℕ) (n : ℕ) → escapeAt t ≡ found ys (drop n t) → n ≤ length t → Yields (backslash ∷ t) ys (1 + n)
-unfolding pieceAt
-escape-yields t ys n e h = rw one-add (piece-yields (backslash ∷ t) ys (suc n) e (omega arith))
-
-pub escape-end : (t : List ℕ) → length t ≡ 0 → Yields (backslash ∷ t) (backslash ∷ []) 1
-unfolding escapeAt
-escape-end [] h = escape-yields [] (backslash ∷ []) 0 refl (omega arith)
+pub escape-end : (t : List ℕ) → length t ≡ 0 → Byte backslash 1 ≡ escapeIn t
+unfolding escapeIn
+escape-end [] h = refl
 escape-end (c ∷ t) h = absurd (omega arith)
 
 -- what a backslash keeps from being special
@@ -160,39 +119,38 @@ unfolding isBlank
 not-escaped-test c h =
     rw (ne-eqb c space (λ e. h (inr (inl e))), ne-eqb c tab (λ e. h (inl e)), ne-eqb c backslash (λ e. h (inr (inr e)))) refl
 
-pub escape-itself : (t : List ℕ) → 0 < length t → Escaped (getD t 0 0) → Yields (backslash ∷ t) (getD t 0 0 ∷ []) 2
-unfolding escapeAt
+pub escape-itself : (t : List ℕ) → 0 < length t → Escaped (getD t 0 0) → Byte (getD t 0 0) 2 ≡ escapeIn t
+unfolding escapeIn
 escape-itself [] h e = absurd (omega arith)
-escape-itself (c ∷ t) h e = escape-yields (c ∷ t) (c ∷ []) 1 (rw (escaped-test c e) refl) h
+escape-itself (c ∷ t) h e = rw (escaped-test c e) refl
 
-pub escape-newline : (t : List ℕ) → 0 < length t → getD t 0 0 ≡ letter-n → Yields (backslash ∷ t) (newline ∷ []) 2
-unfolding escapeAt isBlank
+pub escape-newline : (t : List ℕ) → 0 < length t → getD t 0 0 ≡ letter-n → Byte newline 2 ≡ escapeIn t
+unfolding escapeIn isBlank
 escape-newline [] h e = absurd (omega arith)
-escape-newline (c ∷ t) h e = escape-yields (c ∷ t) (newline ∷ []) 1 (rw e refl) h
+escape-newline (c ∷ t) h e = rw e refl
 
-pub escape-joined : (t : List ℕ) → 0 < length t → getD t 0 0 ≡ newline → Yields (backslash ∷ t) [] 2
-unfolding escapeAt isBlank
+pub escape-joined : (t : List ℕ) → 0 < length t → getD t 0 0 ≡ newline → Drop 2 ≡ escapeIn t
+unfolding escapeIn isBlank
 escape-joined [] h e = absurd (omega arith)
-escape-joined (c ∷ t) h e = escape-yields (c ∷ t) [] 1 (rw e refl) h
+escape-joined (c ∷ t) h e = rw e refl
 
 pub escape-other : (t : List ℕ) (n : ℕ) → 0 < length t → (Escaped (getD t 0 0) → ⊥) → (getD t 0 0 ≡ letter-n → ⊥)
-    → (getD t 0 0 ≡ newline → ⊥) → n ≡ length (digits t) → n ≡ 0 → Yields (backslash ∷ t) (backslash ∷ []) 1
-unfolding escapeAt takeWhile
+    → (getD t 0 0 ≡ newline → ⊥) → n ≡ length (digits t) → n ≡ 0 → Byte backslash 1 ≡ escapeIn t
+unfolding escapeIn takeWhile
 escape-other [] n h e f g d z = absurd (omega arith)
 escape-other (c ∷ t) n h e f g d z = at (isOctal c) refl
   where
-    at : (o : Bool) → isOctal c ≡ o → Yields (backslash ∷ c ∷ t) (backslash ∷ []) 1
+    at : (o : Bool) → isOctal c ≡ o → Byte backslash 1 ≡ escapeIn (c ∷ t)
     at true k = absurd (let m : n ≡ suc (length (takeWhile isOctal (take 2 t))) = d ∙ rw k refl in omega arith)
-    at false k =
-        escape-yields (c ∷ t) (backslash ∷ []) 0 (rw (not-escaped-test c e, ne-eqb c letter-n f, ne-eqb c newline g, k) refl) (omega arith)
+    at false k = rw (not-escaped-test c e, ne-eqb c letter-n f, ne-eqb c newline g, k) refl
 
--- one digit or more: it is what octalOf says
-escape-octals : (t : List ℕ) (n : ℕ) → n ≡ length (digits t) → (n ≡ 0 → ⊥) → escapeAt t ≡ octalOf (digits t) (drop n t)
-unfolding escapeAt takeWhile
+-- one digit or more: it is what octalIn says
+escape-octals : (t : List ℕ) (n : ℕ) → n ≡ length (digits t) → (n ≡ 0 → ⊥) → escapeIn t ≡ octalIn (digits t) (drop n t)
+unfolding escapeIn takeWhile
 escape-octals [] n e h = absurd (h e)
 escape-octals (c ∷ t) n e h = at (isOctal c) refl
   where
-    at : (o : Bool) → isOctal c ≡ o → escapeAt (c ∷ t) ≡ octalOf (digits (c ∷ t)) (drop n (c ∷ t))
+    at : (o : Bool) → isOctal c ≡ o → escapeIn (c ∷ t) ≡ octalIn (digits (c ∷ t)) (drop n (c ∷ t))
     at true k =
         let r = octal-range c k in
         let x : Escaped c → ⊥ = ⊎-elim (λ e. omega arith) (⊎-elim (λ e. omega arith) (λ e. omega arith)) in
@@ -200,31 +158,19 @@ escape-octals (c ∷ t) n e h = at (isOctal c) refl
     at false k = absurd (h (e ∙ rw k refl))
 
 module _ (t : List ℕ) (n : ℕ) (e : n ≡ length (digits t)) where
-  pub escape-octal : (b : ℕ) → n ≡ 3 → b ≡ positional 8 0 (getD t 0 0 ∷ getD t 1 0 ∷ getD t 2 0 ∷ []) % 256 → Yields (backslash ∷ t) (b ∷ []) 4
-  unfolding octalOf
-  escape-octal b f g =
-      escape-yields t (b ∷ []) 3 (rw (escape-octals t n e (omega arith), three-digits t n e f, f, g) refl) (omega (arith, digits-inside t))
+  pub escape-octal : (b : ℕ) → n ≡ 3 → b ≡ positional 8 0 (getD t 0 0 ∷ getD t 1 0 ∷ getD t 2 0 ∷ []) % 256 → Byte b 4 ≡ escapeIn t
+  unfolding octalIn
+  escape-octal b f g = rw (escape-octals t n e (omega arith), three-digits t n e f, g) refl
 
   module _ (h : n ≡ 0 → ⊥) (k : n ≡ 3 → ⊥) where
-    pub escape-dropped : lineEnds (drop n t) ≡ true → Yields (backslash ∷ t) [] (1 + n)
-    unfolding octalOf
-    escape-dropped l =
-        escape-yields t [] n (rw (escape-octals t n e h, ← e, ne-eqb n 3 k, l) refl) (omega (arith, digits-inside t))
+    pub escape-dropped : lineEnds (drop n t) ≡ true → Drop (1 + n) ≡ escapeIn t
+    unfolding octalIn
+    escape-dropped l = rw (escape-octals t n e h, ← e, ne-eqb n 3 k, l) refl
 
     -- the backslash stands for itself, and so do the digits
-    pub escape-kept : lineEnds (drop n t) ≡ false → Yields (backslash ∷ t) (backslash ∷ []) 1
-    unfolding octalOf
-    escape-kept l =
-        let g =
-        escape-yields t (backslash ∷ digits t) n (rw (escape-octals t n e h, ← e, ne-eqb n 3 k, l) refl) (omega (arith, digits-inside t)) in
-        let p = digits-plain (digits t) (drop n t) (all-takeWhile isOctal (take 3 t)) in
-        let s : digits t ++ drop n t ≡ t = rw (digits-take t, ← e) (take-append-drop n t) in
-        record {
-          value = rw one-add at (g .value) ∙ ap (λ (l : List ℕ). backslash ∷ l) (sym (rw s at (p .0)));
-          rest = rw one-add at (g .rest) ∙ sym (rw s at (p .1));
-          some = omega arith;
-          inside = omega arith;
-        }
+    pub escape-kept : lineEnds (drop n t) ≡ false → Byte backslash 1 ≡ escapeIn t
+    unfolding octalIn
+    escape-kept l = rw (escape-octals t n e h, ← e, ne-eqb n 3 k, l) refl
 
 -- ---- A line's end
 

@@ -1,8 +1,8 @@
--- `values::times_eight` meets its contract. Assumes nothing.
+-- `escapes::times_eight` meets its contract. Assumes nothing.
 use borrow.Author.Needs.{needs}
-use Rattle.values.proofs.Escapes.{eight-times}
-use Rattle.values.proofs.times_eight.Statement.{statement}
-use Rattle.values.proofs.times_eight.Tie as tie
+use Rattle.escapes.proofs.Escapes.{eight-times}
+use Rattle.escapes.proofs.times_eight.Statement.{statement}
+use Rattle.escapes.proofs.times_eight.Tie as tie
 
 returns : tie.Need-returns
 returns c =

@@ -1,4 +1,4 @@
--- `values::parse_escape` meets its contract: each way out is one law of escapes. Assumes nothing.
+-- `escapes::parse_escape` meets its contract: each way out is one law of escapes. Assumes nothing.
 use mathlib.Core.Logic.{⊎-elim}
 use mathlib.Core.List.{List}
 use Prim.Native.Nat.{ℕ, _≤_}
@@ -6,7 +6,7 @@ use native.Mathlib.Omega.{arith}
 use lib.ListN.{length}
 use borrow.Author.Tests.{eqb-true, eqb-false}
 use borrow.Author.Needs.{needs}
-use Rattle.values.proofs.Escapes.{
+use Rattle.escapes.proofs.Escapes.{
   escape-end,
   escape-itself,
   escape-newline,
@@ -22,8 +22,8 @@ use Rattle.values.proofs.Escapes.{
   line-newline,
   line-goes-on,
 }
-use Rattle.values.proofs.parse_escape.Statement.{statement}
-use Rattle.values.proofs.parse_escape.Tie as tie
+use Rattle.escapes.proofs.parse_escape.Statement.{statement}
+use Rattle.escapes.proofs.parse_escape.Tie as tie
 
 -- the text, where its digits are counted
 abbrev text : tie.After-octal-digits → List ℕ

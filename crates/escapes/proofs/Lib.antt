@@ -1,0 +1,2 @@
+-- Laws of escapes.
+pub mod Escapes

@@ -1,0 +1,2 @@
+-- What the contracts of escapes cite.
+pub mod Pieces
