@@ -13,7 +13,7 @@ use Rattle.laws.proofs.Archive.{laidOut-says, length-struck}
 use Rattle.archive.specs.declared.Member.{Member}
 use Rattle.archive.specs.Walk.{lengthsAt, nameStart, memberAt}
 use Rattle.archive.proofs.Walk.{length-files, bodies-append, part-size, Walking, walking-next}
-use Rattle.archive_edit.proofs.Stretches.{lengths-append, stretch-sizes, stretch-lengths, stretch-middle, stretch-last, starts-low, start-next, written-first, written-on, written-all}
+use Rattle.archive_write.proofs.Stretches.{lengths-append, stretch-sizes, stretch-lengths, stretch-middle, stretch-last, starts-low, start-next, written-first, written-on, written-all}
 
 -- the walk has come to file i
 pub walked-to : {s : List ℕ} {count at j i : ℕ} {m : Member} → Walking s count at j → j ≡ i → i < length (filesOf s) → m ≡ memberAt s i at

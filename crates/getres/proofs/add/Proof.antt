@@ -3,8 +3,8 @@ use mathlib.Core.Path.{sym}
 use native.Mathlib.Omega.{arith}
 use lib.ListN.{take}
 use lib.Seq.{length-take-le}
-use Rattle.archive_edit.specs.Adding.{fileOf}
-use Rattle.archive_edit.proofs.Adding.{added-holds}
+use Rattle.archive_add.specs.Adding.{fileOf}
+use Rattle.archive_add.proofs.Adding.{added-holds}
 use Rattle.getres.proofs.Loading.{put-holds}
 use borrow.Author.Needs.{needs}
 use Rattle.getres.proofs.add.Statement.{statement}

@@ -7,7 +7,7 @@ use Rattle.definition.specs.Limits.{archiveBytes}
 use Rattle.definition.specs.Evaluation.{noFiles}
 use Rattle.getres.specs.Loading.{Holds}
 use Rattle.getres.proofs.Loading.{put-holds}
-use Rattle.archive_edit.proofs.Adding.{none-laid}
+use Rattle.archive_add.proofs.Adding.{none-laid}
 use borrow.Author.Needs.{needs}
 use Rattle.getres.proofs.load_files.Statement.{statement}
 use Rattle.getres.proofs.load_files.Tie as tie

@@ -1,14 +1,15 @@
--- `archive_edit::add_file` meets its contract. Assumes nothing.
+-- `archive_add::add_file` meets its contract. Assumes nothing.
 use mathlib.Core.Path.{sym, _∙_}
 use native.Mathlib.Omega.{arith}
 use borrow.Author.Tests.{not-true, not-false}
 use borrow.Author.Needs.{needs}
 use Rattle.archive.proofs.Walk.{length-files, rows-room}
 use Rattle.laws.proofs.Archive.{laidOut-says}
-use Rattle.archive_edit.specs.Adding.{fileOf}
-use Rattle.archive_edit.proofs.Adding.{slot-taken, name-short, length-with, adding-name, adding-again, adding-many, adding-large, adding-short, adding-laid}
-use Rattle.archive_edit.proofs.add_file.Statement.{statement}
-use Rattle.archive_edit.proofs.add_file.Tie as tie
+use Rattle.archive_slot.proofs.Slots.{slot-taken}
+use Rattle.archive_add.specs.Adding.{fileOf}
+use Rattle.archive_add.proofs.Adding.{name-short, length-with, adding-name, adding-again, adding-many, adding-large, adding-short, adding-laid}
+use Rattle.archive_add.proofs.add_file.Statement.{statement}
+use Rattle.archive_add.proofs.add_file.Tie as tie
 
 returns : tie.Need-returns
 returns c =

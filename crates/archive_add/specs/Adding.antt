@@ -1,33 +1,19 @@
 -- An archive (document 01's shelf) with one file more.
-use mathlib.Core.Bool.{Bool, not}
+use mathlib.Core.Bool.{not}
 use mathlib.Core.List.{List, [], _∷_}
-use Prim.Native.Nat.{ℕ, suc}
+use Prim.Native.Nat.{ℕ}
 use lib.Dec.{leb, ltb}
 use lib.ListN.{length}
 use lib.Seq.{paste}
-use Rattle.definition.specs.Lists.{if_then_else_, any, same, lower}
+use Rattle.definition.specs.Lists.{if_then_else_, lower}
 use Rattle.definition.specs.Limits.{archiveBytes, archiveFiles}
 use Rattle.definition.specs.Archive.{File, archiveOf, filesOf, isFileName}
-use Rattle.archive.specs.Walk.{nameStart}
-use Rattle.archive_edit.specs.declared.Slot.{Slot}
-use Rattle.archive_edit.specs.declared.Added.{Added}
-use Rattle.archive_edit.specs.declared.Added.the-variants.{Size, NotAName, Again, TooMany, TooLarge}
+use Rattle.archive_slot.specs.Slots.{onIt}
+use Rattle.archive_add.specs.declared.Added.{Added}
+use Rattle.archive_add.specs.declared.Added.the-variants.{Size, NotAName, Again, TooMany, TooLarge}
 
 abbrev pub fileOf : List ℕ → List ℕ → File
 fileOf n b = record { name = n; body = b }
-
--- how many files stand below a name, in files that rise
-unfoldable pub below : List ℕ → List File → ℕ
-below n [] = 0
-below n (f ∷ fs) = if lower (f .name) n then suc (below n fs) else 0
-
--- is there a file of that name?
-unfoldable pub onIt : List ℕ → List File → Bool
-onIt n fs = any (λ f. same (f .name) n) fs
-
--- where a name stands among the files of an archive
-unfoldable pub slotFor : List ℕ → List ℕ → Slot
-slotFor n s = record { index = below n (filesOf s); at = nameStart (below n (filesOf s)) s; taken = onIt n (filesOf s) }
 
 -- a file after those that stand below it, and before the others
 unfoldable pub inserted : File → List File → List File

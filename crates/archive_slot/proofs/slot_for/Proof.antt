@@ -1,13 +1,13 @@
--- `archive_edit::slot_for` meets its contract. The invariant: the place of the name is that among the files from file j on, after those passed. Assumes nothing.
+-- `archive_slot::slot_for` meets its contract. The invariant: the place of the name is that among the files from file j on, after those passed. Assumes nothing.
 use mathlib.Core.Path.{sym, _∙_}
 use Prim.Native.Nat.{_-_}
 use native.Mathlib.Omega.{arith}
 use borrow.Author.Tests.{not-true, not-false}
 use borrow.Author.Needs.{needs}
 use Rattle.archive.proofs.Walk.{rows-room, walking-in}
-use Rattle.archive_edit.proofs.Adding.{Seeking, seeking-first, seeking-next, seeking-here, seeking-done}
-use Rattle.archive_edit.proofs.slot_for.Statement.{statement}
-use Rattle.archive_edit.proofs.slot_for.Tie as tie
+use Rattle.archive_slot.proofs.Slots.{Seeking, seeking-first, seeking-next, seeking-here, seeking-done}
+use Rattle.archive_slot.proofs.slot_for.Statement.{statement}
+use Rattle.archive_slot.proofs.slot_for.Tie as tie
 
 abbrev Inv-loop : tie.InvT-loop
 Inv-loop archive name count at₀ j₀ at j = Seeking archive name count at j

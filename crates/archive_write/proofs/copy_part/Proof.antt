@@ -1,12 +1,12 @@
--- `archive_edit::copy_part` meets its contract. Assumes nothing.
+-- `archive_write::copy_part` meets its contract. Assumes nothing.
 use mathlib.Core.Path.{ap, _∙_}
 use Prim.Native.Nat.{_-_}
 use lib.ListN.{take, drop}
 use lib.Seq.{paste}
 use borrow.Author.Needs.{needs}
 use Rattle.archive.proofs.Walk.{part-size}
-use Rattle.archive_edit.proofs.copy_part.Statement.{statement}
-use Rattle.archive_edit.proofs.copy_part.Tie as tie
+use Rattle.archive_write.proofs.copy_part.Statement.{statement}
+use Rattle.archive_write.proofs.copy_part.Tie as tie
 
 returns : tie.Need-returns
 returns c =

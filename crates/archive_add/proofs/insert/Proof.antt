@@ -1,4 +1,4 @@
--- `archive_edit::insert` meets its contract: seven stretches, one after the other, are the archive with the file. Assumes nothing.
+-- `archive_add::insert` meets its contract: seven stretches, one after the other, are the archive with the file. Assumes nothing.
 use mathlib.Core.Path.{_≡_, ap, _∙_}
 use Prim.Native.Nat.{ℕ, _+_, _≤_, _<_}
 use native.Mathlib.Omega.{arith}
@@ -8,10 +8,10 @@ use borrow.Author.Needs.{needs}
 use Rattle.definition.specs.Limits.{archiveBytes}
 use Rattle.archive.specs.Walk.{lengthsAt}
 use Rattle.archive.proofs.Walk.{rows-room}
-use Rattle.archive_edit.specs.Adding.{fileOf, archiveWith}
-use Rattle.archive_edit.proofs.Adding.{slot-most, insert-written}
-use Rattle.archive_edit.proofs.insert.Statement.{statement}
-use Rattle.archive_edit.proofs.insert.Tie as tie
+use Rattle.archive_add.specs.Adding.{fileOf, archiveWith}
+use Rattle.archive_add.proofs.Adding.{slot-most, insert-written}
+use Rattle.archive_add.proofs.insert.Statement.{statement}
+use Rattle.archive_add.proofs.insert.Tie as tie
 
 -- how the numbers lie to each other, once they are known, where `out` has so many bytes
 abbrev Facts : tie.After-lengths-at → ℕ → Type 0
