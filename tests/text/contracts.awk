@@ -315,6 +315,7 @@ function take_in(path, item, at,    s, name, key, n, parts, i) {
     if (s ~ /^ module /) {
         shared = s
         sharedAt = at
+        current = ""
         sub(/^ module [^ ]+/, "", shared)
         return
     }

@@ -3,7 +3,8 @@ use mathlib.Core.List.{List}
 use Prim.Native.Nat.{ℕ}
 use Rattle.definition.specs.Lists.{zeroes}
 use Rattle.definition.specs.Limits.{archiveBytes, contentsWords, bodyBytes}
-use Rattle.compare.specs.Comparing.{Comparison, both, noFile, refusedBy as refusedCall, Left, asked, comparing}
+use Rattle.comparison.specs.Answering.{Comparison, both, noFile, refusedBy as refusedCall}
+use Rattle.compare.specs.Comparing.{Left, asked, comparing}
 use Rattle.reports.specs.Showing.{shownIn}
 use Rattle.reports.specs.Telling.{Told, refused, bothTold, notAmong}
 

@@ -2,28 +2,28 @@
 use mathlib.Core.Bool.{Bool, true, false}
 use mathlib.Core.List.{List}
 use mathlib.Core.Path.{_≡_, refl, sym, ap, _∙_}
-use Prim.Native.Nat.{ℕ, _+_, _≤_, _<_}
+use Prim.Native.Nat.{ℕ, _≤_, _<_}
 use native.Mathlib.Omega.{arith}
 use lib.Dec.{ltb}
-use lib.ListN.{length, take, drop}
-use lib.Seq.{paste, take-at, take-length}
+use lib.ListN.{length}
 use borrow.Author.Tests.{lt-ltb, le-ltb}
 use Rattle.definition.specs.Lists.{if_then_else_}
 use Rattle.definition.specs.Limits.{contentsWords, bodyBytes}
-use Rattle.definition.specs.Archive.{laidOut, filesOf, struckOff}
+use Rattle.definition.specs.Archive.{laidOut, filesOf}
 use Rattle.definition.specs.Image.{tooShort}
 use Rattle.definition.specs.Reading.{Answer, accepted, refused, Outcome, outcome, reading}
-use Rattle.definition.specs.Lookup.{Reply, given, noValue, refused as refusedLookup, Place, getBytes}
+use Rattle.definition.specs.Lookup.{Reply, Place, getBytes}
 use Rattle.definition.specs.ThirdTerm.{Case, withFile, withoutFile, lookup, isAccepted, Given, ThirdTerm}
 use Rattle.laws.proofs.Lists.{not-both}
 use Rattle.laws.proofs.Reading.{accepted-reads}
 use Rattle.laws.proofs.ThirdTerm.{third-term}
-use Rattle.lookup.specs.declared.Lookup.{Lookup}
-use Rattle.lookup.specs.Replies.{replied}
 use Rattle.reader.specs.Said.{said}
 use Rattle.reader.specs.declared.Answer as reader
-use Rattle.compare.specs.declared.Compared.{Compared}
-use Rattle.compare.specs.Comparing.{Comparison, both, noFile, refusedBy, Left, answering, noRoom, onlyFirst, bothRead, afterFirst, comparing, Promise, compared, leaving, SecondOf}
+use Rattle.reader_without.specs.Second.{SecondOf}
+use Rattle.comparison.specs.declared.Compared.{Compared}
+use Rattle.comparison.specs.Answering.{Comparison, both, noFile, refusedBy, answering, compared}
+use Rattle.comparison.proofs.Both.{answering-both, answers-both}
+use Rattle.compare.specs.Comparing.{Left, noRoom, onlyFirst, bothRead, afterFirst, comparing, Promise, leaving}
 
 -- a reading's answer, once it is told
 pub read-is : (r s : reader.Answer) (c b : List ℕ) (o : Outcome) → outcome (said r) c b ≡ o → r ≡ s → outcome (said s) c b ≡ o
@@ -32,18 +32,6 @@ read-is r s c b o e f = rw f at e
 -- an archive that was read with is laid out
 pub read-laidOut : (text archive contents bodies c b : List ℕ) (n o : ℕ) → outcome (accepted n o) c b ≡ reading text archive contents bodies → laidOut archive ≡ true
 read-laidOut text archive contents bodies c b n o e = accepted-reads text archive contents bodies (rw (← e) refl) .isLaidOut
-
--- its front, as what was copied there
-front-copied : (d s : List ℕ) → length s ≤ length d → take (length s) (paste d 0 s (length s)) ≡ s
-front-copied d s h = rw (take-length s) (take-at s (drop (0 + length s) d) (length s) refl)
-
--- a reading with what was struck off
-pub second-read : (r : reader.Answer) (text archive : List ℕ) (file n : ℕ) (struck contents bodies struck′ contents′ bodies′ : List ℕ)
-    → length (struckOff file archive) ≤ length struck → n ≡ length (struckOff file archive) → struck′ ≡ paste struck 0 (struckOff file archive) n
-    → outcome (said r) contents′ bodies′ ≡ reading text (take n struck′) contents bodies → SecondOf r text archive file struck contents bodies struck′ contents′ bodies′
-second-read r text archive file n struck contents bodies struck′ contents′ bodies′ h e copied read =
-    let left = rw e at copied in
-    record { struckOff-left = left; read = rw (e, left, front-copied struck (struckOff file archive) h) at read }
 
 module _ (c : Case) (struck : List ℕ) where
   pub short-struck : length struck < length (c .archive) → noRoom c struck ≡ comparing c struck
@@ -85,14 +73,13 @@ module _ (c : Case) (struck : List ℕ) where
           rw (ap (λ (x : Outcome). x .contents) e, ap (λ (x : Outcome). x .bodies) e, ← first-done, ← ap (λ (x : Outcome). x .answer) e, le-ltb (c .file) (length (filesOf (c .archive))) h) refl
 
       pub both-left : c .file < length (filesOf (c .archive))
-          → (r : Compared) (with-it without : Lookup) (second : reader.Answer) (s₂ c₂ b₂ : List ℕ)
+          → (r : Compared) (second : reader.Answer) (s₂ c₂ b₂ : List ℕ)
           → SecondOf second (c .text) (c .archive) (c .file) struck (c .contents′) (c .bodies′) s₂ c₂ b₂
-          → replied with-it ≡ getBytes c₁ b₁ (c .name) (c .class) → replied without ≡ getBytes c₂ b₂ (c .name) (c .class)
-          → compared r ≡ answering (replied with-it) (replied without) (said second)
+          → compared r ≡ answering (getBytes c₁ b₁ (c .name) (c .class)) (getBytes c₂ b₂ (c .name) (c .class)) (said second)
           → leaving r s₂ c₁ b₁ c₂ b₂ ≡ comparing c struck
       unfolding afterFirst
-      both-left h r with-it without second s₂ c₂ b₂ made a b d =
-          rw (d, a, b, ap (λ (x : Outcome). x .contents) e, ap (λ (x : Outcome). x .bodies) e, made .struckOff-left, ap (λ (x : Outcome). x .answer) (made .read), ap (λ (x : Outcome). x .contents) (made .read), ap (λ (x : Outcome). x .bodies) (made .read), ← first-done, ← ap (λ (x : Outcome). x .answer) e, lt-ltb (c .file) (length (filesOf (c .archive))) h) refl
+      both-left h r second s₂ c₂ b₂ made d =
+          rw (d, ap (λ (x : Outcome). x .contents) e, ap (λ (x : Outcome). x .bodies) e, made .struckOff-left, ap (λ (x : Outcome). x .answer) (made .read), ap (λ (x : Outcome). x .contents) (made .read), ap (λ (x : Outcome). x .bodies) (made .read), ← first-done, ← ap (λ (x : Outcome). x .answer) e, lt-ltb (c .file) (length (filesOf (c .archive))) h) refl
 
   -- ---- A call that answers both has made both readings and both lookups
 
@@ -102,12 +89,6 @@ module _ (c : Case) (struck : List ℕ) where
       pub first-looked : a ≡ lookup c (withFile c)
       pub second-looked : b ≡ lookup c (withoutFile c)
       pub second-read : second ≡ withoutFile c .answer
-
-    answering-both : (x y : Reply Place) (z : Answer) → both a b second ≡ answering x y z → (a ≡ x) × (b ≡ y) × (second ≡ z)
-    unfolding answering
-    answering-both (given p) y z e = (cc, cc, cc)
-    answering-both noValue y z e = (cc, cc, cc)
-    answering-both (refusedLookup k) y z e = absurd (let z : _≡_ {A = ℕ} 0 1 = cc in omega arith)
 
     -- a call that leaves `other` answers something else
     other : (l : Left) (d : Comparison) → after ≡ l → l .answer ≡ d → (both a b second ≡ d → ⊥) → Made
@@ -148,12 +129,6 @@ module _ (c : Case) (struck : List ℕ) where
   unfolding afterFirst
   accepted-both (accepted n o) e h = rw (lt-ltb (c .file) (length (filesOf (c .archive))) h) refl
   accepted-both (refused k) e h = absurd (not-both e refl)
-
-  answers-both : (a b : Reply Place) (second : Answer) → ((k : ℕ) → a ≡ refusedLookup k → ⊥) → answering a b second ≡ both a b second
-  unfolding answering
-  answers-both (given p) b second h = refl
-  answers-both noValue b second h = refl
-  answers-both (refusedLookup k) b second h = absurd (h k refl)
 
   given-both : Given c → length (c .archive) ≤ length struck → comparing c struck ≡ bothRead c struck
   unfolding comparing

@@ -8,20 +8,10 @@ use lib.Seq.{paste}
 use Rattle.definition.specs.Lists.{if_then_else_}
 use Rattle.definition.specs.Archive.{filesOf, struckOff}
 use Rattle.definition.specs.Image.{tooShort}
-use Rattle.definition.specs.Reading.{Answer, accepted, refused, Outcome, outcome, reading}
-use Rattle.definition.specs.Lookup.{Reply, given, noValue, refused as refusedLookup, Place}
+use Rattle.definition.specs.Reading.{Answer, accepted, refused, Outcome}
 use Rattle.definition.specs.ThirdTerm.{Case, withFile, withoutFile, lookup, Given, ThirdTerm}
-use Rattle.lookup.specs.Replies.{replied}
-use Rattle.reader.specs.Said.{said}
-use Rattle.reader.specs.declared.Answer as reader
-use Rattle.compare.specs.declared.Compared.{Compared}
-use Rattle.compare.specs.declared.Compared.the-variants.{Both, NoFile, Refused}
-
--- both lookups' answers and the second reading's, or no such file, or a number of document 01's table
-pub data Comparison : Type 0 where
-  both : Reply Place → Reply Place → Answer → Comparison
-  noFile : Comparison
-  refusedBy : ℕ → Comparison
+use Rattle.comparison.specs.declared.Compared.{Compared}
+use Rattle.comparison.specs.Answering.{Comparison, both, noFile, refusedBy, answering, compared}
 
 -- the answer, and each lent buffer afterwards
 pub record Left : Type 0 where
@@ -31,12 +21,6 @@ pub record Left : Type 0 where
   pub bodies : List ℕ
   pub contents′ : List ℕ
   pub bodies′ : List ℕ
-
--- 9 and 10 refuse the call; both lookups are of one query and meet them alike
-unfoldable pub answering : Reply Place → Reply Place → Answer → Comparison
-answering (given p) b second = both (given p) b second
-answering noValue b second = both noValue b second
-answering (refusedLookup k) b second = refusedBy k
 
 module _ (c : Case) (struck : List ℕ) where
   -- 1 for less room than the archive takes, or for short buffers of the second reading; nothing has changed
@@ -80,18 +64,8 @@ module _ (c : Case) (struck : List ℕ) where
     pub equals : after ≡ comparing
     pub third-term : Given c → length (c .archive) ≤ length struck → Term after
 
-abbrev pub compared : Compared → Comparison
-compared (Both a b second) = both (replied a) (replied b) (said second)
-compared NoFile = noFile
-compared (Refused k) = refusedBy k
-
 abbrev pub leaving : Compared → List ℕ → List ℕ → List ℕ → List ℕ → List ℕ → Left
 leaving r s c b c′ b′ = record { answer = compared r; struck = s; contents = c; bodies = b; contents′ = c′; bodies′ = b′ }
-
--- what striking off and the second reading answer and leave
-pub record SecondOf (r : reader.Answer) (text archive : List ℕ) (file : ℕ) (struck contents bodies struck′ contents′ bodies′ : List ℕ) : Type 0 where
-  pub struckOff-left : struck′ ≡ paste struck 0 (struckOff file archive) (length (struckOff file archive))
-  pub read : outcome (said r) contents′ bodies′ ≡ reading text (struckOff file archive) contents bodies
 
 abbrev pub asked : List ℕ → List ℕ → ℕ → List ℕ → List ℕ → List ℕ → List ℕ → List ℕ → List ℕ → Case
 asked text archive file name class contents bodies contents′ bodies′ = record {

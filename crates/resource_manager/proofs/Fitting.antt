@@ -8,9 +8,10 @@ use Rattle.laws.proofs.Reading.{accepted-small}
 use Rattle.definition.specs.Lookup.{Reply, getBytes}
 use Rattle.definition.specs.Value.{Number, getString}
 use Rattle.definition.specs.ThirdTerm.{Case, withFile, withoutFile}
-use Rattle.compare.specs.declared.Compared.{Compared}
-use Rattle.compare.specs.declared.Compared.the-variants.{Both, NoFile, Refused as RefusedCall}
-use Rattle.compare.specs.Comparing.{Left, Promise, leaving, compared}
+use Rattle.comparison.specs.declared.Compared.{Compared}
+use Rattle.comparison.specs.declared.Compared.the-variants.{Both, NoFile, Refused as RefusedCall}
+use Rattle.comparison.specs.Answering.{compared}
+use Rattle.compare.specs.Comparing.{Left, Promise, leaving}
 use Rattle.compare.proofs.Comparing.{answered-both}
 use Rattle.lookup.specs.Replies.{replied}
 use Rattle.lookup.specs.declared.Lookup.{Lookup}

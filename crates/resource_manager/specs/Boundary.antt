@@ -8,7 +8,8 @@ use Rattle.definition.specs.Reading.{Outcome}
 use Rattle.definition.specs.Lookup.{Reply, given, noValue, refused as refusedBy}
 use Rattle.definition.specs.Value.{Number, number, notANumber}
 use Rattle.definition.specs.ThirdTerm.{Case, withFile, withoutFile, lookup, Given, ThirdTerm}
-use Rattle.compare.specs.Comparing.{Comparison, both, noFile, refusedBy as refusedAs, Left, bothRead, comparing}
+use Rattle.comparison.specs.Answering.{Comparison, both, noFile, refusedBy as refusedAs}
+use Rattle.compare.specs.Comparing.{Left, bothRead, comparing}
 use Rattle.codes.specs.Codes.{noneCode, notANumberCode, readCode, placeCode}
 
 -- ---- Readings

@@ -13,7 +13,7 @@ use codes::NOT_A_NUMBER;
 use codes::bool_code;
 use codes::place_code;
 use codes::read_code;
-use compare::Compared;
+use comparison::Compared;
 use readings::Value;
 
 // Document 01's reading call. The low 16 bits are 0, or the number of the refusal and that alone; entries stand in bits 16 to 31

@@ -66,22 +66,20 @@ read-without-requires c κs =
 returns-5 : tie.Need-returns-5
 returns-5 c =
     let read-here = c .before .before .before .before .before .before .before in
-    promised _ _ _ (first-refused _ _ (room read-here) _ _ _ (read-is (read-here .read .result) _ _ _ _ (read-here .read .ensures) (c .before .first .given .1)))
+    promised _ _ _ (first-refused (case (tested read-here)) _ (room read-here) _ _ _ (read-is (read-here .read .result) _ _ _ _ (read-here .read .ensures) (c .before .first .given .1)))
 
 returns-6 : tie.Need-returns-6
 returns-6 c =
-    let get-bytes-here = c .before .before .before .before in
-    let read-without-here = get-bytes-here .before .before .before .before .before .before .before .before .before in
+    let read-without-here = c .before .before .before .before .before .before .before .before .before .before .before in
     let else-here = read-without-here .before .before .before .before in
     let told = else-here .before .before in
     promised _ _ _ (both-left _ _ (room (was-read told)) _ _ _ _ (read-with told)
     (omega (arith, else-here .if4 .left, else-here .before .file-count .ensures .0, length-files (case (tested (was-read told)) .archive)))
-    (c .answering .result) (get-bytes-here .get-bytes .result) (c .before .get-bytes2 .result) (read-without-here .read-without .result) _ _ _
-    (read-without-here .read-without .ensures) (get-bytes-here .get-bytes .ensures) (c .before .get-bytes2 .ensures) (c .answering .ensures))
+    (c .look-up-both .result) (read-without-here .read-without .result) _ _ _ (read-without-here .read-without .ensures) (c .look-up-both .ensures))
 
 pub compare-without-spec : {M : Type 1} → statement M
 compare-without-spec =
     tie.close
     (tie.spec returns returns-2 returns-3 (λ c κs. search needs) (λ c. search needs) (λ c. search needs) file-count-requires (λ c. search needs)
-    (λ c. search needs) returns-4 read-without-requires (λ c κs. search needs) (λ c κs. search needs) (λ c κs. search needs) (λ c. search needs)
+    (λ c. search needs) returns-4 read-without-requires (λ c κs. search needs) (λ c. search needs)
     (λ c. search needs) returns-5 (λ c. search needs) (λ c. search needs) (λ c. search needs) (λ c. search needs) (λ c. search needs) returns-6)

@@ -1,9 +1,9 @@
--- `compare::answering` meets its contract. Assumes nothing.
+-- `comparison::answering` meets its contract. Assumes nothing.
 use mathlib.Core.Path.{refl}
 use borrow.Author.Needs.{needs}
-use Rattle.compare.specs.Comparing.{answering}
-use Rattle.compare.proofs.answering.Statement.{statement}
-use Rattle.compare.proofs.answering.Tie as tie
+use Rattle.comparison.specs.Answering.{answering}
+use Rattle.comparison.proofs.answering.Statement.{statement}
+use Rattle.comparison.proofs.answering.Tie as tie
 
 returns : tie.Need-returns
 unfolding answering

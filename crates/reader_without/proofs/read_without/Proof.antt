@@ -1,4 +1,4 @@
--- `compare::read_without` meets its contract. Assumes nothing.
+-- `reader_without::read_without` meets its contract. Assumes nothing.
 use mathlib.Core.Path.{sym}
 use Prim.Native.Nat.{_≤_}
 use native.Mathlib.Omega.{arith}
@@ -6,10 +6,10 @@ use lib.ListN.{length}
 use lib.Seq.{length-take-le}
 use Rattle.definition.specs.Archive.{struckOff}
 use Rattle.laws.proofs.Archive.{struck-shorter}
-use Rattle.compare.proofs.Comparing.{second-read}
+use Rattle.reader_without.proofs.Second.{second-read}
 use borrow.Author.Needs.{needs}
-use Rattle.compare.proofs.read_without.Statement.{statement}
-use Rattle.compare.proofs.read_without.Tie as tie
+use Rattle.reader_without.proofs.read_without.Statement.{statement}
+use Rattle.reader_without.proofs.read_without.Tie as tie
 
 abbrev begun : tie.After-strike-off → tie.Start
 begun c = c .before .before .before .before .before .before .before

@@ -1,0 +1,2 @@
+-- What the answer of the comparing call is.
+pub mod Answering

@@ -1,0 +1,2 @@
+-- Laws of the reading without a file.
+pub mod Second

@@ -1,0 +1,2 @@
+-- What the contract of the reading without a file cites beside the definition.
+pub mod Second
