@@ -1,5 +1,4 @@
 // What getres tells of a query: the value that it gets, none or a refusal.
-ghost use mathlib.Core.Path.{_≡_};
 ghost use Prim.Native.Nat.{_≤_};
 ghost use lib.ListN.{length};
 ghost use Rattle.reports.specs.Telling.{Reports, reportBytes};

@@ -21,7 +21,7 @@ use Rattle.archive_slot.specs.Slots.{below, onIt, slotFor}
 use Rattle.archive_slot.proofs.Slots.{names, on-passed, on-same, below-most}
 use Rattle.archive_add.specs.declared.Added.{Added}
 use Rattle.archive_add.specs.declared.Added.the-variants.{Size, NotAName, Again, TooMany, TooLarge}
-use Rattle.archive_add.specs.Adding.{inserted, archiveWith, Addition, leftBy, adding}
+use Rattle.archive_add.specs.Adding.{inserted, archiveWith, Addition, additionOf, adding}
 use Rattle.archive_write.proofs.Stretches.{lengths-append, stretch-sizes, stretch-lengths, stretch-middle, stretch-last, starts-low, written-first, written-on, written-all}
 
 -- ---- Files with one more
@@ -172,27 +172,27 @@ module _ (s : List ℕ) (h : laidOut s ≡ true) (f : File) where
   -- ---- The first reason why there is none, or the archive
 
   module _ (out : List ℕ) where
-    pub adding-name : isFileName (f .name) ≡ false → leftBy NotAName out ≡ adding f s out
+    pub adding-name : isFileName (f .name) ≡ false → additionOf NotAName out ≡ adding f s out
     unfolding adding
     adding-name a = rw a refl
 
     module _ (a : isFileName (f .name) ≡ true) where
-      pub adding-again : onIt (f .name) (filesOf s) ≡ true → leftBy Again out ≡ adding f s out
+      pub adding-again : onIt (f .name) (filesOf s) ≡ true → additionOf Again out ≡ adding f s out
       unfolding adding
       adding-again b = rw (a, b) refl
 
       module _ (b : onIt (f .name) (filesOf s) ≡ false) where
-        pub adding-many : archiveFiles ≤ length (filesOf s) → leftBy TooMany out ≡ adding f s out
+        pub adding-many : archiveFiles ≤ length (filesOf s) → additionOf TooMany out ≡ adding f s out
         unfolding adding
         adding-many c = rw (a, b, le-leb archiveFiles (length (filesOf s)) c) refl
 
         module _ (c : length (filesOf s) < archiveFiles) where
-          pub adding-large : archiveBytes < length s + (4 + length (f .name) + length (f .body)) → leftBy TooLarge out ≡ adding f s out
+          pub adding-large : archiveBytes < length s + (4 + length (f .name) + length (f .body)) → additionOf TooLarge out ≡ adding f s out
           unfolding adding
           adding-large d = rw (a, b, lt-leb archiveFiles (length (filesOf s)) c, lt-ltb archiveBytes (length (archiveWith f s)) (omega (arith, length-with))) refl
 
           module _ (d : length s + (4 + length (f .name) + length (f .body)) ≤ archiveBytes) where
-            pub adding-short : length out < length s + (4 + length (f .name) + length (f .body)) → leftBy TooLarge out ≡ adding f s out
+            pub adding-short : length out < length s + (4 + length (f .name) + length (f .body)) → additionOf TooLarge out ≡ adding f s out
             unfolding adding
             adding-short g =
                 rw (
@@ -204,7 +204,7 @@ module _ (s : List ℕ) (h : laidOut s ≡ true) (f : File) where
                 ) refl
 
             pub adding-laid : length s + (4 + length (f .name) + length (f .body)) ≤ length out → (n : ℕ) (t : List ℕ) → n ≡ length (archiveWith f s)
-                → t ≡ paste out 0 (archiveWith f s) n → leftBy (Size n) t ≡ adding f s out
+                → t ≡ paste out 0 (archiveWith f s) n → additionOf (Size n) t ≡ adding f s out
             unfolding adding
             adding-laid g n t en et =
                 rw (
@@ -227,7 +227,7 @@ pub record Holding (f : File) (s out : List ℕ) (n : ℕ) : Type 0 where
 
 module _ (f : File) (s out o : List ℕ) (n : ℕ) (h : laidOut s ≡ true) where
   held : isFileName (f .name) ≡ true → onIt (f .name) (filesOf s) ≡ false → length (filesOf s) < archiveFiles → length (archiveWith f s) ≤ archiveBytes
-      → length (archiveWith f s) ≤ length out → leftBy (Size n) o ≡ leftBy (Size (length (archiveWith f s))) (paste out 0 (archiveWith f s) (length (archiveWith f s)))
+      → length (archiveWith f s) ≤ length out → additionOf (Size n) o ≡ additionOf (Size (length (archiveWith f s))) (paste out 0 (archiveWith f s) (length (archiveWith f s)))
       → Holding f s o n
   held a b c d r e =
       let w = archiveWith f s in
@@ -248,12 +248,12 @@ module _ (f : File) (s out o : List ℕ) (n : ℕ) (h : laidOut s ≡ true) wher
   isSize TooLarge = false
 
   -- a reason that does not hold is passed over
-  passed : (b : Bool) (a : Added) (x : Addition) → isSize a ≡ false → leftBy (Size n) o ≡ (if b then leftBy a out else x) → (b ≡ false) × (leftBy (Size n) o ≡ x)
+  passed : (b : Bool) (a : Added) (x : Addition) → isSize a ≡ false → additionOf (Size n) o ≡ (if b then additionOf a out else x) → (b ≡ false) × (additionOf (Size n) o ≡ x)
   passed true a x r e = absurd (not-both (ap (λ y. isSize (y .answer)) (sym e)) r)
   passed false a x r e = (refl, e)
 
   -- what was added to an archive is one
-  pub added-holds : leftBy (Size n) o ≡ adding f s out → Holding f s o n
+  pub added-holds : additionOf (Size n) o ≡ adding f s out → Holding f s o n
   unfolding adding
   added-holds e =
       let r₁ = passed (not (isFileName (f .name))) NotAName _ refl e in

@@ -29,15 +29,15 @@ pub record Addition : Type 0 where
   pub answer : Added
   pub out : List ℕ
 
-abbrev pub leftBy : Added → List ℕ → Addition
-leftBy a out = record { answer = a; out = out }
+abbrev pub additionOf : Added → List ℕ → Addition
+additionOf a out = record { answer = a; out = out }
 
 -- the archive with a file more at the front of `out`, or the first reason why there is none
 unfoldable pub adding : File → List ℕ → List ℕ → Addition
 adding f s out =
-    if not (isFileName (f .name)) then leftBy NotAName out else
-    if onIt (f .name) (filesOf s) then leftBy Again out else
-    if leb archiveFiles (length (filesOf s)) then leftBy TooMany out else
-    if ltb archiveBytes (length (archiveWith f s)) then leftBy TooLarge out else
-    if ltb (length out) (length (archiveWith f s)) then leftBy TooLarge out else
-    leftBy (Size (length (archiveWith f s))) (paste out 0 (archiveWith f s) (length (archiveWith f s)))
+    if not (isFileName (f .name)) then additionOf NotAName out else
+    if onIt (f .name) (filesOf s) then additionOf Again out else
+    if leb archiveFiles (length (filesOf s)) then additionOf TooMany out else
+    if ltb archiveBytes (length (archiveWith f s)) then additionOf TooLarge out else
+    if ltb (length out) (length (archiveWith f s)) then additionOf TooLarge out else
+    additionOf (Size (length (archiveWith f s))) (paste out 0 (archiveWith f s) (length (archiveWith f s)))

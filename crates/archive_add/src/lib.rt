@@ -7,7 +7,7 @@ ghost use lib.Seq.{paste};
 ghost use Rattle.definition.specs.Archive.{laidOut};
 ghost use Rattle.definition.specs.Limits.{archiveBytes};
 ghost use Rattle.archive_slot.specs.Slots.{slotFor};
-ghost use Rattle.archive_add.specs.Adding.{fileOf, archiveWith, leftBy, adding};
+ghost use Rattle.archive_add.specs.Adding.{fileOf, archiveWith, additionOf, adding};
 use archive::LENGTHS_BYTES;
 use archive::file_count;
 use archive::lengths_at;
@@ -56,7 +56,7 @@ fn insert(archive: &[u8], slot: Slot, name: &[u8], body: &[u8], out: &mut [u8])
 // The archive with one file more, at the start of `out`, or why there is none. What is past it stays, and a refusal writes nothing.
 pub fn add_file(archive: &[u8], name: &[u8], body: &[u8], out: &mut [u8]) -> Added
     requires { ⌜ laidOut (now archive) ≡ true ⌝ }
-    ensures { λ r. ⌜ leftBy r (now (out .exit)) ≡ adding (fileOf (now (name .entry)) (now (body .entry))) (now (archive .entry)) (now (out .entry)) ⌝ }
+    ensures { λ r. ⌜ additionOf r (now (out .exit)) ≡ adding (fileOf (now (name .entry)) (now (body .entry))) (now (archive .entry)) (now (out .entry)) ⌝ }
 {
     if !is_file_name(name) {
         return Added::NotAName;

@@ -4,8 +4,7 @@ mod writing;
 
 ghost use mathlib.Core.Path.{_≡_};
 ghost use mathlib.Core.Bool.{true};
-ghost use Prim.Native.Nat.{_≤_};
-ghost use lib.ListN.{length, take};
+ghost use lib.ListN.{length};
 ghost use Rattle.definition.specs.Archive.{laidOut};
 ghost use Rattle.definition.specs.Limits.{archiveBytes};
 ghost use Rattle.io.specs.Counts.{Counts};

@@ -371,21 +371,6 @@ module _ {A : Type 0} (p : A → Bool) where
   unfolding takeWhile
   run-end xs i h = rw (drop-of-length-le xs h) refl
 
-  pub dropWhile-more : (xs : List A) (d : A) → 0 < length xs → p (getD xs 0 d) ≡ true → dropWhile p xs ≡ dropWhile p (drop 1 xs)
-  unfolding dropWhile
-  dropWhile-more [] d h e = absurd (omega arith)
-  dropWhile-more (x ∷ xs) d h e = rw e refl
-
-  pub dropWhile-stop : (xs : List A) (d : A) → p (getD xs 0 d) ≡ false → dropWhile p xs ≡ xs
-  unfolding dropWhile
-  dropWhile-stop [] d e = refl
-  dropWhile-stop (x ∷ xs) d e = rw e refl
-
-  pub dropWhile-end : (xs : List A) → length xs ≡ 0 → dropWhile p xs ≡ xs
-  unfolding dropWhile
-  dropWhile-end [] e = refl
-  dropWhile-end (x ∷ xs) e = absurd (omega arith)
-
 -- ---- A list from a place on
 
 module _ {A : Type 0} where

@@ -1,10 +1,9 @@
 // What the list program writes for a text.
-ghost use mathlib.Core.Path.{_≡_};
 ghost use Prim.Native.Nat.{_+_, _≤_};
 ghost use lib.ListN.{length};
 ghost use Rattle.definition.specs.Image.{rowsIn};
 ghost use Rattle.printing.specs.Putting.{Appends};
-ghost use Rattle.listing.specs.Listing.{entryLine, rowLines, wordLine, printed, Listable, listBytes, Lists, RefusesLong};
+ghost use Rattle.listing.specs.Listing.{entryLine, rowLines, wordLine, Listable, listBytes, Lists, RefusesLong};
 use image::row_at;
 use limits::CONTENTS_WORDS;
 use printing::put;
