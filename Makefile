@@ -6,7 +6,7 @@ help:
 	@echo 'make programs       makes the programs list and getres (target/bin; crates/getres/getres runs the second)'
 	@echo 'make library        makes the static library for C and Rust (target/staticlib)'
 	@echo 'make rust           makes the static library and builds the Rust crate over it (rust, target/rust)'
-	@echo 'make record         writes the recorded answers of the Rust again (crates/replay/data)'
+	@echo 'make record         writes the recorded answers of the Rust again (data of crates/replay, replay_default)'
 	@echo 'make recorded-antt  prints the short recorded answers as rows for the prover'
 	@echo 'make beside SEED=n  compares the model and the Rust alone, with another seed'
 	@echo 'make port SEED=n    compares the port with both alone, with another seed; TIMES=n draws more'
@@ -29,7 +29,7 @@ rust: library
 	@cargo build --release --offline --locked --manifest-path rust/Cargo.toml --target-dir target/rust
 
 record:
-	@tests/record crates/replay/data
+	@tests/record crates
 
 recorded-antt:
 	@tests/build >&2

@@ -27,7 +27,7 @@ extern "C" {
 #define RESOURCE_MANAGER_BODIES_BYTES 32768  /* also the most bytes of keys and values in an image */
 
 /* The most that is accepted; one more is refused. */
-#define RESOURCE_MANAGER_TEXT_BYTES 32768
+#define RESOURCE_MANAGER_TEXT_BYTES 32768 /* of a main text, and of each text of a start-up */
 #define RESOURCE_MANAGER_SHELF_BYTES 65536
 #define RESOURCE_MANAGER_SHELF_FILES 64
 #define RESOURCE_MANAGER_FILE_NAME_BYTES 96
@@ -44,7 +44,7 @@ extern "C" {
 enum resource_manager_status {
     RESOURCE_MANAGER_OK = 0,
     RESOURCE_MANAGER_SHORT_BUFFERS = 1,     /* contents or bodies too short for an image */
-    RESOURCE_MANAGER_LONG_TEXT = 2,         /* main text too long */
+    RESOURCE_MANAGER_LONG_TEXT = 2,         /* main text, or a text that a start-up uses, too long */
     RESOURCE_MANAGER_BAD_SHELF = 3,         /* shelf not laid out as below */
     RESOURCE_MANAGER_MANY_OPENS = 4,        /* too many included files opened */
     RESOURCE_MANAGER_MANY_ENTRY_PARTS = 5,  /* an entry has too many parts */
@@ -54,7 +54,7 @@ enum resource_manager_status {
     RESOURCE_MANAGER_LONG_QUERY = 9,        /* name or class too long */
     RESOURCE_MANAGER_MANY_QUERY_PARTS = 10, /* name or class of too many parts */
     RESOURCE_MANAGER_NOT_A_NUMBER = 65534,  /* get_value: the value is no 64-bit decimal number */
-    RESOURCE_MANAGER_NONE = 65535           /* no such value; compare_without: no such file */
+    RESOURCE_MANAGER_NONE = 65535           /* no such value; of a comparing call: no such file */
 };
 
 /* The status of any answer. */
@@ -88,6 +88,33 @@ static inline size_t resource_manager_opens_of(uint64_t answer)
 {
     return (size_t)(answer >> 32);
 }
+
+/*
+ * Reads what a start-up uses of five lent texts, as x11rb's Database::new_from_default does: two texts at most, one
+ * after the other, into one image.
+ *
+ * The first is the property if its format is 8 and it is not empty; else .Xresources if it could be read, even if it
+ * is empty; else .Xdefaults. The second is the text that XENVIRONMENT names if XENVIRONMENT is set, else the host's
+ * .Xdefaults. A text that could not be read adds nothing: where XENVIRONMENT is set and its text could not be read, the
+ * host's does not stand in for it. A flag, which says that a text could be read or that XENVIRONMENT is set, is no if
+ * it is 0, and yes otherwise.
+ *
+ * A text that is not used or could not be read is not looked at, however long it is; "" of 0 bytes will do for it. Each
+ * text that is used is read as a main text is: it ends at its own end, also within a line, and its includes are looked
+ * for from the empty folder. Opens, entries, and bytes of keys and values are counted over both texts.
+ *
+ * The answer, and what is left in the buffers, are as for resource_manager_read. Of what refuses, the first counts: 1;
+ * 2 if a text that is used and could be read is too long; 3; then 4 to 7 in the order of the first text's lines and
+ * then the second's.
+ */
+uint64_t resource_manager_read_default(uint8_t property_format, const uint8_t *property, size_t property_count,
+                                       uint8_t xresources_read, const uint8_t *xresources, size_t xresources_count,
+                                       uint8_t xdefaults_read, const uint8_t *xdefaults, size_t xdefaults_count,
+                                       uint8_t xenvironment_set, uint8_t xenvironment_read,
+                                       const uint8_t *xenvironment, size_t xenvironment_count, uint8_t host_read,
+                                       const uint8_t *host, size_t host_count, const uint8_t *shelf,
+                                       size_t shelf_count, uint16_t *contents, size_t contents_count, uint8_t *bodies,
+                                       size_t bodies_count);
 
 /*
  * The value of a query, as bytes: status OK with its place in the bodies and its length, NONE, or refused by 8, 9 or
@@ -168,6 +195,20 @@ uint64_t resource_manager_compare_without(const uint8_t *text, size_t text_count
                                           uint8_t *bodies, size_t bodies_count, uint16_t *contents_without,
                                           size_t contents_without_count, uint8_t *bodies_without,
                                           size_t bodies_without_count, uint64_t *with_it, uint64_t *without);
+
+/*
+ * What one file of a shelf changes for a start-up: as resource_manager_compare_without, with both readings as
+ * resource_manager_read_default reads the same texts. All that comes after them is lent, written and answered as there.
+ */
+uint64_t resource_manager_compare_default_without(
+    uint8_t property_format, const uint8_t *property, size_t property_count, uint8_t xresources_read,
+    const uint8_t *xresources, size_t xresources_count, uint8_t xdefaults_read, const uint8_t *xdefaults,
+    size_t xdefaults_count, uint8_t xenvironment_set, uint8_t xenvironment_read, const uint8_t *xenvironment,
+    size_t xenvironment_count, uint8_t host_read, const uint8_t *host, size_t host_count, const uint8_t *shelf,
+    size_t shelf_count, size_t file, const uint8_t *name, size_t name_count, const uint8_t *class_name,
+    size_t class_count, uint8_t *struck, size_t struck_count, uint16_t *contents, size_t contents_count,
+    uint8_t *bodies, size_t bodies_count, uint16_t *contents_without, size_t contents_without_count,
+    uint8_t *bodies_without, size_t bodies_without_count, uint64_t *with_it, uint64_t *without);
 
 #ifdef __cplusplus
 }

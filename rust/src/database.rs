@@ -1,7 +1,7 @@
 //! A database: read from a text, and looked up.
 
 use crate::error::{Error, NotANumber, ValueError};
-use crate::ffi::{self, Image, ImageMut, Question};
+use crate::ffi::{self, Image, ImageMut, Question, Room};
 use crate::limits::{BODIES_BYTES, CONTENTS_WORDS};
 use crate::Archive;
 use std::fmt;
@@ -16,8 +16,9 @@ const NOT_A_NUMBER: u64 = 65_534;
 
 /// A database of X resources.
 ///
-/// It is made from a text by [`new_from_data`](Self::new_from_data), or with files for its includes by
-/// [`new_from_data_with_archive`](Self::new_from_data_with_archive). It owns its memory, some 35 kilobytes.
+/// It is made from a text by [`new_from_data`](Self::new_from_data), with files for its includes by
+/// [`new_from_data_with_archive`](Self::new_from_data_with_archive), or from the default places of X by
+/// [`new_from_default`](Self::new_from_default). It owns its memory, some 35 kilobytes.
 ///
 /// # Queries
 ///
@@ -69,8 +70,13 @@ impl Database {
     /// # Ok::<(), Box<dyn std::error::Error>>(())
     /// ```
     pub fn new_from_data_with_archive(data: &[u8], archive: impl AsRef<[u8]>) -> Result<Self, Error> {
+        Self::read(|contents, bodies| ffi::read(data, archive.as_ref(), contents, bodies))
+    }
+
+    /// The database that a reading call leaves in the buffers that it is given.
+    pub(crate) fn read(call: impl FnOnce(&mut [u16], &mut [u8]) -> u64) -> Result<Self, Error> {
         let mut database = Self::default();
-        let answer = ffi::read(data, archive.as_ref(), &mut database.contents, &mut database.bodies);
+        let answer = call(&mut database.contents, &mut database.bodies);
         if answer & 0xFFFF != FOUND {
             return Err(Error::of_answer(answer));
         }
@@ -269,8 +275,19 @@ impl Database {
         resource_name: &str,
         resource_class: &str,
     ) -> Result<Option<Comparison>, Error> {
+        let call = |question: Question, room: Room| ffi::compare_without(data, question, room);
+        Self::compare(call, archive, file, resource_name, resource_class)
+    }
+
+    /// What a comparing call answers to a query, with a file of an archive and without it.
+    pub(crate) fn compare(
+        call: impl FnOnce(Question, Room) -> u64,
+        archive: &Archive,
+        file: &str,
+        resource_name: &str,
+        resource_class: &str,
+    ) -> Result<Option<Comparison>, Error> {
         let question = Question {
-            text: data,
             archive: archive.as_bytes(),
             // A name that is not there gets a number that no file has: the library says so, after its other refusals.
             file: archive.names().position(|name| name == file).unwrap_or(archive.len()),
@@ -280,9 +297,14 @@ impl Database {
         let (mut first, mut second) = (Self::default(), Self::default());
         let mut struck = vec![0; archive.as_bytes().len()];
         let (mut with_it, mut without) = (NONE, NONE);
-        let answer =
-            ffi::compare_without(question, &mut struck, first.image_mut(), second.image_mut(), &mut with_it, &mut without);
-        match answer {
+        let room = Room {
+            struck: &mut struck,
+            first: first.image_mut(),
+            second: second.image_mut(),
+            with_it: &mut with_it,
+            without: &mut without,
+        };
+        match call(question, room) {
             FOUND => {}
             NONE => return Ok(None),
             refused => return Err(Error::of_answer(refused)),

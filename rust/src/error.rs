@@ -10,7 +10,7 @@ use std::fmt;
 pub enum Error {
     /// The buffers of a reading are too short. The buffers of a [`Database`](crate::Database) never are.
     ShortBuffers = 1,
-    /// The main text has more than [`TEXT_BYTES`](limits::TEXT_BYTES).
+    /// The text has more than [`TEXT_BYTES`](limits::TEXT_BYTES): a main text, or one that a start-up uses.
     LongText = 2,
     /// The archive is not laid out as one. An [`Archive`](crate::Archive) always is.
     BadArchive = 3,
@@ -64,7 +64,7 @@ impl fmt::Display for Error {
     fn fmt(&self, f: &mut fmt::Formatter) -> fmt::Result {
         match self {
             Error::ShortBuffers => write!(f, "buffers too short for a database"),
-            Error::LongText => write!(f, "a main text of more than {} bytes", limits::TEXT_BYTES),
+            Error::LongText => write!(f, "a text of more than {} bytes", limits::TEXT_BYTES),
             Error::BadArchive => write!(f, "an archive that is not laid out as one"),
             Error::ManyOpens => write!(f, "included files are read more than {} times", limits::OPENS),
             Error::ManyEntryParts => write!(f, "an entry of more than {} parts", limits::ENTRY_PARTS),

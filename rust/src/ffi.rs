@@ -2,6 +2,8 @@
 
 #![allow(unsafe_code)]
 
+use crate::StartUp;
+
 /// A lookup but `resource_manager_get_value`. A slice passes as a pointer and a count of elements.
 type Lookup = unsafe extern "C" fn(
     contents: *const u16,
@@ -113,6 +115,69 @@ extern "C" {
         with_it: *mut u64,
         without: *mut u64,
     ) -> u64;
+
+    fn resource_manager_read_default(
+        property_format: u8,
+        property: *const u8,
+        property_count: usize,
+        xresources_read: u8,
+        xresources: *const u8,
+        xresources_count: usize,
+        xdefaults_read: u8,
+        xdefaults: *const u8,
+        xdefaults_count: usize,
+        xenvironment_set: u8,
+        xenvironment_read: u8,
+        xenvironment: *const u8,
+        xenvironment_count: usize,
+        host_read: u8,
+        host: *const u8,
+        host_count: usize,
+        shelf: *const u8,
+        shelf_count: usize,
+        contents: *mut u16,
+        contents_count: usize,
+        bodies: *mut u8,
+        bodies_count: usize,
+    ) -> u64;
+
+    fn resource_manager_compare_default_without(
+        property_format: u8,
+        property: *const u8,
+        property_count: usize,
+        xresources_read: u8,
+        xresources: *const u8,
+        xresources_count: usize,
+        xdefaults_read: u8,
+        xdefaults: *const u8,
+        xdefaults_count: usize,
+        xenvironment_set: u8,
+        xenvironment_read: u8,
+        xenvironment: *const u8,
+        xenvironment_count: usize,
+        host_read: u8,
+        host: *const u8,
+        host_count: usize,
+        shelf: *const u8,
+        shelf_count: usize,
+        file: usize,
+        name: *const u8,
+        name_count: usize,
+        class: *const u8,
+        class_count: usize,
+        struck: *mut u8,
+        struck_count: usize,
+        contents: *mut u16,
+        contents_count: usize,
+        bodies: *mut u8,
+        bodies_count: usize,
+        contents_without: *mut u16,
+        contents_without_count: usize,
+        bodies_without: *mut u8,
+        bodies_without_count: usize,
+        with_it: *mut u64,
+        without: *mut u64,
+    ) -> u64;
 }
 
 /// The two buffers of a database image.
@@ -128,14 +193,32 @@ pub(crate) struct ImageMut<'a> {
     pub(crate) bodies: &'a mut [u8],
 }
 
-/// What a comparison takes: a text, an archive, the number of a file in it, and a query.
+/// What a comparison takes beside texts: an archive, the number of a file in it, and a query.
 #[derive(Clone, Copy)]
 pub(crate) struct Question<'a> {
-    pub(crate) text: &'a [u8],
     pub(crate) archive: &'a [u8],
     pub(crate) file: usize,
     pub(crate) name: &'a [u8],
     pub(crate) class: &'a [u8],
+}
+
+/// What a comparison writes: the archive without the file, the images of both readings, and the answers of both lookups.
+pub(crate) struct Room<'a> {
+    pub(crate) struck: &'a mut [u8],
+    pub(crate) first: ImageMut<'a>,
+    pub(crate) second: ImageMut<'a>,
+    pub(crate) with_it: &'a mut u64,
+    pub(crate) without: &'a mut u64,
+}
+
+/// A text as it is lent; an empty one if it could not be read.
+fn lent(text: &Option<Vec<u8>>) -> &[u8] {
+    text.as_deref().unwrap_or_default()
+}
+
+/// A flag: whether a text could be read.
+fn is_read(text: &Option<Vec<u8>>) -> u8 {
+    u8::from(text.is_some())
 }
 
 /// 0 in bits 0 to 15, entries in bits 16 to 31 and opens from bit 32 on; or the refusal's number alone.
@@ -235,21 +318,93 @@ pub(crate) fn get_value(Image { contents, bodies }: Image, name: &[u8], class: &
 }
 
 /// 0 with the answers of both lookups, as `get_bytes` gives them, in `with_it` and `without`; 65535 if there is no such
-/// file, or the refusal's number, with both as they were. `struck` is room for the archive without the file.
-pub(crate) fn compare_without(
-    Question { text, archive, file, name, class }: Question,
-    struck: &mut [u8],
-    first: ImageMut,
-    second: ImageMut,
-    with_it: &mut u64,
-    without: &mut u64,
-) -> u64 {
+/// file, or the refusal's number, with both as they were.
+pub(crate) fn compare_without(text: &[u8], Question { archive, file, name, class }: Question, room: Room) -> u64 {
+    let Room { struck, first, second, with_it, without } = room;
     // SAFETY: each pointer and count are those of a slice that is borrowed for the call, from `struck` on for writing, and
     // the last two are numbers that are so borrowed. The call is proved to stay within them and to keep nothing.
     unsafe {
         resource_manager_compare_without(
             text.as_ptr(),
             text.len(),
+            archive.as_ptr(),
+            archive.len(),
+            file,
+            name.as_ptr(),
+            name.len(),
+            class.as_ptr(),
+            class.len(),
+            struck.as_mut_ptr(),
+            struck.len(),
+            first.contents.as_mut_ptr(),
+            first.contents.len(),
+            first.bodies.as_mut_ptr(),
+            first.bodies.len(),
+            second.contents.as_mut_ptr(),
+            second.contents.len(),
+            second.bodies.as_mut_ptr(),
+            second.bodies.len(),
+            with_it,
+            without,
+        )
+    }
+}
+
+/// As `read`, of the texts that a start-up uses.
+pub(crate) fn read_default(start_up: &StartUp, archive: &[u8], contents: &mut [u16], bodies: &mut [u8]) -> u64 {
+    let StartUp { property, xresources, xdefaults, xenvironment_set, xenvironment, host } = start_up;
+    // SAFETY: as for `read`.
+    unsafe {
+        resource_manager_read_default(
+            property.format,
+            property.value.as_ptr(),
+            property.value.len(),
+            is_read(xresources),
+            lent(xresources).as_ptr(),
+            lent(xresources).len(),
+            is_read(xdefaults),
+            lent(xdefaults).as_ptr(),
+            lent(xdefaults).len(),
+            u8::from(*xenvironment_set),
+            is_read(xenvironment),
+            lent(xenvironment).as_ptr(),
+            lent(xenvironment).len(),
+            is_read(host),
+            lent(host).as_ptr(),
+            lent(host).len(),
+            archive.as_ptr(),
+            archive.len(),
+            contents.as_mut_ptr(),
+            contents.len(),
+            bodies.as_mut_ptr(),
+            bodies.len(),
+        )
+    }
+}
+
+/// As `compare_without`, of the texts that a start-up uses.
+pub(crate) fn compare_default_without(start_up: &StartUp, Question { archive, file, name, class }: Question, room: Room) -> u64 {
+    let StartUp { property, xresources, xdefaults, xenvironment_set, xenvironment, host } = start_up;
+    let Room { struck, first, second, with_it, without } = room;
+    // SAFETY: as for `compare_without`.
+    unsafe {
+        resource_manager_compare_default_without(
+            property.format,
+            property.value.as_ptr(),
+            property.value.len(),
+            is_read(xresources),
+            lent(xresources).as_ptr(),
+            lent(xresources).len(),
+            is_read(xdefaults),
+            lent(xdefaults).as_ptr(),
+            lent(xdefaults).len(),
+            u8::from(*xenvironment_set),
+            is_read(xenvironment),
+            lent(xenvironment).as_ptr(),
+            lent(xenvironment).len(),
+            is_read(host),
+            lent(host).as_ptr(),
+            lent(host).len(),
             archive.as_ptr(),
             archive.len(),
             file,
@@ -324,22 +479,22 @@ mod tests {
         no_image(Image { contents: &contents, bodies: &bodies });
     }
 
+    const ARCHIVE: &[u8] = b"\x01\0\x01\0\x03\0pa:1";
+
     /// Compares without the file, with buffers so much too short.
-    fn compare(file: usize, short: [usize; 5]) -> (u64, u64, u64) {
-        let archive = b"\x01\0\x01\0\x03\0pa:1";
-        let question = Question { text: b"#include \"p\"\na*b:2", archive, file, name: b"a", class: b"" };
+    fn compared(call: impl FnOnce(Question, Room) -> u64, file: usize, short: [usize; 5]) -> (u64, u64, u64) {
+        let question = Question { archive: ARCHIVE, file, name: b"a", class: b"" };
         let (mut contents, mut bodies) = buffers(CONTENTS_WORDS - short[0], BODIES_BYTES - short[1]);
         let (mut contents_without, mut bodies_without) = buffers(CONTENTS_WORDS - short[2], BODIES_BYTES - short[3]);
-        let mut struck = vec![0xA5; archive.len() - short[4]];
+        let mut struck = vec![0xA5; ARCHIVE.len() - short[4]];
         let (mut with_it, mut without) = (7, 7);
         let first = ImageMut { contents: &mut contents, bodies: &mut bodies };
         let second = ImageMut { contents: &mut contents_without, bodies: &mut bodies_without };
-        let answer = compare_without(question, &mut struck, first, second, &mut with_it, &mut without);
-        (answer, with_it, without)
+        let room = Room { struck: &mut struck, first, second, with_it: &mut with_it, without: &mut without };
+        (call(question, room), with_it, without)
     }
 
-    #[test]
-    fn a_comparison_in_buffers_just_long_enough_and_one_short() {
+    fn just_long_enough_and_one_short(compare: impl Fn(usize, [usize; 5]) -> (u64, u64, u64)) {
         assert_eq!(compare(0, [0; 5]), (0, 2 << 16 | 1 << 32, 65535));
         assert_eq!(compare(1, [0; 5]), (65535, 7, 7));
         assert_eq!(compare(usize::MAX, [0; 5]), (65535, 7, 7));
@@ -348,6 +503,41 @@ mod tests {
             short[place] = 1;
             assert_eq!(compare(0, short), (1, 7, 7), "{short:?}");
         }
+    }
+
+    #[test]
+    fn a_comparison_in_buffers_just_long_enough_and_one_short() {
+        let text = b"#include \"p\"\na*b:2";
+        just_long_enough_and_one_short(|file, short| {
+            compared(|question, room| compare_without(text, question, room), file, short)
+        });
+    }
+
+    #[test]
+    fn a_comparison_of_a_start_up_in_buffers_just_long_enough_and_one_short() {
+        let start_up = start_up(b"#include \"p\"\na*b:2", b"b:3");
+        let call = |question: Question, room: Room| compare_default_without(&start_up, question, room);
+        just_long_enough_and_one_short(|file, short| compared(call, file, short));
+    }
+
+    fn start_up(xresources: &[u8], host: &[u8]) -> StartUp {
+        StartUp { xresources: Some(xresources.to_vec()), host: Some(host.to_vec()), ..StartUp::default() }
+    }
+
+    #[test]
+    fn a_start_up_in_buffers_just_long_enough_and_one_short() {
+        let start_up = start_up(b"#include \"p\"\nb:2", b"#include \"p\"");
+        for (words, bytes) in [(CONTENTS_WORDS - 1, BODIES_BYTES), (CONTENTS_WORDS, BODIES_BYTES - 1), (0, 0)] {
+            let (mut contents, mut bodies) = buffers(words, bytes);
+            assert_eq!(read_default(&start_up, ARCHIVE, &mut contents, &mut bodies), 1);
+            assert_eq!((contents, bodies), buffers(words, bytes));
+        }
+        let (mut contents, mut bodies) = buffers(CONTENTS_WORDS + 1, BODIES_BYTES + 1);
+        assert_eq!(read_default(&start_up, ARCHIVE, &mut contents, &mut bodies), 3 << 16 | 2 << 32);
+        assert_eq!(contents[..12], [3, 9, 0, 2, 1, 3, 2, 1, 6, 2, 1, 0]);
+        assert_eq!(&bodies[..10], b".a1.b2.a1\0");
+        assert_eq!((contents[CONTENTS_WORDS - 1], contents[CONTENTS_WORDS]), (0, 0xA5A5));
+        assert_eq!((bodies[BODIES_BYTES - 1], bodies[BODIES_BYTES]), (0, 0xA5));
     }
 
     fn no_image(image: Image) {

@@ -20,17 +20,21 @@
 //! | `Database::new_from_data(data)` | `Database::new_from_data(data)?` |
 //! | `Database::new_from_data_with_base_directory(data, directory)` | `Database::new_from_data_with_archive(data, Archive::from_directory(directory)?)?` |
 //! | `get_bytes`, `get_string`, `get_bool`, `get_value` | the same |
-//! | `new_from_get_property_reply(reply)` | `new_from_data(&reply.value)?`, if `reply.format` is 8 and the value is not empty |
-//! | `new_from_default` | none: the program says what is read |
+//! | `Database::new_from_default(&reply, hostname)` | `Database::new_from_default(&reply, hostname)?`, or with includes `Database::new_from_default_with_archive(&reply, hostname, archive)?` |
+//! | `Database::new_from_get_property_reply(&reply)` | `Database::new_from_get_property_reply(&reply)?` |
+//! | `reply`, as the X server gave it | `GetPropertyReply { format: reply.format, value: reply.value }` |
+//! | `Database::GET_RESOURCE_DATABASE` | x11rb's own, under its full path: the request is x11rb's to send |
 //!
 //! What x11rb has no limits for has [`limits`] here, and what is past them is refused by an [`Error`]. A reading returns
-//! it. A lookup panics with it, or returns it from the `try_get_` methods: it never passes for "no value". No file is
-//! opened in a reading: what a text includes is in an [`Archive`].
+//! it. A lookup panics with it, or returns it from the `try_get_` methods: it never passes for "no value". No included file
+//! is opened: what a text includes is in an [`Archive`]. [`Database::new_from_default`] opens the files of the default
+//! places, as x11rb does, and [`StartUp::texts`] says which of these texts count.
 //!
 //! # Proved, and not
 //!
 //! The library's calls are proved to meet their contracts. This crate is Rust as any other, and is tested: it owns the
-//! buffers, lays archives out and takes answers apart. All its unsafe code is in one module, the calls themselves.
+//! buffers, lays archives out, reads the files of the default places and takes answers apart. All its unsafe code is in one
+//! module, the calls themselves.
 //!
 //! # Building
 //!
@@ -45,11 +49,13 @@ mod directory;
 mod error;
 mod ffi;
 pub mod limits;
+mod start_up;
 
 pub use archive::{Archive, ArchiveError, ArchiveErrorKind};
 pub use database::{Comparison, Database, Entries, Entry};
 pub use directory::DirectoryError;
 pub use error::{Error, NotANumber, ValueError};
+pub use start_up::{GetPropertyReply, Source, StartUp};
 
 /// The example of the README is a test too.
 #[cfg(doctest)]

@@ -1,6 +1,6 @@
 //! The most that is accepted. One more is refused, with the [`Error`](crate::Error) named.
 
-/// Bytes of a main text ([`LongText`](crate::Error::LongText)).
+/// Bytes of a main text, and of each text that a start-up uses ([`LongText`](crate::Error::LongText)).
 pub const TEXT_BYTES: usize = 32_768;
 
 /// Bytes of an archive ([`BadArchive`](crate::Error::BadArchive)).

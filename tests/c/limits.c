@@ -17,9 +17,9 @@
 #define STACK (16 * PAGE) /* what the header says that a call may take */
 
 /* Where the room for each thing that is lent ends. */
-static uint8_t *text_end, *shelf_end, *contents_end, *bodies_end, *name_end, *class_end;
+static uint8_t *text_end, *second_end, *shelf_end, *contents_end, *bodies_end, *name_end, *class_end;
 static uint8_t *struck_end, *contents_without_end, *bodies_without_end, *default_end;
-static size_t text_count, shelf_count;
+static size_t text_count, second_count, shelf_count;
 static size_t contents_count = RESOURCE_MANAGER_CONTENTS_WORDS, bodies_count = RESOURCE_MANAGER_BODIES_BYTES;
 static int checks;
 
@@ -60,17 +60,27 @@ static uint8_t *lent_bodies(void)
     return bodies_end - bodies_count;
 }
 
-/* A text of `times` times `piece` and then `last`. */
-static void set_text(const char *piece, size_t times, const char *last)
+/* Puts `times` times `piece` and then `last` before `end`, and gives how many bytes these are. */
+static size_t put_before(uint8_t *end, const char *piece, size_t times, const char *last)
 {
-    size_t size = strlen(piece), n;
-    uint8_t *at;
-    text_count = size * times + strlen(last);
-    at = text_end - text_count;
+    size_t size = strlen(piece), count = size * times + strlen(last), n;
+    uint8_t *at = end - count;
     for (n = 0; n < times; n++) {
         memcpy(at + n * size, piece, size);
     }
     memcpy(at + times * size, last, strlen(last));
+    return count;
+}
+
+static void set_text(const char *piece, size_t times, const char *last)
+{
+    text_count = put_before(text_end, piece, times, last);
+}
+
+/* The second text of a start-up. */
+static void set_second(const char *piece, size_t times, const char *last)
+{
+    second_count = put_before(second_end, piece, times, last);
 }
 
 struct file {
@@ -133,8 +143,76 @@ static char *parts(size_t count, const char *last)
     return all;
 }
 
+/* The texts of a start-up, and a main text: as what a text is lent. */
+enum { PROPERTY, XRESOURCES, XDEFAULTS, XENVIRONMENT, HOST, MAIN };
+static int lent_as = MAIN, second_as;
+
+/* A text of a start-up. Its flag says whether it could be read, or is the property's format. */
+static struct {
+    uint8_t flag;
+    const uint8_t *start;
+    size_t count;
+} texts[MAIN];
+static uint8_t xenvironment_set;
+
+/* No text is used, and none is there to be looked at: each begins at a fence, and is too long. */
+static void lend_none(void)
+{
+    int n;
+    for (n = 0; n < MAIN; n++) {
+        texts[n].flag = 0;
+        texts[n].start = text_end;
+        texts[n].count = RESOURCE_MANAGER_TEXT_BYTES + 1;
+    }
+    xenvironment_set = 1;
+}
+
+/* Has a text used. Those that stand back for it could be read too. */
+static void lend(int as, const uint8_t *start, size_t count)
+{
+    int n;
+    if (as < XENVIRONMENT) {
+        for (n = as + 1; n < XENVIRONMENT; n++) {
+            texts[n].flag = 1;
+        }
+    } else {
+        texts[XENVIRONMENT].flag = texts[HOST].flag = 1;
+        xenvironment_set = as == XENVIRONMENT;
+    }
+    texts[as].flag = as == PROPERTY ? 8 : 1;
+    texts[as].start = start;
+    texts[as].count = count;
+}
+
+static uint64_t start_up(void)
+{
+    return resource_manager_read_default(
+        texts[PROPERTY].flag, texts[PROPERTY].start, texts[PROPERTY].count, texts[XRESOURCES].flag,
+        texts[XRESOURCES].start, texts[XRESOURCES].count, texts[XDEFAULTS].flag, texts[XDEFAULTS].start,
+        texts[XDEFAULTS].count, xenvironment_set, texts[XENVIRONMENT].flag, texts[XENVIRONMENT].start,
+        texts[XENVIRONMENT].count, texts[HOST].flag, texts[HOST].start, texts[HOST].count, shelf_end - shelf_count,
+        shelf_count, lent_contents(), contents_count, lent_bodies(), bodies_count);
+}
+
+/* Lends the text alone to a start-up, or with the second text after it. */
+static void lend_one(void)
+{
+    lend_none();
+    lend(lent_as, text_end - text_count, text_count);
+}
+
+static void lend_both(void)
+{
+    lend_one();
+    lend(second_as, second_end - second_count, second_count);
+}
+
 static uint64_t read_it(void)
 {
+    if (lent_as != MAIN) {
+        lend_one();
+        return start_up();
+    }
     return resource_manager_read(text_end - text_count, text_count, shelf_end - shelf_count, shelf_count,
                                  lent_contents(), contents_count, lent_bodies(), bodies_count);
 }
@@ -189,8 +267,8 @@ static lookup *const lookups[] = {resource_manager_get_bytes, resource_manager_g
 static size_t short_struck, short_contents, short_bodies;
 static uint64_t with_it, without;
 
-/* Compares with the shelf, and without one of its files. */
-static uint64_t compare(size_t file, const char *name)
+/* Compares with the shelf, and without one of its files; a start-up, as its texts are lent. */
+static uint64_t compare_lent(size_t file, const char *name)
 {
     size_t struck = shelf_count - short_struck;
     size_t words = RESOURCE_MANAGER_CONTENTS_WORDS - short_contents;
@@ -198,10 +276,28 @@ static uint64_t compare(size_t file, const char *name)
     uint8_t *lent_name = name_end - strlen(name);
     memcpy(lent_name, name, strlen(name));
     with_it = without = 77;
+    if (lent_as != MAIN) {
+        return resource_manager_compare_default_without(
+            texts[PROPERTY].flag, texts[PROPERTY].start, texts[PROPERTY].count, texts[XRESOURCES].flag,
+            texts[XRESOURCES].start, texts[XRESOURCES].count, texts[XDEFAULTS].flag, texts[XDEFAULTS].start,
+            texts[XDEFAULTS].count, xenvironment_set, texts[XENVIRONMENT].flag, texts[XENVIRONMENT].start,
+            texts[XENVIRONMENT].count, texts[HOST].flag, texts[HOST].start, texts[HOST].count, shelf_end - shelf_count,
+            shelf_count, file, lent_name, strlen(name), class_end, 0, struck_end - struck, struck, lent_contents(),
+            contents_count, lent_bodies(), bodies_count, (uint16_t *)(void *)contents_without_end - words, words,
+            bodies_without_end - bytes, bytes, &with_it, &without);
+    }
     return resource_manager_compare_without(
         text_end - text_count, text_count, shelf_end - shelf_count, shelf_count, file, lent_name, strlen(name),
         class_end, 0, struck_end - struck, struck, lent_contents(), contents_count, lent_bodies(), bodies_count,
         (uint16_t *)(void *)contents_without_end - words, words, bodies_without_end - bytes, bytes, &with_it, &without);
+}
+
+static uint64_t compare(size_t file, const char *name)
+{
+    if (lent_as != MAIN) {
+        lend_one();
+    }
+    return compare_lent(file, name);
 }
 
 static uint64_t accepted(size_t entries, size_t opens)
@@ -491,7 +587,144 @@ static void refused_comparisons(void)
     refused_comparison("a refused reading", RESOURCE_MANAGER_MANY_ENTRIES, 0, "a");
 }
 
-static void *all(void *unused)
+/* ---- A start-up of two texts */
+
+/* Every text has an entry whose key is the text's letter. Used are those with these letters. */
+static void uses(const char *what, const char *letters)
+{
+    size_t n;
+    set_shelf(NULL, 0);
+    expect(what, start_up(), accepted(strlen(letters), 0));
+    for (n = 0; n < strlen(letters); n++) {
+        expect("the letter of a text that is used", lent_bodies()[2 * n + 1], (uint8_t)letters[n]);
+    }
+}
+
+static void which_texts(void)
+{
+    static const uint8_t formats[] = {0, 7, 9, 16, 32, 255}, flags[] = {1, 2, 128, 255};
+    const uint8_t *p = (const uint8_t *)"p:", *r = (const uint8_t *)"r:", *d = (const uint8_t *)"d:";
+    const uint8_t *x = (const uint8_t *)"x:", *h = (const uint8_t *)"h:";
+    size_t n;
+    lend_none();
+    uses("no text could be read", "");
+    lend(HOST, h, 2);
+    uses("the host's text alone", "h");
+    lend(XDEFAULTS, d, 2);
+    uses(".Xdefaults where .Xresources could not be read", "dh");
+    lend(XRESOURCES, r, 0);
+    uses("an empty .Xresources", "h");
+    lend(XRESOURCES, r, 2);
+    uses(".Xresources before .Xdefaults", "rh");
+    lend(PROPERTY, p, 0);
+    uses("an empty property", "rh");
+    lend(PROPERTY, p, 2);
+    uses("the property before .Xresources", "ph");
+    for (n = 0; n < sizeof formats; n++) {
+        texts[PROPERTY].flag = formats[n];
+        uses("a property of another format", "rh");
+    }
+    lend(XENVIRONMENT, x, 2);
+    uses("the text that XENVIRONMENT names", "rx");
+    texts[XENVIRONMENT].flag = 0;
+    uses("XENVIRONMENT set, and its text not read", "r");
+    for (n = 0; n < sizeof flags; n++) {
+        texts[XRESOURCES].flag = texts[XENVIRONMENT].flag = xenvironment_set = flags[n];
+        uses("flags that say yes", "rx");
+        texts[XRESOURCES].flag = xenvironment_set = 0;
+        texts[XDEFAULTS].flag = texts[HOST].flag = flags[n];
+        uses("flags that say yes and no", "dh");
+        lend(XENVIRONMENT, x, 2);
+    }
+}
+
+static void expect_both(const char *what, uint64_t wanted)
+{
+    lend_both();
+    expect(what, start_up(), wanted);
+}
+
+/* Limits that only both texts together pass. */
+static void over_both(void)
+{
+    const struct file files[] = {{"p", "#include \"q\"\n#include \"q\"\n#include \"q\""}, {"q", ""}};
+    set_shelf(files, 2);
+    set_text("#include \"p\"\n", RESOURCE_MANAGER_OPENS / 8, "");
+    set_second("#include \"p\"\n", RESOURCE_MANAGER_OPENS / 8, "");
+    expect_both("the most opens of both", accepted(0, RESOURCE_MANAGER_OPENS));
+    set_second("#include \"p\"\n", RESOURCE_MANAGER_OPENS / 8, "#include \"q\"");
+    expect_both("an open more", RESOURCE_MANAGER_MANY_OPENS);
+    set_text("a:\n", RESOURCE_MANAGER_ENTRIES - 1, "");
+    set_second("", 0, "a:\n");
+    expect_both("the most entries of both", accepted(RESOURCE_MANAGER_ENTRIES, 0));
+    set_second("", 0, "a:\na:");
+    expect_both("an entry more", RESOURCE_MANAGER_MANY_ENTRIES);
+    expect("what it leaves", lent_contents()[0], 0);
+    set_text("", 0, repeated("a:", 'z', 20000 - 2, ""));
+    set_second("", 0, repeated("b:", 'z', RESOURCE_MANAGER_BODIES_BYTES - 20002, ""));
+    expect_both("a store that both fill", accepted(2, 0));
+    set_second("", 0, repeated("b:", 'z', RESOURCE_MANAGER_BODIES_BYTES - 20001, ""));
+    expect_both("a byte more", RESOURCE_MANAGER_FULL_STORE);
+}
+
+/* Limits that each text has for itself, and the order in which both are told. */
+static void of_each(void)
+{
+    const struct file deep = {"p", "#include \"p\"\na:1"};
+    set_shelf(&deep, 1);
+    set_text("", 0, "#include \"p\"");
+    set_second("", 0, "#include \"p\"");
+    expect_both("the deepest include of each", accepted(2 * RESOURCE_MANAGER_DEPTH, 2 * RESOURCE_MANAGER_DEPTH));
+    set_second("", 0, parts(RESOURCE_MANAGER_ENTRY_PARTS + 1, ":"));
+    expect_both("a part more in the second text", RESOURCE_MANAGER_MANY_ENTRY_PARTS);
+    set_text("a:\n", RESOURCE_MANAGER_ENTRIES + 1, "");
+    expect_both("an entry more in the first before it", RESOURCE_MANAGER_MANY_ENTRIES);
+    set_second("\n", RESOURCE_MANAGER_TEXT_BYTES + 1, "");
+    expect_both("a second text one byte longer", RESOURCE_MANAGER_LONG_TEXT);
+    shelf_count = 0;
+    expect_both("before a shelf of no bytes", RESOURCE_MANAGER_LONG_TEXT);
+    second_count--;
+    expect_both("a shelf of no bytes", RESOURCE_MANAGER_BAD_SHELF);
+}
+
+/* A text ends at its own end. */
+static void ends(void)
+{
+    static const struct {
+        const char *text;
+        size_t entries;
+    } unfinished[] = {{"a:1\\", 1}, {"a:\\1", 1}, {"a:\\12", 1}, {"a:", 1}, {"a", 0},
+                      {"a.", 0},    {"!", 0},     {"#", 0},       {"\n", 0}, {"#include \"p", 0}};
+    size_t n;
+    set_shelf(NULL, 0);
+    set_second("", 0, "7b:2");
+    for (n = 0; n < sizeof unfinished / sizeof unfinished[0]; n++) {
+        set_text("", 0, unfinished[n].text);
+        expect_both(unfinished[n].text, accepted(unfinished[n].entries + 1, 0));
+        expect("the next text", resource_manager_length_of(ask(resource_manager_get_bytes, "7b", "")), 1);
+    }
+}
+
+/* A file that only the second text includes, and one that both do. */
+static void comparisons_of_both(void)
+{
+    const struct file files[] = {{"p", "a:first"}, {"q", "b:\na:2"}};
+    set_shelf(files, 2);
+    set_text("", 0, "#include \"p\"");
+    set_second("", 0, "#include \"q\"");
+    lend_both();
+    expect("a file struck off", compare_lent(1, "a"), RESOURCE_MANAGER_OK);
+    expect("the place with it", resource_manager_place_of(with_it), 2 + 5 + 2 + 2);
+    expect("the place without it", resource_manager_place_of(without), 2);
+    expect("the length without it", resource_manager_length_of(without), 5);
+    set_second("", 0, "#include \"p\"\n#include \"q\"");
+    lend_both();
+    expect("a file of both texts struck off", compare_lent(0, "a"), RESOURCE_MANAGER_OK);
+    expect("the place with it", resource_manager_place_of(with_it), 2 * (2 + 5) + 2 + 2);
+    expect("the place without it", resource_manager_place_of(without), 2 + 2);
+}
+
+static void readings(void)
 {
     short_buffers();
     long_text();
@@ -503,13 +736,36 @@ static void *all(void *unused)
     entry_parts();
     entries();
     store();
+    comparisons();
+    refused_comparisons();
+}
+
+/* The first text is lent as `lent_as`, the second in both ways. */
+static void chains(void)
+{
+    for (second_as = XENVIRONMENT; second_as < MAIN; second_as++) {
+        over_both();
+        of_each();
+        ends();
+        comparisons_of_both();
+    }
+}
+
+static void *all(void *unused)
+{
+    readings();
     queries();
     images();
     numbers();
     booleans();
     shows();
-    comparisons();
-    refused_comparisons();
+    which_texts();
+    for (lent_as = 0; lent_as < MAIN; lent_as++) {
+        readings();
+        if (lent_as < XENVIRONMENT) {
+            chains();
+        }
+    }
     return unused;
 }
 
@@ -517,11 +773,11 @@ int main(void)
 {
     pthread_attr_t small;
     pthread_t thread;
-    uint8_t **ends[] = {&text_end, &shelf_end, &contents_end, &bodies_end, &name_end, &class_end,
-                        &struck_end, &contents_without_end, &bodies_without_end, &default_end};
+    uint8_t **rooms[] = {&text_end, &second_end, &shelf_end, &contents_end, &bodies_end, &name_end, &class_end,
+                         &struck_end, &contents_without_end, &bodies_without_end, &default_end};
     size_t n;
-    for (n = 0; n < sizeof ends / sizeof ends[0]; n++) {
-        *ends[n] = fenced();
+    for (n = 0; n < sizeof rooms / sizeof rooms[0]; n++) {
+        *rooms[n] = fenced();
     }
     if (pthread_attr_init(&small) != 0 || pthread_attr_setstacksize(&small, STACK) != 0 ||
         pthread_create(&thread, &small, all, NULL) != 0 || pthread_join(thread, NULL) != 0) {

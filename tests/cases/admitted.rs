@@ -1,13 +1,14 @@
 //! Which readings and lookups document 01 admits to the run beside the Rust, and which of them the Rust
-//! can hold.
+//! can hold. Of chains those are admitted that do not name their own files, which stand beside the archive's.
 
+use crate::chains::names_own_file;
 use model::archive::judge;
 use model::limits::{Refusal, QUERY_BYTES, QUERY_PARTS, TEXT_BYTES};
 use model::line::{Binding, Part};
 use model::matching::{mark, positions, Position};
 use model::query::split;
 use model::reading::{read, Reading};
-use records::{Query, Source};
+use records::{Query, Source, Start};
 
 /// The Rust keeps every partial alignment of a key; past this many it is not asked.
 const MOST_ALIGNMENTS: u64 = 20_000;
@@ -18,14 +19,18 @@ pub type LeftOut = String;
 /// The model's reading of a source that document 01 admits to the run.
 pub fn admitted_reading(source: &Source) -> Result<Reading, LeftOut> {
     let refused = |refusal: Refusal| format!("readings refused by {}", refusal.number());
-    if source.text.len() > TEXT_BYTES {
+    let texts = source.texts();
+    if matches!(source.start, Start::Chain(_)) && texts.iter().chain([&&source.archive[..]]).any(|bytes| names_own_file(bytes)) {
+        return Err("chains that name their own files".to_string());
+    }
+    if texts.iter().any(|text| text.len() > TEXT_BYTES) {
         return Err(refused(Refusal::LongText));
     }
     let archive = judge(&source.archive).ok_or(refused(Refusal::BadArchive))?;
     if archive.has_file_as_folder() {
         return Err("archives with a file that is also a folder".to_string());
     }
-    let reading = read(&source.text, &archive).map_err(refused)?;
+    let reading = read(&texts, &archive).map_err(refused)?;
     if reading.met_odd_name {
         return Err("includes of names not built like an archive's".to_string());
     }

@@ -11,7 +11,7 @@ const NAMES: [&[u8]; 16] = [
 ];
 
 /// Draws a text of at most so many lines for a query.
-type Write = fn(&mut Draw, usize, &Query) -> Vec<u8>;
+pub(crate) type Write = fn(&mut Draw, usize, &Query) -> Vec<u8>;
 
 /// A main text with an archive, and a query with which many of their entries align.
 pub fn source(draw: &mut Draw) -> (Source, Query) {
@@ -31,13 +31,17 @@ fn source_of(draw: &mut Draw, write: Write) -> (Source, Query) {
         put_include(draw, &mut text, &names, b"");
         text.extend(write(draw, 2, &query));
     }
-    let file = |name: &Vec<u8>| File { name: name.clone(), body: body(draw, &names, name, &query, write) };
-    let files: Vec<File> = names.iter().map(file).collect();
-    (Source { text, archive: lay_out(&files) }, query)
+    (Source::text(text, archive(draw, &names, &query, write)), query)
+}
+
+/// An archive of files with these names that include each other.
+pub(crate) fn archive(draw: &mut Draw, names: &[Vec<u8>], query: &Query, write: Write) -> Vec<u8> {
+    let file = |name: &Vec<u8>| File { name: name.clone(), body: body(draw, names, name, query, write) };
+    lay_out(&names.iter().map(file).collect::<Vec<File>>())
 }
 
 /// One to five names in the order that an archive asks for.
-fn names(draw: &mut Draw) -> Vec<Vec<u8>> {
+pub(crate) fn names(draw: &mut Draw) -> Vec<Vec<u8>> {
     let reach = if draw.one_in(3) { NAMES.len() } else { 7 };
     let mut names = Vec::new();
     for _ in 0..draw.between(1, 5) {
@@ -71,7 +75,7 @@ fn body(draw: &mut Draw, names: &[Vec<u8>], name: &[u8], query: &Query, write: W
 }
 
 /// Puts an include on a line of its own; seldom one that misses being an include.
-fn put_include(draw: &mut Draw, text: &mut Vec<u8>, names: &[Vec<u8>], folder: &[u8]) {
+pub(crate) fn put_include(draw: &mut Draw, text: &mut Vec<u8>, names: &[Vec<u8>], folder: &[u8]) {
     if !text.is_empty() && !text.ends_with(b"\n") {
         text.push(b'\n');
     }

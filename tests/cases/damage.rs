@@ -1,6 +1,7 @@
 //! Damaged copies of good texts.
 
 use crate::draw::Draw;
+use records::{Source, Start};
 
 /// A copy with a few bytes changed, put in, taken out or doubled.
 pub fn damaged(draw: &mut Draw, text: &[u8]) -> Vec<u8> {
@@ -9,6 +10,12 @@ pub fn damaged(draw: &mut Draw, text: &[u8]) -> Vec<u8> {
         damage_once(draw, &mut text);
     }
     text
+}
+
+/// Damages the main text of a source.
+pub fn damage_text(draw: &mut Draw, source: &mut Source) {
+    let Start::Text(text) = &mut source.start else { return };
+    *text = damaged(draw, text);
 }
 
 fn damage_once(draw: &mut Draw, text: &mut Vec<u8>) {

@@ -1,13 +1,15 @@
-//! The seeded generator: main texts, archives and queries for the tests outside Rattle.
+//! The seeded generator: main texts, chains, archives and queries for the tests outside Rattle.
 
 pub mod admitted;
 pub mod archives;
+pub mod chains;
 pub mod crowded;
 pub mod damage;
 pub mod draw;
 pub mod limits;
 pub mod lookups;
 pub mod named;
+pub mod named_chains;
 pub mod readings;
 pub mod realistic;
 pub mod struck;

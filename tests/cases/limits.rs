@@ -13,7 +13,7 @@ pub struct Edge {
     pub queries: Vec<Query>,
 }
 
-fn edge(label: &'static str, source: Source, expected: Expected) -> Edge {
+pub(crate) fn edge(label: &'static str, source: Source, expected: Expected) -> Edge {
     Edge { label, source, expected, queries: Vec::new() }
 }
 
@@ -33,20 +33,20 @@ pub fn edges() -> Vec<Edge> {
 }
 
 /// As many copies of `piece`, with `joint` between.
-fn joined(piece: &[u8], times: usize, joint: &[u8]) -> Vec<u8> {
+pub(crate) fn joined(piece: &[u8], times: usize, joint: &[u8]) -> Vec<u8> {
     vec![piece.to_vec(); times].join(joint)
 }
 
-fn repeated(piece: &[u8], times: usize) -> Vec<u8> {
+pub(crate) fn repeated(piece: &[u8], times: usize) -> Vec<u8> {
     joined(piece, times, b"")
 }
 
-fn long_key(parts: usize) -> Vec<u8> {
+pub(crate) fn long_key(parts: usize) -> Vec<u8> {
     joined(b"a", parts, b".")
 }
 
 /// `a:` and a value of this many bytes: two bytes of key more in the store.
-fn long_value(length: usize) -> Vec<u8> {
+pub(crate) fn long_value(length: usize) -> Vec<u8> {
     [b"a:".to_vec(), vec![b'z'; length]].concat()
 }
 
@@ -206,10 +206,10 @@ fn archives() -> Vec<Edge> {
         names[..count].iter().map(|name| File { name: name.clone(), body: [name, b":1".as_slice()].concat() }).collect()
     };
     let one = |name: &[u8], body: &[u8]| File { name: name.to_vec(), body: body.to_vec() };
-    let laid = |text: &[u8], files: &[File]| Source { text: text.to_vec(), archive: lay_out(files) };
+    let laid = |text: &[u8], files: &[File]| Source::text(text.to_vec(), lay_out(files));
     let name = |length| vec![b'n'; length];
     let include = |name: &[u8]| [b"#include \"", name, b"\""].concat();
-    let bad = |label, bytes: &[u8]| edge(label, Source { text: b"a:".to_vec(), archive: bytes.to_vec() }, Err(3));
+    let bad = |label, bytes: &[u8]| edge(label, Source::text(b"a:".to_vec(), bytes.to_vec()), Err(3));
     let body = |length: usize| vec![b'!'; length];
     vec![
         edge("64 files", laid(&includes, &of(64)), Ok((64, 64))),
@@ -277,7 +277,7 @@ fn order_of_refusals() -> Vec<Edge> {
     let past = |first: &[u8], body: &[u8], last: &[u8]| Source::with(&lines(&[first, b"#include \"p\"", last]), &[(b"p", body)]);
     let twice: [(&[u8], &[u8]); 1] = [(b"p", b"#include \"p\"\n#include \"p\"")];
     vec![
-        edge("a long text before a bad archive", Source { text: repeated(b"\n", 32_769), archive: Vec::new() }, Err(2)),
+        edge("a long text before a bad archive", Source::text(repeated(b"\n", 32_769), Vec::new()), Err(2)),
         edge("17 parts in a 513th entry", then(&[&wide, b":".as_slice()].concat()), Err(5)),
         edge("a 513th entry past the store", past(&full, &long_value(32_000), b""), Err(6)),
         edge("17 parts past the store", past(b"", &long_value(32_760), &[&wide, b":".as_slice()].concat()), Err(5)),

@@ -2,7 +2,7 @@
 //! a string, a boolean and a number, random ones, and those at the limits.
 
 use crate::crowded;
-use crate::damage::damaged;
+use crate::damage::{damage_text, damaged};
 use crate::draw::Draw;
 use crate::limits::edges;
 use crate::named::{named, small};
@@ -10,7 +10,7 @@ use crate::readings::{on_each_word, Extent, Seen};
 use crate::texts::aligned_key;
 use crate::words::{each_word, keys, queries, words};
 use crate::{archives, realistic, texts};
-use model::archive::{judge, lay_out, strike};
+use model::archive::{judge, lay_out};
 use records::{Query, Source};
 
 /// Called with each source of a family, and what to look up in it.
@@ -184,10 +184,8 @@ fn struck_off(extent: Extent, ask: Ask) -> Seen {
     extent.draw("lookups with a file struck off", 2_000, |draw| {
         let (source, query) = archives::source(draw);
         let queries = and_others(draw, query);
-        (0..judge(&source.archive).expect("a good archive").files.len()).try_for_each(|which| {
-            let struck = Source { text: source.text.clone(), archive: strike(&source.archive, which) };
-            ask(&struck, &queries)
-        })
+        (0..judge(&source.archive).expect("a good archive").files.len())
+            .try_for_each(|which| ask(&source.struck(which), &queries))
     })
 }
 
@@ -219,7 +217,7 @@ fn damaged_copies(extent: Extent, ask: Ask) -> Seen {
                 files[which].body = damaged(draw, &files[which].body);
                 source.archive = lay_out(&files);
             }
-            _ => source.text = damaged(draw, &source.text),
+            _ => damage_text(draw, &mut source),
         }
         ask(&source, &and_others(draw, query))
     })

@@ -1,7 +1,7 @@
 //! Families of readings: all short texts and archives, random ones, and those at the limits.
 
 use crate::crowded;
-use crate::damage::damaged;
+use crate::damage::{damage_text, damaged};
 use crate::draw::Draw;
 use crate::limits::{edges, Edge};
 use crate::named::{named, small};
@@ -111,9 +111,7 @@ fn every_include_name(_: Extent, see: See) -> Seen {
 /// All archives of a few bytes: of no file, of one, and of two with nothing in them.
 fn every_short_archive(_: Extent, see: See) -> Seen {
     let mut try_each = |alphabet: &[u8], longest: usize| {
-        on_each_word(alphabet, longest, &mut |archive| {
-            see(&Source { text: b"#include \"a\"\nz:".to_vec(), archive: archive.to_vec() })
-        })
+        on_each_word(alphabet, longest, &mut |archive| see(&Source::text(b"#include \"a\"\nz:".to_vec(), archive.to_vec())))
     };
     try_each(b"\x00\x01a/.", 8)?;
     try_each(b"\x00\x01a", 12)
@@ -128,7 +126,7 @@ fn every_short_name(_: Extent, see: See) -> Seen {
     let all: Vec<u8> = (0..=255).collect();
     let mut named = |names: &[&[u8]]| {
         let include = [b"#include \"", names[names.len() - 1], b"\""].concat();
-        see(&Source { text: include, archive: lay_out(&names.iter().map(|name| file(name, b"a:")).collect::<Vec<_>>()) })
+        see(&Source::text(include, lay_out(&names.iter().map(|name| file(name, b"a:")).collect::<Vec<_>>())))
     };
     on_each_word(&all, 2, &mut |name| named(&[name]))?;
     on_each_word(b"a./-", 6, &mut |name| named(&[name]))?;
@@ -146,7 +144,7 @@ fn every_damage(_: Extent, see: See) -> Seen {
         lay_out(&[file(b"a", b"a:1"), file(b"a.b", b"#include \"a\""), file(b"b", b"")]),
     ];
     let text = b"#include \"p\"\n#include \"d/p\"\n#include \"a.b\"\nz:";
-    let mut see = |archive: Vec<u8>| see(&Source { text: text.to_vec(), archive });
+    let mut see = |archive: Vec<u8>| see(&Source::text(text.to_vec(), archive));
     for good in &goods {
         for at in 0..=good.len() {
             let (before, after) = good.split_at(at);
@@ -173,14 +171,14 @@ fn ring() -> Source {
     let files: Vec<File> = (0..64)
         .map(|n| file(format!("f{n:02}").as_bytes(), format!("a{n}:{n}\n#include \"f{:02}\"\n", (n + 1) % 64).as_bytes()))
         .collect();
-    Source { text: b"#include \"f00\"".to_vec(), archive: lay_out(&files) }
+    Source::text(b"#include \"f00\"".to_vec(), lay_out(&files))
 }
 
 /// As many files, each included by the one before it, and the last includes none.
 fn chain() -> Source {
     let link = |n: usize| if n < 63 { format!("#include \"f{:02}\"\na{n}:{n}", n + 1) } else { format!("a{n}:{n}") };
     let files: Vec<File> = (0..64).map(|n| file(format!("f{n:02}").as_bytes(), link(n).as_bytes())).collect();
-    Source { text: b"#include \"f00\"".to_vec(), archive: lay_out(&files) }
+    Source::text(b"#include \"f00\"".to_vec(), lay_out(&files))
 }
 
 /// The cases at the limits, with what each must give.
@@ -234,7 +232,7 @@ fn damaged_copies(extent: Extent, see: See) -> Seen {
             files[which].body = damaged(draw, &files[which].body);
             source.archive = lay_out(&files);
         } else {
-            source.text = damaged(draw, &source.text);
+            damage_text(draw, &mut source);
         }
         see(&source)
     })

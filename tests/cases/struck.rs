@@ -16,13 +16,13 @@ pub const FAMILIES: [(&str, Family); 4] =
     [("archives", random), ("few-values", few_values), ("realistic", like_real_files), ("near-limits", near_the_limits)];
 
 /// Strikes off each file of a source.
-fn each_file(source: &Source, queries: &[Query], strike: Strike) -> Seen {
+pub(crate) fn each_file(source: &Source, queries: &[Query], strike: Strike) -> Seen {
     let count = judge(&source.archive).expect("a good archive").files.len();
     (0..count).try_for_each(|which| strike(source, which, queries))
 }
 
 /// The query that a source was drawn for, the same with no class, and another.
-fn and_another(draw: &mut Draw, query: Query) -> [Query; 3] {
+pub(crate) fn and_another(draw: &mut Draw, query: Query) -> [Query; 3] {
     let bare = Query::new(&query.name, b"");
     [query, bare, texts::query(draw)]
 }

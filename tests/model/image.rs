@@ -12,17 +12,17 @@ pub struct Accepted {
     pub opens: usize,
 }
 
-/// The reading call. Refusals 1 to 3 change nothing; 4 to 7 leave the image of no entries.
-pub fn read(contents: &mut [u16], bodies: &mut [u8], text: &[u8], archive: &[u8]) -> Result<Accepted, Refusal> {
+/// The reading call, of texts one after another. Refusals 1 to 3 change nothing; 4 to 7 leave the image of no entries.
+pub fn read(contents: &mut [u16], bodies: &mut [u8], texts: &[&[u8]], archive: &[u8]) -> Result<Accepted, Refusal> {
     if are_short(contents, bodies) {
         return Err(Refusal::ShortBuffers);
     }
-    if text.len() > TEXT_BYTES {
+    if texts.iter().any(|text| text.len() > TEXT_BYTES) {
         return Err(Refusal::LongText);
     }
     let archive = archive::judge(archive).ok_or(Refusal::BadArchive)?;
     clear(contents, bodies);
-    let reading = reading::read(text, &archive)?;
+    let reading = reading::read(texts, &archive)?;
     write(contents, bodies, &reading.entries);
     Ok(Accepted { entries: reading.entries.len(), opens: reading.opens })
 }

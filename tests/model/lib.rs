@@ -1,4 +1,5 @@
-//! The settings core as document 01 lays it down, written for reading and not for speed.
+//! The settings core as document 01 and request (i) of document 02 lay it down, written for reading
+//! and not for speed.
 //!
 //! It is a second reference beside the Rust: it has the limits, the refusals and the image, which
 //! the Rust lacks, and it says which cases document 01 admits to the run beside the Rust. No line
@@ -12,4 +13,5 @@ pub mod lookup;
 pub mod matching;
 pub mod query;
 pub mod reading;
+pub mod startup;
 pub mod value;

@@ -1,21 +1,22 @@
-//! The definition of reading: the entries of a main text with an archive, each with its chain of
-//! includes, and the opens; or the first of refusals 4 to 7 in text order.
+//! The definition of reading: the entries of some texts with an archive, each with its chain of
+//! includes, and the opens; or the first of refusals 4 to 7 in text order. A main text is a list of one.
 
 use crate::archive::{folder, is_built_like_a_name, target, Archive};
 use crate::limits::{Refusal, BODIES_BYTES, DEPTH, ENTRIES, KEY_PARTS, OPENS};
 use crate::line::{take_line, write_key, Line, Part};
+use std::rc::Rc;
 
 #[derive(Clone, Debug)]
 pub struct Entry {
     pub key: Vec<Part>,
     pub value: Vec<u8>,
     /// The names of the files being read when the line was met, outermost first.
-    pub chain: Vec<Vec<u8>>,
+    pub chain: Vec<Rc<[u8]>>,
 }
 
 impl Entry {
     pub fn came_through(&self, name: &[u8]) -> bool {
-        self.chain.iter().any(|file| file == name)
+        self.chain.iter().any(|file| **file == *name)
     }
 }
 
@@ -28,9 +29,10 @@ pub struct Reading {
     pub met_odd_name: bool,
 }
 
-pub fn read(text: &[u8], archive: &Archive) -> Result<Reading, Refusal> {
+/// Each text is read at depth 0 with the empty folder, and ends at its own end.
+pub fn read(texts: &[&[u8]], archive: &Archive) -> Result<Reading, Refusal> {
     let mut reader = Reader { archive, store: 0, chain: Vec::new(), reading: Reading::default() };
-    reader.read_text(text, b"")?;
+    texts.iter().try_for_each(|text| reader.read_text(text, b""))?;
     Ok(reader.reading)
 }
 
@@ -39,7 +41,7 @@ struct Reader<'a> {
     /// Bytes of keys and values so far.
     store: usize,
     /// The files being read, outermost first: as many as the depth.
-    chain: Vec<Vec<u8>>,
+    chain: Vec<Rc<[u8]>>,
     reading: Reading,
 }
 
@@ -69,7 +71,7 @@ impl Reader<'_> {
             return Err(Refusal::ManyOpens);
         }
         self.reading.opens += 1;
-        self.chain.push(file.name.clone());
+        self.chain.push(file.name[..].into());
         self.read_text(&file.body, folder(&file.name))?;
         self.chain.pop();
         Ok(())

@@ -1,8 +1,9 @@
 //! The standard library as the Rust under test sees it, with two things watched: each file read, and
 //! how deep in includes it was read.
 //!
-//! The Rust makes one `PathBuf` for each include it meets and keeps it until the included text has
-//! been read. So the number of `PathBuf`s alive at a read is the depth of the text that is read.
+//! The Rust makes one `PathBuf` of a `Path` for each include it meets and keeps it until the included
+//! text has been read. So the number of these alive at a read is the depth of the text that is read. A
+//! start-up's own texts are read at depth 0; the `PathBuf`s of those are made of an `OsString`.
 
 pub use std::*;
 
@@ -14,13 +15,16 @@ const LAST_DEPTH: usize = 100;
 thread_local! {
     static DEPTH: Cell<usize> = const { Cell::new(0) };
     static OPENS: Cell<usize> = const { Cell::new(0) };
+    static OWN_TEXTS: Cell<usize> = const { Cell::new(0) };
 }
 
 /// Runs `work` and counts its opens: files read at depth 1 to 100.
 pub fn count_opens<T>(work: impl FnOnce() -> T) -> (T, usize) {
     OPENS.set(0);
+    OWN_TEXTS.set(0);
     let result = work();
     assert_eq!(DEPTH.get(), 0, "a path outlived the reading");
+    assert!(OWN_TEXTS.get() <= 2, "a start-up has at most two texts of its own");
     (result, OPENS.get())
 }
 
@@ -33,9 +37,10 @@ pub mod fs {
         let found = std::fs::read(path);
         if found.is_ok() {
             let depth = crate::DEPTH.get();
-            assert!((1..=crate::LAST_DEPTH + 1).contains(&depth), "a file was read at depth {depth}");
+            assert!(depth <= crate::LAST_DEPTH + 1, "a file was read at depth {depth}");
+            let counter = if depth == 0 { &crate::OWN_TEXTS } else { &crate::OPENS };
             if depth <= crate::LAST_DEPTH {
-                crate::OPENS.set(crate::OPENS.get() + 1);
+                counter.set(counter.get() + 1);
             }
         }
         found
@@ -45,35 +50,58 @@ pub mod fs {
 pub mod path {
     pub use std::path::*;
 
-    use std::ffi::OsStr;
+    use std::ffi::{OsStr, OsString};
     use std::ops::Deref;
 
-    /// A path buffer that is counted while it lives.
-    pub struct PathBuf(std::path::PathBuf);
+    /// A path buffer that is counted while it lives, if it is an include's.
+    pub struct PathBuf {
+        path: std::path::PathBuf,
+        of_an_include: bool,
+    }
+
+    /// What the Rust makes path buffers of.
+    pub trait Beginning: AsRef<OsStr> {
+        const OF_AN_INCLUDE: bool;
+    }
+
+    /// A folder in which an include is looked for.
+    impl Beginning for &Path {
+        const OF_AN_INCLUDE: bool = true;
+    }
+
+    /// HOME, in which a start-up looks for its own texts.
+    impl Beginning for &OsString {
+        const OF_AN_INCLUDE: bool = false;
+    }
+
+    impl Beginning for OsString {
+        const OF_AN_INCLUDE: bool = false;
+    }
 
     impl PathBuf {
+        /// Stands for a HOME that is not set.
         pub fn new() -> Self {
-            Self::from("")
+            Self::from(OsString::new())
         }
 
         #[allow(clippy::should_implement_trait)]
-        pub fn from(path: impl AsRef<OsStr>) -> Self {
-            crate::DEPTH.set(crate::DEPTH.get() + 1);
-            Self(std::path::PathBuf::from(path.as_ref()))
+        pub fn from<B: Beginning>(path: B) -> Self {
+            crate::DEPTH.set(crate::DEPTH.get() + usize::from(B::OF_AN_INCLUDE));
+            Self { path: std::path::PathBuf::from(path.as_ref()), of_an_include: B::OF_AN_INCLUDE }
         }
 
         pub fn push(&mut self, path: impl AsRef<Path>) {
-            self.0.push(path);
+            self.path.push(path);
         }
 
         pub fn pop(&mut self) -> bool {
-            self.0.pop()
+            self.path.pop()
         }
     }
 
     impl Drop for PathBuf {
         fn drop(&mut self) {
-            crate::DEPTH.set(crate::DEPTH.get() - 1);
+            crate::DEPTH.set(crate::DEPTH.get() - usize::from(self.of_an_include));
         }
     }
 
@@ -81,13 +109,13 @@ pub mod path {
         type Target = Path;
 
         fn deref(&self) -> &Path {
-            &self.0
+            &self.path
         }
     }
 
     impl AsRef<Path> for PathBuf {
         fn as_ref(&self) -> &Path {
-            &self.0
+            &self.path
         }
     }
 }

@@ -20,6 +20,31 @@ extern "C" {
         bodies_length: usize,
     ) -> u64;
 
+    fn resource_manager_read_default(
+        property_format: u8,
+        property: *const u8,
+        property_length: usize,
+        xresources_read: u8,
+        xresources: *const u8,
+        xresources_length: usize,
+        xdefaults_read: u8,
+        xdefaults: *const u8,
+        xdefaults_length: usize,
+        xenvironment_set: u8,
+        xenvironment_read: u8,
+        xenvironment: *const u8,
+        xenvironment_length: usize,
+        host_read: u8,
+        host: *const u8,
+        host_length: usize,
+        shelf: *const u8,
+        shelf_length: usize,
+        contents: *mut u16,
+        contents_length: usize,
+        bodies: *mut u8,
+        bodies_length: usize,
+    ) -> u64;
+
     fn resource_manager_get_bytes(
         contents: *const u16,
         contents_length: usize,
@@ -100,6 +125,44 @@ extern "C" {
         with_it: *mut u64,
         without: *mut u64,
     ) -> u64;
+
+    fn resource_manager_compare_default_without(
+        property_format: u8,
+        property: *const u8,
+        property_length: usize,
+        xresources_read: u8,
+        xresources: *const u8,
+        xresources_length: usize,
+        xdefaults_read: u8,
+        xdefaults: *const u8,
+        xdefaults_length: usize,
+        xenvironment_set: u8,
+        xenvironment_read: u8,
+        xenvironment: *const u8,
+        xenvironment_length: usize,
+        host_read: u8,
+        host: *const u8,
+        host_length: usize,
+        shelf: *const u8,
+        shelf_length: usize,
+        file: usize,
+        name: *const u8,
+        name_length: usize,
+        class: *const u8,
+        class_length: usize,
+        struck: *mut u8,
+        struck_length: usize,
+        contents: *mut u16,
+        contents_length: usize,
+        bodies: *mut u8,
+        bodies_length: usize,
+        contents_without: *mut u16,
+        contents_without_length: usize,
+        bodies_without: *mut u8,
+        bodies_without_length: usize,
+        with_it: *mut u64,
+        without: *mut u64,
+    ) -> u64;
 }
 
 /// Reads a main text with a shelf into a database image: entries and opens, or the number of the
@@ -122,6 +185,57 @@ pub fn read_word(text: &[u8], shelf: &[u8], contents: &mut [u16], bodies: &mut [
         resource_manager_read(
             text.as_ptr(),
             text.len(),
+            shelf.as_ptr(),
+            shelf.len(),
+            contents.as_mut_ptr(),
+            contents.len(),
+            bodies.as_mut_ptr(),
+            bodies.len(),
+        )
+    }
+}
+
+/// A text of a start-up, and whether it could be read: a flag, which is no if it is 0, and yes otherwise.
+#[derive(Clone, Copy, Debug, Default)]
+pub struct Text<'a> {
+    pub read: u8,
+    pub bytes: &'a [u8],
+}
+
+/// What a start-up lends.
+#[derive(Clone, Copy, Debug, Default)]
+pub struct StartUp<'a> {
+    pub format: u8,
+    pub property: &'a [u8],
+    pub xresources: Text<'a>,
+    pub xdefaults: Text<'a>,
+    pub xenvironment_set: u8,
+    pub xenvironment: Text<'a>,
+    pub host: Text<'a>,
+}
+
+/// As `read_word`, of the texts that a start-up uses.
+pub fn read_default_word(start_up: &StartUp, shelf: &[u8], contents: &mut [u16], bodies: &mut [u8]) -> u64 {
+    let StartUp { format, property, xresources, xdefaults, xenvironment_set, xenvironment, host } = *start_up;
+    // SAFETY: as for `read_word`.
+    unsafe {
+        resource_manager_read_default(
+            format,
+            property.as_ptr(),
+            property.len(),
+            xresources.read,
+            xresources.bytes.as_ptr(),
+            xresources.bytes.len(),
+            xdefaults.read,
+            xdefaults.bytes.as_ptr(),
+            xdefaults.bytes.len(),
+            xenvironment_set,
+            xenvironment.read,
+            xenvironment.bytes.as_ptr(),
+            xenvironment.bytes.len(),
+            host.read,
+            host.bytes.as_ptr(),
+            host.bytes.len(),
             shelf.as_ptr(),
             shelf.len(),
             contents.as_mut_ptr(),
@@ -234,6 +348,51 @@ pub fn compare_without_word(text: &[u8], shelf: &[u8], file: usize, name: &[u8],
         resource_manager_compare_without(
             text.as_ptr(),
             text.len(),
+            shelf.as_ptr(),
+            shelf.len(),
+            file,
+            name.as_ptr(),
+            name.len(),
+            class.as_ptr(),
+            class.len(),
+            lent.struck.as_mut_ptr(),
+            lent.struck.len(),
+            lent.contents.as_mut_ptr(),
+            lent.contents.len(),
+            lent.bodies.as_mut_ptr(),
+            lent.bodies.len(),
+            lent.contents_without.as_mut_ptr(),
+            lent.contents_without.len(),
+            lent.bodies_without.as_mut_ptr(),
+            lent.bodies_without.len(),
+            lent.with_it,
+            lent.without,
+        )
+    }
+}
+
+/// As `compare_without_word`, of the texts that a start-up uses.
+pub fn compare_default_without_word(start_up: &StartUp, shelf: &[u8], file: usize, name: &[u8], class: &[u8], lent: Lent) -> u64 {
+    let StartUp { format, property, xresources, xdefaults, xenvironment_set, xenvironment, host } = *start_up;
+    // SAFETY: as for `compare_without_word`.
+    unsafe {
+        resource_manager_compare_default_without(
+            format,
+            property.as_ptr(),
+            property.len(),
+            xresources.read,
+            xresources.bytes.as_ptr(),
+            xresources.bytes.len(),
+            xdefaults.read,
+            xdefaults.bytes.as_ptr(),
+            xdefaults.bytes.len(),
+            xenvironment_set,
+            xenvironment.read,
+            xenvironment.bytes.as_ptr(),
+            xenvironment.bytes.len(),
+            host.read,
+            host.bytes.as_ptr(),
+            host.bytes.len(),
             shelf.as_ptr(),
             shelf.len(),
             file,

@@ -18,19 +18,19 @@ BEGIN {
     for (i in words)
         citing[words[i]] = 1
     # files of examples, which are cited with the line that is meant
-    split("Examples Manual Numbers NameBytes bounds/Bounds bounds/Lookups listing/Examples arguments/Examples", words, " ")
+    split("Examples Manual Numbers NameBytes Starts bounds/Bounds bounds/Lookups listing/Examples arguments/Examples", words, " ")
     for (i in words)
         examples[words[i]] = 1
     # what the names of a suite's tests are quoted in
     suite["model"] = "^tests/tool/model_tests.rs$"
-    suite["port"] = "^tests/(tool/port/[a-z_]*|cases/(readings|lookups|limits|struck)).rs$"
-    suite["beside"] = "^tests/cases/(readings|lookups).rs$"
+    suite["port"] = "^tests/(tool/port/[a-z_]*|cases/(readings|lookups|limits|struck|chains|named_chains)).rs$"
+    suite["beside"] = "^tests/(cases/(readings|lookups|chains)|tool/beside/families).rs$"
     suite["list"] = "^tests/list$"
     suite["getres"] = "^tests/getres$"
     suite["replay"] = "^tests/replay$"
     suite["c"] = "^tests/c/limits.c$"
-    suite["rust"] = "^rust/tests/[a-z]*.rs$"
-    suite["recorded"] = "^crates/replay/data/[a-z]*.txt$"
+    suite["rust"] = "^rust/tests/[a-z_]*.rs$"
+    suite["recorded"] = "^crates/replay(_default)?/data/[a-z]*.txt$"
     # words of Rust, C and the documents
     split("u8 u16 usize i64 bool Option Result String Vec FnMut FromStr ZipLongest MatchKind str slice from_str borrow try_borrow " \
         "parse_with_matcher new_from_default new_from_get_property_reply new_from_data_with_base_directory GET_RESOURCE_DATABASE " \

@@ -3,8 +3,9 @@
 //!     beside compare FAMILY SEED ROOM    compares the model and the Rust on one family of cases
 //!     beside record FOLDER SEED ROOM     writes the Rust's answers into the folder
 //!     beside families                    lists the families
+//!     beside start FORMAT PROPERTY       says what the Rust reads from its default places
 //!
-//! ROOM is a directory in which archives are written out as files.
+//! ROOM is a directory in which archives are written out as files. FOLDER is that of the crates, each with its data.
 
 #[path = "beside/both.rs"]
 mod both;
@@ -26,7 +27,8 @@ fn main() -> ExitCode {
         ["compare", family, seed, room] => compare(family, seed, room),
         ["record", folder, seed, room] => record(folder, seed, room),
         ["families"] => Ok(families::names().join("\n")),
-        _ => Err("usage: beside compare FAMILY SEED ROOM | beside record FOLDER SEED ROOM | beside families".to_string()),
+        ["start", format, property] => start(format, property),
+        _ => Err("usage: as the top of beside.rs says".to_string()),
     };
     match result {
         Ok(report) => {
@@ -40,7 +42,7 @@ fn main() -> ExitCode {
     }
 }
 
-fn number(word: &str) -> Result<u64, String> {
+fn number<T: std::str::FromStr>(word: &str) -> Result<T, String> {
     word.parse().map_err(|_| format!("no number: {word}"))
 }
 
@@ -49,6 +51,10 @@ fn compare(family: &str, seed: &str, room: &str) -> Result<String, String> {
     let mut both = Both::new(Room::new(room));
     run(&mut both, number(seed)?)?;
     both.counts.report()
+}
+
+fn start(format: &str, property: &str) -> Result<String, String> {
+    Ok(rust::said_of_start(number(format)?, &records::unhex(property)?))
 }
 
 fn record(folder: &str, seed: &str, room: &str) -> Result<String, String> {

@@ -1,4 +1,4 @@
-//! Random texts, archives and queries for the Rust crate `resource_manager`. Its answers are held to the model, and to the
+//! Random texts, start-ups, archives and queries for the Rust crate `resource_manager`. Its answers are held to the model, and to the
 //! Rust where document 01 admits the case to the run.
 //!
 //!     fuzz SECONDS SEED ROOM
@@ -22,6 +22,8 @@ mod rust;
 #[cfg(feature = "rust")]
 #[path = "fuzz/rusts.rs"]
 mod rusts;
+#[path = "fuzz/starts.rs"]
+mod starts;
 
 use cases::draw::Draw;
 use held::Held;

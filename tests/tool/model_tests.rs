@@ -1,11 +1,13 @@
-//! Tests of the model by itself: document 01's examples and limits, written out by hand.
+//! Tests of the model by itself: document 01's examples and limits and those of the start-up chain, written out by hand.
 //!
 //!     model_tests NAME    runs one test
 //!     model_tests list    lists the tests
 
 use cases::archives;
+use cases::chains::{every_combination, Combination};
 use cases::draw::Draw;
-use cases::limits::edges;
+use cases::limits::{edges, Edge};
+use cases::named_chains::{at_limits, named};
 use cases::words::{keys, queries};
 use model::archive::{judge, lay_out, strike};
 use model::image::{self, Accepted};
@@ -14,15 +16,20 @@ use model::line::{read_key, Part};
 use model::lookup::{get_bool, get_bytes, get_value, show, Number};
 use model::matching::{all_rows, beats_the_rest, highest_row, positions, winner};
 use model::query::split;
+use model::startup::StartUp;
 use records::Source;
+use std::collections::BTreeSet;
 use std::process::ExitCode;
 
 type Test = fn() -> Result<String, String>;
 
-const TESTS: [(&str, Test); 8] = [
+const TESTS: [(&str, Test); 11] = [
     ("examples", examples),
     ("booleans", booleans),
     ("limits", limits),
+    ("start-ups", start_ups),
+    ("chain-limits", chain_limits),
+    ("combinations", combinations),
     ("short-buffers", short_buffers),
     ("lookup-order", lookup_order),
     ("bad-images", bad_images),
@@ -78,7 +85,7 @@ impl Lent {
     }
 
     fn read(&mut self, source: &Source) -> Result<Accepted, u8> {
-        image::read(&mut self.contents, &mut self.bodies, &source.text, &source.archive).map_err(|refusal| refusal.number())
+        image::read(&mut self.contents, &mut self.bodies, &source.texts(), &source.archive).map_err(|refusal| refusal.number())
     }
 
     fn is_untouched(&self) -> bool {
@@ -177,10 +184,43 @@ fn booleans() -> Result<String, String> {
     Ok(format!("{} values", cases.len()))
 }
 
-/// Each case at a limit: what it gives, and what it leaves in the buffers.
+/// The sentences of document 02 (i): which texts are used, where each ends, and its folder.
+fn start_ups() -> Result<String, String> {
+    let cases = named();
+    for case in &cases {
+        let mut lent = Lent::new();
+        same(case.label, lent.read(&case.source).map(|accepted| accepted.opens), Ok(case.opens))?;
+        let expected = case.entries.iter().map(|(key, value)| (key.as_bytes().to_vec(), value.as_bytes().to_vec())).collect();
+        same(case.label, records::listed(&lent.contents, &lent.bodies), expected)?;
+    }
+    Ok(format!("{} chains", cases.len()))
+}
+
+/// The combinations are all different, each is that of its start-ups, and one that is missing is told.
+fn combinations() -> Result<String, String> {
+    let all: BTreeSet<Combination> = (0..Combination::COUNT).map(Combination::nth).collect();
+    same("combinations", all.len(), Combination::COUNT)?;
+    every_combination(&all)?;
+    for combination in &all {
+        same("a start-up's", Combination::of(&combination.start_up(|| b"a:1".to_vec())), *combination)?;
+        let mut others = all.clone();
+        others.remove(combination);
+        same("one that is missing", every_combination(&others).is_err(), true)?;
+    }
+    Ok(format!("{} combinations", all.len()))
+}
+
 fn limits() -> Result<String, String> {
-    let edges = edges();
-    for edge in &edges {
+    at(&edges())
+}
+
+fn chain_limits() -> Result<String, String> {
+    at(&at_limits())
+}
+
+/// Each case at a limit: what it gives, and what it leaves in the buffers.
+fn at(edges: &[Edge]) -> Result<String, String> {
+    for edge in edges {
         let mut lent = Lent::new();
         let got = lent.read(&edge.source);
         same(edge.label, got.map(|accepted| (accepted.entries, accepted.opens)), edge.expected)?;
@@ -199,19 +239,24 @@ fn limits() -> Result<String, String> {
 
 /// Refusal 1 comes first, changes nothing, and is not given to buffers that are just long enough.
 fn short_buffers() -> Result<String, String> {
-    let text = Source::plain(b"a:1");
-    let long = Source::plain(&[b'\n'; 32_769]);
+    let chain = |host| Source::chain(StartUp { host: Some(host), ..StartUp::default() }, vec![0, 0]);
+    let count = short_buffers_of(&Source::plain(b"a:1"), &Source::plain(&[b'\n'; 32_769]))?;
+    short_buffers_of(&chain(b"a:1".to_vec()), &chain(vec![b'\n'; 32_769]))?;
+    Ok(format!("{count} sizes, for a text and for a chain"))
+}
+
+fn short_buffers_of(text: &Source, long: &Source) -> Result<usize, String> {
     let sizes = [(0, 0, Err(1)), (1537, 32_768, Err(1)), (1538, 32_767, Err(1)), (0, 40_000, Err(1)), (1538, 32_768, Ok(1))];
     for (words, bytes, expected) in sizes {
         let mut lent = Lent::of(words, bytes);
-        same("a text", lent.read(&text).map(|accepted| accepted.entries), expected)?;
+        same("a text", lent.read(text).map(|accepted| accepted.entries), expected)?;
         same("buffers untouched", lent.is_untouched(), expected.is_err())?;
         let mut lent = Lent::of(words, bytes);
         let expected = expected.and(Err(2));
-        same("a long text", lent.read(&long).map(|accepted| accepted.entries), expected)?;
+        same("a long text", lent.read(long).map(|accepted| accepted.entries), expected)?;
         same("buffers untouched", lent.is_untouched(), true)?;
     }
-    Ok(format!("{} sizes", sizes.len()))
+    Ok(sizes.len())
 }
 
 /// Lookups test 8, 9, malformed, 10; the show call turns none and refusals into the default.

@@ -9,7 +9,7 @@
 //!     port_beside strikes                           lists the families of archives
 //!     port_beside test NAME ROOM                    runs one test
 //!     port_beside tests                             lists the tests
-//!     port_beside fault LABEL both|rust|third ROOM  compares a faulty port: 'faults' asks that this fails
+//!     port_beside fault LABEL both|rust|third|start-ups ROOM   compares a faulty port: 'faults' asks that this fails
 //!
 //! ROOM is a directory in which archives are written out as files, for the Rust.
 
@@ -31,6 +31,8 @@ mod fenced;
 mod image_tests;
 #[path = "port/inquiry.rs"]
 mod inquiry;
+#[path = "port/lending.rs"]
+mod lending;
 #[path = "port/lookup_faults.rs"]
 mod lookup_faults;
 #[path = "port/lookup_tests.rs"]
@@ -43,17 +45,24 @@ mod run;
 #[allow(dead_code)]
 #[path = "beside/rust.rs"]
 mod rust;
+#[path = "port/start_up_faults.rs"]
+mod start_up_faults;
+#[path = "port/start_up_tests.rs"]
+mod start_up_tests;
 #[path = "port/tests.rs"]
 mod tests;
 #[path = "port/third.rs"]
 mod third;
 
+use cases::chains::{self, every_combination, Combination};
 use cases::lookups;
-use cases::readings::{Extent, FAMILIES};
+use cases::readings::{self, Extent};
 use cases::struck;
 use comparing::Comparing;
 use inquiry::Inquiry;
+use records::Start;
 use run::Run;
+use std::collections::BTreeSet;
 use std::process::ExitCode;
 use third::Third;
 
@@ -62,12 +71,12 @@ fn main() -> ExitCode {
     let words: Vec<&str> = words.iter().map(String::as_str).collect();
     let result = match words[..] {
         ["compare", family, seed, times, room] => compare(family, seed, times, room),
-        ["families"] => Ok(FAMILIES.map(|(name, _)| name).join("\n")),
+        ["families"] => Ok(names(&families())),
         ["ask", family, seed, times, room] => ask(family, seed, times, room),
-        ["inquiries"] => Ok(lookups::FAMILIES.map(|(name, _)| name).join("\n")),
+        ["inquiries"] => Ok(names(&lookups::FAMILIES)),
         ["strike", family, seed, times, _] => strike(family, seed, times),
         ["compare-without", family, seed, times, _] => compare_without(family, seed, times),
-        ["strikes"] => Ok(struck::FAMILIES.map(|(name, _)| name).join("\n")),
+        ["strikes"] => Ok(names(&strikes())),
         ["test", name, room] => tests::test(name, room),
         ["tests"] => Ok(tests::names().join("\n")),
         ["fault", label, with, room] => faults::one(label, with, room),
@@ -93,34 +102,58 @@ fn extent(seed: &str, times: &str) -> Result<Extent, String> {
     Ok(Extent { seed: number(seed)?, times: number(times)? })
 }
 
+/// Readings of main texts and of chains.
+fn families() -> Vec<(&'static str, readings::Family)> {
+    readings::FAMILIES.into_iter().chain(chains::FAMILIES).collect()
+}
+
+/// Archives of main texts and of chains.
+fn strikes() -> Vec<(&'static str, struck::Family)> {
+    struck::FAMILIES.into_iter().chain(chains::STRIKES).collect()
+}
+
+fn names<T>(families: &[(&str, T)]) -> String {
+    families.iter().map(|(name, _)| *name).collect::<Vec<_>>().join("\n")
+}
+
 fn find<T: Copy>(families: &[(&str, T)], name: &str) -> Result<T, String> {
     families.iter().find(|(of, _)| *of == name).map(|(_, family)| *family).ok_or(format!("no such family: {name}"))
 }
 
-fn compare(family: &str, seed: &str, times: &str, room: &str) -> Result<String, String> {
-    let family = find(&FAMILIES, family)?;
-    let mut run = Run::new(port::read_word, room);
-    family(extent(seed, times)?, &mut |source| run.see(source).map(drop))?;
+/// The family of all chains must meet every combination of texts.
+fn compare(name: &str, seed: &str, times: &str, room: &str) -> Result<String, String> {
+    let family = find(&families(), name)?;
+    let mut run = Run::new(both::PORTS, room);
+    let mut met = BTreeSet::new();
+    family(extent(seed, times)?, &mut |source| {
+        if let Start::Chain(start_up) = &source.start {
+            met.insert(Combination::of(start_up));
+        }
+        run.see(source).map(drop)
+    })?;
+    if name == "chains" {
+        every_combination(&met)?;
+    }
     run.counts.report()
 }
 
 fn ask(family: &str, seed: &str, times: &str, room: &str) -> Result<String, String> {
     let family = find(&lookups::FAMILIES, family)?;
-    let mut inquiry = Inquiry::new(port::read_word, asking::PORTS, room);
+    let mut inquiry = Inquiry::new(both::PORTS, asking::PORTS, room);
     family(extent(seed, times)?, &mut |source, queries| inquiry.ask(source, queries))?;
     inquiry.counts.report_family()
 }
 
 fn strike(family: &str, seed: &str, times: &str) -> Result<String, String> {
-    let family = find(&struck::FAMILIES, family)?;
-    let mut third = Third::new(port::read_word, port::get_bytes_word, |answers| answers);
+    let family = find(&strikes(), family)?;
+    let mut third = Third::new(both::PORTS, port::get_bytes_word, |answers| answers);
     family(extent(seed, times)?, &mut |source, which, queries| third.see(source, which, queries))?;
     third.counts.report()
 }
 
 fn compare_without(family: &str, seed: &str, times: &str) -> Result<String, String> {
-    let family = find(&struck::FAMILIES, family)?;
-    let mut comparing = Comparing::new(port::compare_without_word);
+    let family = find(&strikes(), family)?;
+    let mut comparing = Comparing::new(comparing::PORTS);
     family(extent(seed, times)?, &mut |source, which, queries| comparing.see(source, which, queries))?;
     comparing.counts.report()
 }

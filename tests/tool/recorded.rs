@@ -4,7 +4,7 @@
 //!     recorded antt FILE       the lines of a file as a module for the prover, on standard output
 
 use model::lookup::Number;
-use records::{model_answer, parse_line, write_line, Answer, Case, Kind};
+use records::{model_answer, parse_line, write_line, Answer, Case, Kind, Start};
 use std::process::ExitCode;
 
 fn main() -> ExitCode {
@@ -47,6 +47,9 @@ fn check(files: &[String]) -> Result<String, String> {
 
 fn check_line(line: &str) -> Result<(), String> {
     let (case, recorded) = parse_line(line)?;
+    if write_line(&case, &recorded) != line {
+        return Err("it is written in another form".to_string());
+    }
     let answer = model_answer(&case).map_err(|refusal| format!("the model refuses it: {}", refusal.number()))?;
     if answer != recorded {
         return Err(format!("the model gives {}", write_line(&case, &answer)));
@@ -62,10 +65,10 @@ fn antt(file: &str) -> Result<String, String> {
 
 /// A prover evaluates what it reads in a row, so rows are kept short.
 fn short_row(case: &Case, answer: &Answer) -> Result<String, String> {
-    if case.source.text.len() > 40 || case.source.archive.len() > 60 {
-        return Err(format!("too long for a row: {}", write_line(case, answer)));
+    match &case.source.start {
+        Start::Text(text) if text.len() <= 40 && case.source.archive.len() <= 60 => Ok(row(case, text, answer)),
+        _ => Err(format!("no row for this: {}", write_line(case, answer))),
     }
-    Ok(row(case, answer))
 }
 
 const HEAD: &str = "\
@@ -95,7 +98,7 @@ fn module(rows: &[String]) -> String {
 }
 
 /// One case as a row: what the definition is asked, and what the Rust answered.
-fn row(case: &Case, answer: &Answer) -> String {
+fn row(case: &Case, text: &[u8], answer: &Answer) -> String {
     let word = match case.kind {
         Kind::Read => "read",
         Kind::Bytes => "askBytes",
@@ -103,11 +106,11 @@ fn row(case: &Case, answer: &Answer) -> String {
         Kind::Bool => "askBool",
         Kind::Value => "askValue",
     };
-    let mut asked = vec![&case.source.text, &case.source.archive];
+    let mut asked = vec![text, &case.source.archive];
     if case.kind != Kind::Read {
-        asked.extend([&case.query.name, &case.query.class]);
+        asked.extend([&case.query.name[..], &case.query.class]);
     }
-    let asked: Vec<String> = asked.into_iter().map(|bytes| list(bytes)).collect();
+    let asked: Vec<String> = asked.into_iter().map(list).collect();
     format!("{word} {} ~ {}", asked.join(" "), recorded(answer))
 }
 

@@ -1,32 +1,76 @@
 //! Cases and their recorded answers: how a line is written and read, and what the model answers.
-//! crates/replay/data/README.md describes the lines.
+//! crates/replay/data/README.md and crates/replay_default/data/README.md describe the lines.
 
-use model::archive::{lay_out, File};
+use model::archive::{lay_out, strike, File};
 use model::image;
 use model::limits::{Refusal, BODIES_BYTES, CONTENTS_WORDS};
 use model::line::write_key;
 use model::lookup::{get_bool, get_bytes, get_string, get_value, Number};
+use model::startup::StartUp;
 
 /// What a reading takes.
 #[derive(Clone, Debug, PartialEq, Eq)]
 pub struct Source {
-    pub text: Vec<u8>,
+    pub start: Start,
     /// Laid out as bytes.
     pub archive: Vec<u8>,
 }
 
+/// Where the texts of a reading come from.
+#[derive(Clone, Debug, PartialEq, Eq)]
+pub enum Start {
+    /// A main text.
+    Text(Vec<u8>),
+    /// Those that a start-up uses.
+    Chain(StartUp),
+}
+
 impl Source {
-    /// With an archive of no files.
+    pub fn text(text: Vec<u8>, archive: Vec<u8>) -> Self {
+        Self { start: Start::Text(text), archive }
+    }
+
+    pub fn chain(start_up: StartUp, archive: Vec<u8>) -> Self {
+        Self { start: Start::Chain(start_up), archive }
+    }
+
+    /// A main text with an archive of no files.
     pub fn plain(text: &[u8]) -> Self {
         Self::with(text, &[])
     }
 
-    /// With these files, in the order that an archive asks for.
+    /// A main text with these files.
     pub fn with(text: &[u8], files: &[(&[u8], &[u8])]) -> Self {
-        let mut files: Vec<File> = files.iter().map(|(name, body)| File { name: name.to_vec(), body: body.to_vec() }).collect();
-        files.sort_by(|a, b| a.name.cmp(&b.name));
-        Self { text: text.to_vec(), archive: lay_out(&files) }
+        Self::text(text.to_vec(), archive_of(files))
     }
+
+    /// None if it has a chain.
+    pub fn main_text(&self) -> Option<&[u8]> {
+        match &self.start {
+            Start::Text(text) => Some(text),
+            Start::Chain(_) => None,
+        }
+    }
+
+    /// The texts that are read, in their order.
+    pub fn texts(&self) -> Vec<&[u8]> {
+        match &self.start {
+            Start::Text(text) => vec![text],
+            Start::Chain(start_up) => start_up.texts(),
+        }
+    }
+
+    /// The same with a file of its archive struck off.
+    pub fn struck(&self, which: usize) -> Self {
+        Self { start: self.start.clone(), archive: strike(&self.archive, which) }
+    }
+}
+
+/// The archive of these files, in the order that it asks for.
+pub fn archive_of(files: &[(&[u8], &[u8])]) -> Vec<u8> {
+    let mut files: Vec<File> = files.iter().map(|(name, body)| File { name: name.to_vec(), body: body.to_vec() }).collect();
+    files.sort_by(|a, b| a.name.cmp(&b.name));
+    lay_out(&files)
 }
 
 /// What a lookup takes beside an image.
@@ -89,8 +133,15 @@ pub fn kind_word(kind: Kind) -> &'static str {
     KINDS.iter().find(|(of, _)| *of == kind).expect("every kind has a word").1
 }
 
+/// The word of a reading of a chain, the only case of chains that is recorded.
+const CHAIN: &str = "default";
+
 pub fn write_line(case: &Case, answer: &Answer) -> String {
-    let mut fields = vec![kind_word(case.kind).to_string(), hex(&case.source.text), hex(&case.source.archive)];
+    let mut fields = match &case.source.start {
+        Start::Text(text) => vec![kind_word(case.kind).to_string(), hex(text)],
+        Start::Chain(start_up) => chain_fields(start_up),
+    };
+    fields.push(hex(&case.source.archive));
     if case.kind != Kind::Read {
         fields.extend([hex(&case.query.name), hex(&case.query.class)]);
     }
@@ -98,7 +149,17 @@ pub fn write_line(case: &Case, answer: &Answer) -> String {
     fields.join(" ")
 }
 
-fn answer_fields(answer: &Answer) -> Vec<String> {
+fn chain_fields(start_up: &StartUp) -> Vec<String> {
+    let StartUp { format, property, xresources, xdefaults, xenvironment_set, xenvironment, host } = start_up;
+    let text = |text: &Option<Vec<u8>>| text.as_ref().map_or(UNREADABLE.to_string(), |text| hex(text));
+    let named = if *xenvironment_set { text(xenvironment) } else { UNSET.to_string() };
+    vec![CHAIN.to_string(), format.to_string(), hex(property), text(xresources), text(xdefaults), named, text(host)]
+}
+
+const UNREADABLE: &str = "unreadable";
+const UNSET: &str = "unset";
+
+pub fn answer_fields(answer: &Answer) -> Vec<String> {
     match answer {
         Answer::Read { opens, entries } => {
             let counts = [opens.to_string(), entries.len().to_string()];
@@ -112,7 +173,7 @@ fn answer_fields(answer: &Answer) -> Vec<String> {
     }
 }
 
-fn hex(bytes: &[u8]) -> String {
+pub fn hex(bytes: &[u8]) -> String {
     if bytes.is_empty() {
         return "-".to_string();
     }
@@ -123,9 +184,11 @@ fn hex(bytes: &[u8]) -> String {
 pub fn parse_line(line: &str) -> Result<(Case, Answer), String> {
     let mut fields = line.split(' ');
     let mut next = || fields.next().ok_or("a field is missing".to_string());
-    let word = next()?;
-    let (kind, _) = KINDS.iter().find(|(_, of)| *of == word).ok_or(format!("no kind: {word}"))?;
-    let source = Source { text: unhex(next()?)?, archive: unhex(next()?)? };
+    let (kind, start) = match next()? {
+        CHAIN => (Kind::Read, Start::Chain(take_chain(&mut next)?)),
+        word => (kind_of(word)?, Start::Text(unhex(next()?)?)),
+    };
+    let source = Source { start, archive: unhex(next()?)? };
     let query = match kind {
         Kind::Read => Query::new(b"", b""),
         _ => Query { name: unhex(next()?)?, class: unhex(next()?)? },
@@ -155,8 +218,24 @@ pub fn parse_line(line: &str) -> Result<(Case, Answer), String> {
     };
     match fields.next() {
         Some(field) => Err(format!("a field too many: {field}")),
-        None => Ok((Case { kind: *kind, source, query }, answer)),
+        None => Ok((Case { kind, source, query }, answer)),
     }
+}
+
+fn kind_of(word: &str) -> Result<Kind, String> {
+    KINDS.iter().find(|(_, of)| *of == word).map(|(kind, _)| *kind).ok_or(format!("no kind: {word}"))
+}
+
+/// What `chain_fields` has written after its word.
+fn take_chain<'a>(next: &mut impl FnMut() -> Result<&'a str, String>) -> Result<StartUp, String> {
+    let text = |field: &str| if field == UNREADABLE { Ok(None) } else { unhex(field).map(Some) };
+    let (format, property) = (decimal(next()?)?, unhex(next()?)?);
+    let (xresources, xdefaults) = (text(next()?)?, text(next()?)?);
+    let (xenvironment_set, xenvironment) = match next()? {
+        UNSET => (false, None),
+        field => (true, text(field)?),
+    };
+    Ok(StartUp { format, property, xresources, xdefaults, xenvironment_set, xenvironment, host: text(next()?)? })
 }
 
 /// A number in its one decimal form: no sign but `-`, and no leading zeros.
@@ -169,7 +248,7 @@ fn decimal<T: std::str::FromStr + ToString>(field: &str) -> Result<T, String> {
     }
 }
 
-fn unhex(field: &str) -> Result<Vec<u8>, String> {
+pub fn unhex(field: &str) -> Result<Vec<u8>, String> {
     let bytes = field.as_bytes();
     if field == "-" {
         return Ok(Vec::new());
@@ -199,7 +278,7 @@ pub fn listed(contents: &[u16], bodies: &[u8]) -> Vec<(Vec<u8>, Vec<u8>)> {
 /// What the model answers to a case, or its refusal.
 pub fn model_answer(case: &Case) -> Result<Answer, Refusal> {
     let (mut contents, mut bodies) = buffers();
-    let accepted = image::read(&mut contents, &mut bodies, &case.source.text, &case.source.archive)?;
+    let accepted = image::read(&mut contents, &mut bodies, &case.source.texts(), &case.source.archive)?;
     let (name, class) = (&case.query.name[..], &case.query.class[..]);
     Ok(match case.kind {
         Kind::Read => Answer::Read { opens: accepted.opens, entries: listed(&contents, &bodies) },

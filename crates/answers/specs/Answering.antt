@@ -1,4 +1,4 @@
--- A query asked of a main text and its files, and what getres tells of it.
+-- A query asked of the texts of a reading and their files, and what getres tells of it.
 use mathlib.Core.List.{List}
 use mathlib.Core.Option.{Option, some, none}
 use mathlib.Core.Path.{_≡_}
@@ -14,7 +14,7 @@ use Rattle.lookup.specs.Replies.{replied}
 use Rattle.reports.specs.Showing.{Shown, value, noValue, refusedBy}
 use Rattle.reports.specs.Telling.{Told, told}
 
--- ---- A text read, and the query looked up in it
+-- ---- Texts read, and the query looked up in them
 
 -- what refuses the reading refuses the query
 unfoldable pub afterReading : Answer → Reply Place → Reply Place
@@ -22,10 +22,10 @@ afterReading (accepted entries opens) r = r
 afterReading (refused k) r = refusedLookup k
 
 -- the answer, and both buffers, which are the reading's
-pub record LooksUp (text archive name class contents bodies contents′ bodies′ : List ℕ) (r : Lookup) : Type 0 where
-  pub answers : replied r ≡ afterReading (reading text archive contents bodies .answer) (getBytes contents′ bodies′ name class)
-  pub contents-left : contents′ ≡ reading text archive contents bodies .contents
-  pub bodies-left : bodies′ ≡ reading text archive contents bodies .bodies
+pub record LooksUp (texts : List (List ℕ)) (archive name class contents bodies contents′ bodies′ : List ℕ) (r : Lookup) : Type 0 where
+  pub answers : replied r ≡ afterReading (reading texts archive contents bodies .answer) (getBytes contents′ bodies′ name class)
+  pub contents-left : contents′ ≡ reading texts archive contents bodies .contents
+  pub bodies-left : bodies′ ≡ reading texts archive contents bodies .bodies
 
 -- ---- What the definition answers
 
@@ -42,13 +42,13 @@ unfoldable pub ofReading : Answer → Shown → Shown
 ofReading (accepted entries opens) shows = shows
 ofReading (refused k) shows = refusedBy k
 
--- of a main text, an archive, a query's name and class, and the buffers lent to the reading
-unfoldable pub answerShown : List ℕ → List ℕ → List ℕ → List ℕ → List ℕ → List ℕ → Shown
-answerShown text archive name class contents bodies =
-    ofReading (reading text archive contents bodies .answer) (ofQuery (plain (readEntries text archive)) (queryOf name class))
+-- of texts, an archive, a query's name and class, and the buffers lent to the reading
+unfoldable pub answerShown : List (List ℕ) → List ℕ → List ℕ → List ℕ → List ℕ → List ℕ → Shown
+answerShown texts archive name class contents bodies =
+    ofReading (reading texts archive contents bodies .answer) (ofQuery (plain (readEntries texts archive)) (queryOf name class))
 
 -- ---- What is told
 
--- of a main text, an archive, and a query's name and class
-unfoldable pub answerTold : List ℕ → List ℕ → List ℕ → List ℕ → Told
-answerTold text archive name class = told (answerShown text archive name class (zeroes contentsWords) (zeroes bodyBytes))
+-- of texts, an archive, and a query's name and class
+unfoldable pub answerTold : List (List ℕ) → List ℕ → List ℕ → List ℕ → Told
+answerTold texts archive name class = told (answerShown texts archive name class (zeroes contentsWords) (zeroes bodyBytes))

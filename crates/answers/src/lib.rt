@@ -1,4 +1,5 @@
 // What getres tells of a query: the value that it gets, none or a refusal.
+ghost use mathlib.Core.List.{map};
 ghost use Prim.Native.Nat.{_≤_};
 ghost use lib.ListN.{length};
 ghost use Rattle.reports.specs.Telling.{Reports, reportBytes};
@@ -8,35 +9,35 @@ use limits::CONTENTS_WORDS;
 use lookup::Lookup;
 use lookup::get_bytes;
 use reader::Answer;
-use reader::read;
+use reader::read_texts;
 use reports::Report;
 use reports::tell;
 
-// Reads the text with the archive, and looks the query up in what was read.
+// Reads the texts with the archive, and looks the query up in what was read.
 fn look_up(
-    text: &[u8],
+    texts: &[&[u8]],
     archive: &[u8],
     name: &[u8],
     class: &[u8],
     contents: &mut [u16],
     bodies: &mut [u8],
 ) -> Lookup
-    ensures { λ r. ⌜ LooksUp (now (text .entry)) (now (archive .entry)) (now (name .entry)) (now (class .entry)) (now (contents .entry)) (now (bodies .entry)) (now (contents .exit)) (now (bodies .exit)) r ⌝ }
+    ensures { λ r. ⌜ LooksUp (map now (now (texts .entry))) (now (archive .entry)) (now (name .entry)) (now (class .entry)) (now (contents .entry)) (now (bodies .entry)) (now (contents .exit)) (now (bodies .exit)) r ⌝ }
 {
-    let answer = read(text, archive, contents, bodies);
+    let answer = read_texts(texts, archive, contents, bodies);
     match answer {
         Answer::Refused(number) => Lookup::Refused(number),
         Answer::Accepted(_, _) => get_bytes(contents, bodies, name, class),
     }
 }
 
-// The value that a name and a class get from a main text and its files, none, or a refusal.
-pub fn answer(text: &[u8], archive: &[u8], name: &[u8], class: &[u8], out: &mut [u8]) -> Report
+// The value that a name and a class get from texts and their files, none, or a refusal.
+pub fn answer(texts: &[&[u8]], archive: &[u8], name: &[u8], class: &[u8], out: &mut [u8]) -> Report
     requires { ⌜ reportBytes ≤ length (now out) ⌝ }
-    ensures { λ r. ⌜ Reports (answerTold (now (text .entry)) (now (archive .entry)) (now (name .entry)) (now (class .entry))) (now (out .entry)) (now (out .exit)) r ⌝ }
+    ensures { λ r. ⌜ Reports (answerTold (map now (now (texts .entry))) (now (archive .entry)) (now (name .entry)) (now (class .entry))) (now (out .entry)) (now (out .exit)) r ⌝ }
 {
     let mut contents = [0; CONTENTS_WORDS];
     let mut bodies = [0; BODY_BYTES];
-    let found = look_up(text, archive, name, class, &mut contents, &mut bodies);
+    let found = look_up(texts, archive, name, class, &mut contents, &mut bodies);
     tell(found, &bodies, out)
 }

@@ -1,6 +1,7 @@
 // What getres tells of a query with a file on the archive (document 01's shelf) and with it struck off.
 ghost use mathlib.Core.Path.{_≡_};
 ghost use mathlib.Core.Bool.{true};
+ghost use mathlib.Core.List.{map};
 ghost use Prim.Native.Nat.{_≤_};
 ghost use lib.ListN.{length};
 ghost use Rattle.definition.specs.Archive.{filesOf, laidOut};
@@ -20,7 +21,7 @@ use reports::tell_both;
 
 // Both answers, with file `number` and without it.
 fn compare_file(
-    text: &[u8],
+    texts: &[&[u8]],
     archive: &[u8],
     number: usize,
     file: &[u8],
@@ -29,7 +30,7 @@ fn compare_file(
     out: &mut [u8],
 ) -> Report
     requires { ⌜ (length (now file) ≤ argumentBytes) × (reportBytes ≤ length (now out)) ⌝ }
-    ensures { λ r. ⌜ Reports (twiceTold (now (text .entry)) (now (archive .entry)) number (now (file .entry)) (now (name .entry)) (now (class .entry))) (now (out .entry)) (now (out .exit)) r ⌝ }
+    ensures { λ r. ⌜ Reports (twiceTold (map now (now (texts .entry))) (now (archive .entry)) number (now (file .entry)) (now (name .entry)) (now (class .entry))) (now (out .entry)) (now (out .exit)) r ⌝ }
 {
     let mut struck = [0; ARCHIVE_BYTES];
     let mut contents = [0; CONTENTS_WORDS];
@@ -37,7 +38,7 @@ fn compare_file(
     let mut words = [0; CONTENTS_WORDS];
     let mut store = [0; BODY_BYTES];
     let compared = compare_without(
-        text,
+        texts,
         archive,
         number,
         name,
@@ -57,7 +58,7 @@ fn compare_file(
 
 // Both answers, with the file of that name and without it, and whether they differ.
 pub fn answer_twice(
-    text: &[u8],
+    texts: &[&[u8]],
     archive: &[u8],
     file: &[u8],
     name: &[u8],
@@ -65,8 +66,8 @@ pub fn answer_twice(
     out: &mut [u8],
 ) -> Report
     requires { ⌜ (laidOut (now archive) ≡ true) × (length (now file) ≤ argumentBytes) × (reportBytes ≤ length (now out)) ⌝ }
-    ensures { λ r. ⌜ Reports (twiceTold (now (text .entry)) (now (archive .entry)) (fileNumber (now (file .entry)) (filesOf (now (archive .entry)))) (now (file .entry)) (now (name .entry)) (now (class .entry))) (now (out .entry)) (now (out .exit)) r ⌝ }
+    ensures { λ r. ⌜ Reports (twiceTold (map now (now (texts .entry))) (now (archive .entry)) (fileNumber (now (file .entry)) (filesOf (now (archive .entry)))) (now (file .entry)) (now (name .entry)) (now (class .entry))) (now (out .entry)) (now (out .exit)) r ⌝ }
 {
     let number = number_of(archive, file);
-    compare_file(text, archive, number, file, name, class, out)
+    compare_file(texts, archive, number, file, name, class, out)
 }

@@ -1,26 +1,45 @@
 -- Plans of a few lists of arguments, by evaluating the definition.
 use mathlib.Core.Bool.{true, false}
-use mathlib.Core.List.{[], _∷_}
+use mathlib.Core.List.{List, [], _∷_}
 use mathlib.Core.Path.{_≡_, refl}
+use Prim.Native.Nat.{ℕ}
 use Rattle.definition.specs.Lists.{ascii}
 use Rattle.definition.specs.Evaluation.{definition}
-use Rattle.arguments.specs.Planning.{plan, planOf, planFrom, withArgument, isOption, withOption, withValue, withStatus, withWithout, descriptor, withOperand, misunderstood, isWhole}
+use Rattle.options.specs.Options.{anything, operand, descriptor, formatOf, takes, isOption, chainOption, optionOf}
+use Rattle.arguments.specs.Planning.{plan, planOf, planFrom, withArgument, withOption, withValue, once, givenFor, withOperand, misunderstood, inChain, settled, isWhole}
+
+-- text, name, class, --without, --status-fd; a chain's are none
+plainly : ℕ → ℕ → ℕ → ℕ → ℕ → List ℕ
+plainly t n c w s = t ∷ n ∷ c ∷ w ∷ s ∷ 0 ∷ 0 ∷ 0 ∷ 0 ∷ 0 ∷ 0 ∷ []
 
 planned :
-    (planOf (ascii "text" ∷ ascii "a.b" ∷ ascii "A.B" ∷ []) ≡ plan 1 2 3 0 0 0 0 false)
-    × (planOf (ascii "--file" ∷ ascii "-p" ∷ ascii "-" ∷ ascii "a.b" ∷ []) ≡ plan 3 4 0 0 0 0 0 false)
-    × (planOf (ascii "--" ∷ ascii "-t" ∷ ascii "-n" ∷ ascii "--help" ∷ []) ≡ plan 2 3 4 0 0 0 4 false)
-    × (planOf (ascii "t" ∷ ascii "--without" ∷ ascii "p" ∷ ascii "n" ∷ []) ≡ plan 1 4 0 3 0 0 0 false)
-    × (planOf (ascii "--status-fd" ∷ ascii "3" ∷ ascii "--status-fd" ∷ ascii "4" ∷ []) ≡ plan 0 0 0 0 4 3 0 false)
-    × (planOf (ascii "--status-fd" ∷ ascii "2" ∷ ascii "t" ∷ ascii "-n" ∷ []) ≡ plan 3 0 0 0 2 0 0 false)
-    × (planOf (ascii "t" ∷ ascii "n" ∷ ascii "c" ∷ ascii "more" ∷ ascii "--help" ∷ []) ≡ plan 1 2 3 0 4 0 0 true)
-unfolding definition planOf planFrom withArgument isOption withOption withValue withStatus withWithout descriptor withOperand misunderstood
+    (planOf (ascii "text" ∷ ascii "a.b" ∷ ascii "A.B" ∷ []) ≡ plan (plainly 1 2 3 0 0) 0 anything false false)
+    × (planOf (ascii "--file" ∷ ascii "-p" ∷ ascii "-" ∷ ascii "a.b" ∷ []) ≡ plan (plainly 3 4 0 0 0) 0 anything false false)
+    × (planOf (ascii "--" ∷ ascii "-t" ∷ ascii "-n" ∷ ascii "--help" ∷ []) ≡ plan (plainly 2 3 4 0 0) 0 operand false false)
+    × (planOf (ascii "t" ∷ ascii "--without" ∷ ascii "p" ∷ ascii "n" ∷ []) ≡ plan (plainly 1 4 0 3 0) 0 anything false false)
+    × (planOf (ascii "--status-fd" ∷ ascii "3" ∷ ascii "--status-fd" ∷ ascii "4" ∷ []) ≡ plan (plainly 0 0 0 0 2) 4 anything false false)
+    × (planOf (ascii "--status-fd" ∷ ascii "2" ∷ ascii "t" ∷ ascii "-n" ∷ []) ≡ plan (plainly 3 0 0 0 0) 2 anything false false)
+    × (planOf (ascii "t" ∷ ascii "n" ∷ ascii "c" ∷ ascii "more" ∷ ascii "--help" ∷ []) ≡ plan (plainly 1 2 3 0 0) 4 anything true false)
+unfolding definition planOf planFrom withArgument isOption optionOf chainOption withOption withValue takes once descriptor givenFor withOperand misunderstood settled plainly
 planned = (refl, refl, refl, refl, refl, refl, refl)
+
+-- with a chain: format, property, .Xresources, .Xdefaults, XENVIRONMENT's, the host's
+chained :
+    (planOf (ascii "--default" ∷ ascii "n" ∷ ascii "c" ∷ []) ≡ plan (0 ∷ 2 ∷ 3 ∷ 0 ∷ 0 ∷ 0 ∷ 0 ∷ 0 ∷ 0 ∷ 0 ∷ 0 ∷ []) 0 anything false true)
+    × (planOf (ascii "n" ∷ ascii "--xresources" ∷ ascii "x" ∷ ascii "--host" ∷ ascii "h" ∷ []) ≡ plan (0 ∷ 1 ∷ 0 ∷ 0 ∷ 0 ∷ 0 ∷ 0 ∷ 3 ∷ 0 ∷ 0 ∷ 5 ∷ []) 0 anything false true)
+    × (planOf (ascii "--property" ∷ ascii "p" ∷ ascii "--property-format" ∷ ascii "16" ∷ []) ≡ plan (0 ∷ 0 ∷ 0 ∷ 0 ∷ 0 ∷ 4 ∷ 2 ∷ 0 ∷ 0 ∷ 0 ∷ 0 ∷ []) 0 anything false true)
+    × (planOf (ascii "--xdefaults" ∷ ascii "d" ∷ ascii "--xenvironment" ∷ ascii "e" ∷ ascii "n" ∷ []) ≡ plan (0 ∷ 5 ∷ 0 ∷ 0 ∷ 0 ∷ 0 ∷ 0 ∷ 0 ∷ 2 ∷ 4 ∷ 0 ∷ []) 0 anything false true)
+    × (planOf (ascii "t" ∷ ascii "n" ∷ ascii "c" ∷ ascii "--default" ∷ []) ≡ plan (0 ∷ 1 ∷ 2 ∷ 0 ∷ 0 ∷ 0 ∷ 0 ∷ 0 ∷ 0 ∷ 0 ∷ 0 ∷ []) 3 anything false true)
+    × (planOf (ascii "--property-format" ∷ ascii "7" ∷ ascii "n" ∷ []) ≡ plan (0 ∷ 3 ∷ 0 ∷ 0 ∷ 0 ∷ 0 ∷ 0 ∷ 0 ∷ 0 ∷ 0 ∷ 0 ∷ []) 2 anything false true)
+unfolding definition planOf planFrom withArgument isOption optionOf chainOption withOption withValue takes once formatOf givenFor withOperand misunderstood settled inChain
+chained = (refl, refl, refl, refl, refl, refl)
 
 whole :
     (isWhole (planOf (ascii "t" ∷ ascii "n" ∷ [])) ≡ true)
     × (isWhole (planOf (ascii "t" ∷ [])) ≡ false)
+    × (isWhole (planOf (ascii "--default" ∷ ascii "n" ∷ [])) ≡ true)
+    × (isWhole (planOf (ascii "--default" ∷ [])) ≡ false)
     × (isWhole (planOf (ascii "t" ∷ ascii "n" ∷ ascii "--file" ∷ [])) ≡ false)
     × (isWhole (planOf (ascii "t" ∷ ascii "n" ∷ ascii "--" ∷ [])) ≡ true)
-unfolding definition planOf planFrom withArgument isOption withOption withValue withStatus withWithout descriptor withOperand misunderstood isWhole
-whole = (refl, refl, refl, refl)
+unfolding definition planOf planFrom withArgument isOption optionOf chainOption withOption withValue takes once givenFor withOperand misunderstood settled inChain isWhole
+whole = (refl, refl, refl, refl, refl, refl)

@@ -2,119 +2,78 @@
 use mathlib.Core.Bool.{Bool, true, false, _&&_, _||_, not}
 use mathlib.Core.List.{List, [], _∷_}
 use mathlib.Core.Path.{_≡_}
-use Prim.Native.Nat.{ℕ, _+_, _-_}
-use lib.Dec.{eqb}
-use lib.ListN.{length}
-use Rattle.definition.specs.Lists.{if_then_else_, ascii, same, takeWhile}
+use Prim.Native.Nat.{ℕ, _+_}
+use lib.Dec.{eqb, ltb}
+use lib.ListN.{length, getD, set, replicate}
+use Rattle.definition.specs.Lists.{if_then_else_, takeWhile}
 use Rattle.definition.specs.Bytes.{within}
 use Rattle.io.specs.Counts.{Counts}
+use Rattle.options.specs.Options.{text, name, class, format, anything, operand, help as helpAsked, unknown, takes, isOption, optionOf}
 use Rattle.arguments.specs.declared.Plan.{Plan}
 
--- what the next argument is: an operand or an option; an option's value; an operand, whatever it looks like
-abbrev pub anything : ℕ
-anything = 0
-
-abbrev pub fileValue : ℕ
-fileValue = 1
-
-abbrev pub withoutValue : ℕ
-withoutValue = 2
-
-abbrev pub statusValue : ℕ
-statusValue = 3
-
-abbrev pub anOperand : ℕ
-anOperand = 4
-
--- the arguments' numbers, 0 for none; the first that is not understood; the status's descriptor; what is next; is help asked for?
-abbrev pub plan : ℕ → ℕ → ℕ → ℕ → ℕ → ℕ → ℕ → Bool → Plan
-plan text name class without wrong status next help =
-    record { text = text; name = name; class = class; without = without; wrong = wrong; status = status; next = next; help = help }
+-- the numbers of the arguments given for each thing, 0 for none; the first that is not understood; what is next; is help asked for, and a chain?
+abbrev pub plan : List ℕ → ℕ → ℕ → Bool → Bool → Plan
+plan given wrong next help chain = record { given = given; wrong = wrong; next = next; help = help; chain = chain }
 
 abbrev pub nothingAsked : Plan
-nothingAsked = plan 0 0 0 0 0 0 anything false
+nothingAsked = plan (replicate 11 0) 0 anything false false
 
 -- the plan with one field more
 module _ (p : Plan) where
-  abbrev pub withText : ℕ → Plan
-  withText i = plan i (p .name) (p .class) (p .without) (p .wrong) (p .status) (p .next) (p .help)
-
-  abbrev pub withName : ℕ → Plan
-  withName i = plan (p .text) i (p .class) (p .without) (p .wrong) (p .status) (p .next) (p .help)
-
-  abbrev pub withClass : ℕ → Plan
-  withClass i = plan (p .text) (p .name) i (p .without) (p .wrong) (p .status) (p .next) (p .help)
-
-  abbrev pub toWithout : ℕ → Plan
-  toWithout i = plan (p .text) (p .name) (p .class) i (p .wrong) (p .status) (p .next) (p .help)
+  abbrev pub toGiven : List ℕ → Plan
+  toGiven given = plan given (p .wrong) (p .next) (p .help) (p .chain)
 
   abbrev pub toWrong : ℕ → Plan
-  toWrong i = plan (p .text) (p .name) (p .class) (p .without) i (p .status) (p .next) (p .help)
-
-  abbrev pub toStatus : ℕ → Plan
-  toStatus fd = plan (p .text) (p .name) (p .class) (p .without) (p .wrong) fd (p .next) (p .help)
+  toWrong i = plan (p .given) i (p .next) (p .help) (p .chain)
 
   abbrev pub toNext : ℕ → Plan
-  toNext n = plan (p .text) (p .name) (p .class) (p .without) (p .wrong) (p .status) n (p .help)
+  toNext n = plan (p .given) (p .wrong) n (p .help) (p .chain)
 
   abbrev pub toHelp : Plan
-  toHelp = plan (p .text) (p .name) (p .class) (p .without) (p .wrong) (p .status) (p .next) true
+  toHelp = plan (p .given) (p .wrong) (p .next) true (p .chain)
+
+  abbrev pub toChain : Plan
+  toChain = plan (p .given) (p .wrong) (p .next) (p .help) true
+
+-- the argument that was given for something
+unfoldable pub givenFor : Plan → ℕ → ℕ
+givenFor p what = if ltb what 11 then getD (p .given) what 0 else 0
 
 -- the first argument that is not understood counts
 unfoldable pub misunderstood : Plan → ℕ → Plan
 misunderstood p i = if eqb (p .wrong) 0 then toWrong p i else p
 
+-- a second one is not understood
+unfoldable pub once : Plan → ℕ → ℕ → Plan
+once p what i = if eqb (getD (p .given) what 0) 0 then toGiven p (set (p .given) what i) else misunderstood p i
+
 -- text, name, class
 unfoldable pub withOperand : Plan → ℕ → Plan
 withOperand p i =
-    if eqb (p .text) 0 then withText p i else
-    if eqb (p .name) 0 then withName p i else
-    if eqb (p .class) 0 then withClass p i else
-    misunderstood p i
+    if eqb (givenFor p text) 0 then once p text i else
+    if eqb (givenFor p name) 0 then once p name i else
+    once p class i
 
--- a digit from 3 to 9, or 0 for anything else
-unfoldable pub descriptor : List ℕ → ℕ
-descriptor [] = 0
-descriptor (c ∷ []) = if within 51 57 c then c - 48 else 0
-descriptor (c ∷ d ∷ t) = 0
-
--- a second one is not understood
-unfoldable pub withWithout : Plan → ℕ → Plan
-withWithout p i = if eqb (p .without) 0 then toWithout p i else misunderstood p i
-
-unfoldable pub withStatus : Plan → List ℕ → ℕ → Plan
-withStatus p a i =
-    if eqb (descriptor a) 0 then misunderstood p i else
-    if eqb (p .status) 0 then toStatus p (descriptor a) else
-    misunderstood p i
-
--- the value of the option before it
+-- the value of the option before it; that of `--file` changes nothing here
 unfoldable pub withValue : Plan → List ℕ → ℕ → Plan
 withValue p a i =
-    if eqb (p .next) withoutValue then withWithout (toNext p anything) i else
-    if eqb (p .next) statusValue then withStatus (toNext p anything) a i else
-    toNext p anything
+    if ltb (p .next) anything
+    then (if takes (p .next) a then once (toNext p anything) (p .next) i else misunderstood (toNext p anything) i)
+    else toNext p anything
 
-unfoldable pub withOption : Plan → List ℕ → ℕ → Plan
-withOption p a i =
-    if same a (ascii "--file") then toNext p fileValue else
-    if same a (ascii "--without") then toNext p withoutValue else
-    if same a (ascii "--status-fd") then toNext p statusValue else
-    if same a (ascii "--") then toNext p anOperand else
-    if same a (ascii "--help") then toHelp p else
-    misunderstood p i
-
--- it begins with `-` and has more
-unfoldable pub isOption : List ℕ → Bool
-isOption [] = false
-isOption (c ∷ []) = false
-isOption (c ∷ d ∷ t) = eqb c 45
+-- an option, by what follows it; those of a chain ask for it
+unfoldable pub withOption : Plan → ℕ → ℕ → Plan
+withOption p what i =
+    if eqb what unknown then misunderstood p i else
+    if eqb what helpAsked then toHelp p else
+    if within format anything what then toChain (toNext p what) else
+    toNext p what
 
 -- one step: argument i
 unfoldable pub withArgument : Plan → List ℕ → ℕ → Plan
 withArgument p a i =
-    if eqb (p .next) anOperand then withOperand p i else
-    if eqb (p .next) anything then (if isOption a then withOption p a i else withOperand p i) else
+    if eqb (p .next) operand then withOperand p i else
+    if eqb (p .next) anything then (if isOption a then withOption p (optionOf a) i else withOperand p i) else
     withValue p a i
 
 -- from argument i on
@@ -122,13 +81,23 @@ unfoldable pub planFrom : Plan → ℕ → List (List ℕ) → Plan
 planFrom p i [] = p
 planFrom p i (a ∷ rest) = planFrom (withArgument p a i) (i + 1) rest
 
+-- in a chain the first operand is the name and the second the class
+unfoldable pub inChain : List ℕ → List ℕ
+inChain given = set (set (set given text 0) name (getD given text 0)) class (getD given name 0)
+
+unfoldable pub settled : Plan → Plan
+settled p =
+    if p .chain
+    then (if eqb (getD (p .given) class 0) 0 then toGiven p (inChain (p .given)) else misunderstood (toGiven p (inChain (p .given))) (getD (p .given) class 0))
+    else p
+
 -- the arguments after the program's own name
 unfoldable pub planOf : List (List ℕ) → Plan
-planOf arguments = planFrom nothingAsked 1 arguments
+planOf arguments = settled (planFrom nothingAsked 1 arguments)
 
--- text and name are there, and no option lacks its value
+-- the name is there, and no option lacks its value
 unfoldable pub isWhole : Plan → Bool
-isWhole p = not (eqb (p .name) 0) && (eqb (p .next) anything || eqb (p .next) anOperand)
+isWhole p = not (eqb (givenFor p name) 0) && (eqb (p .next) anything || eqb (p .next) operand)
 
 -- ---- The value of --file
 

@@ -1,46 +1,50 @@
 // What getres's arguments ask for, taken one at a time.
 ghost use mathlib.Core.Path.{_≡_};
-ghost use Rattle.definition.specs.Lists.{same};
-ghost use Rattle.arguments.specs.Planning.{nothingAsked, misunderstood, withOperand, descriptor, withWithout, withStatus, withValue, withOption, isOption, withArgument, isWhole, toNext, NameEnds};
-use check::same;
+ghost use Prim.Native.Nat.{_<_};
+ghost use Rattle.arguments.specs.Planning.{nothingAsked, givenFor, misunderstood, once, withOperand, withValue, withOption, withArgument, settled, isWhole, NameEnds};
+use options::ANY;
+use options::CLASS;
+use options::FORMAT;
+use options::HELP;
+use options::NAME;
+use options::OPERAND;
+use options::TEXT;
+use options::UNKNOWN;
+use options::is_option;
+use options::option_of;
+use options::takes;
 
-// What the next argument is: an operand or an option, the value of an option, or an operand, whatever it looks like.
-pub const ANY: u8 = 0;
-
-pub const FILE: u8 = 1;
-
-const WITHOUT: u8 = 2;
-
-const STATUS: u8 = 3;
-
-const OPERAND: u8 = 4;
-
-// Arguments by their numbers, of which 0, the program's own name, says that there is none. `wrong` is the first that is not
-// understood; `status` is the descriptor that the status goes to, and 0 says that it goes nowhere.
+// Arguments by their numbers, of which 0, the program's own name, says that there is none. `given` has those that the options name,
+// from TEXT to HOST; `wrong` is the first that is not understood; `next` is what the next one is for; `help` and `chain`, a start-up
+// chain, are asked for or not.
 pub struct Plan {
-    pub text: usize,
-    pub name: usize,
-    pub class: usize,
-    pub without: usize,
+    pub given: [usize; 11],
     pub wrong: usize,
-    pub status: u8,
-    pub next: u8,
+    pub next: usize,
     pub help: bool,
+    pub chain: bool,
 }
 
 pub fn nothing_asked() -> Plan
     ensures { λ r. ⌜ r ≡ nothingAsked ⌝ }
 {
     Plan {
-        text: 0,
-        name: 0,
-        class: 0,
-        without: 0,
+        given: [0; 11],
         wrong: 0,
-        status: 0,
         next: ANY,
         help: false,
+        chain: false,
     }
+}
+
+// The argument that was given for something.
+pub fn given(plan: Plan, what: usize) -> usize
+    ensures { λ r. ⌜ r ≡ givenFor plan what ⌝ }
+{
+    if what < 11 {
+        return plan.given[what];
+    }
+    0
 }
 
 fn misunderstood(plan: Plan, i: usize) -> Plan
@@ -54,130 +58,69 @@ fn misunderstood(plan: Plan, i: usize) -> Plan
     plan
 }
 
+// Argument `i`, given for something. A second one is not understood.
+fn once(plan: Plan, what: usize, i: usize) -> Plan
+    requires { ⌜ what < 11 ⌝ }
+    ensures { λ r. ⌜ r ≡ once plan what i ⌝ }
+{
+    if plan.given[what] == 0 {
+        let mut more = plan;
+        more.given[what] = i;
+        return more;
+    }
+    misunderstood(plan, i)
+}
+
 // The first operand is the text, the second the name and the third the class.
 fn with_operand(plan: Plan, i: usize) -> Plan
     ensures { λ r. ⌜ r ≡ withOperand plan i ⌝ }
 {
-    let mut more = plan;
-    if plan.text == 0 {
-        more.text = i;
-        return more;
+    if given(plan, TEXT) == 0 {
+        return once(plan, TEXT, i);
     }
-    if plan.name == 0 {
-        more.name = i;
-        return more;
+    if given(plan, NAME) == 0 {
+        return once(plan, NAME, i);
     }
-    if plan.class == 0 {
-        more.class = i;
-        return more;
-    }
-    misunderstood(plan, i)
-}
-
-// A descriptor from 3 to 9, or 0: those below are taken, and more than a digit is not needed.
-fn descriptor(argument: &[u8]) -> u8
-    ensures { λ r. ⌜ r ≡ descriptor (now (argument .entry)) ⌝ }
-{
-    if argument.len() == 1 {
-        let digit = argument[0];
-        if digit < b'3' {
-            return 0;
-        }
-        if digit > b'9' {
-            return 0;
-        }
-        return digit - b'0';
-    }
-    0
-}
-
-// A second `--without` or `--status-fd` is not understood.
-fn with_without(plan: Plan, i: usize) -> Plan
-    ensures { λ r. ⌜ r ≡ withWithout plan i ⌝ }
-{
-    let mut more = plan;
-    if plan.without == 0 {
-        more.without = i;
-        return more;
-    }
-    misunderstood(plan, i)
-}
-
-fn with_status(plan: Plan, argument: &[u8], i: usize) -> Plan
-    ensures { λ r. ⌜ r ≡ withStatus plan (now (argument .entry)) i ⌝ }
-{
-    let fd = descriptor(argument);
-    if fd == 0 {
-        return misunderstood(plan, i);
-    }
-    let mut more = plan;
-    if plan.status == 0 {
-        more.status = fd;
-        return more;
-    }
-    misunderstood(plan, i)
+    once(plan, CLASS, i)
 }
 
 // The value of the option before it. That of `--file` is taken when the files are loaded.
 fn with_value(plan: Plan, argument: &[u8], i: usize) -> Plan
     ensures { λ r. ⌜ r ≡ withValue plan (now (argument .entry)) i ⌝ }
 {
+    let what = plan.next;
     let mut more = plan;
     more.next = ANY;
-    if plan.next == WITHOUT {
-        return with_without(more, i);
-    }
-    if plan.next == STATUS {
-        return with_status(more, argument, i);
+    if what < ANY {
+        if takes(what, argument) {
+            return once(more, what, i);
+        }
+        return misunderstood(more, i);
     }
     more
 }
 
-fn to_next(plan: Plan, next: u8) -> Plan
-    ensures { λ r. ⌜ r ≡ toNext plan next ⌝ }
+// An option, by what follows it.
+fn with_option(plan: Plan, what: usize, i: usize) -> Plan
+    ensures { λ r. ⌜ r ≡ withOption plan what i ⌝ }
 {
     let mut more = plan;
-    more.next = next;
-    more
-}
-
-fn is_word(argument: &[u8], word: &[u8]) -> bool
-    ensures { λ r. ⌜ r ≡ same (now (argument .entry)) (now (word .entry)) ⌝ }
-{
-    same(argument, word)
-}
-
-fn with_option(plan: Plan, argument: &[u8], i: usize) -> Plan
-    ensures { λ r. ⌜ r ≡ withOption plan (now (argument .entry)) i ⌝ }
-{
-    if is_word(argument, b"--file") {
-        return to_next(plan, FILE);
+    if what == UNKNOWN {
+        return misunderstood(plan, i);
     }
-    if is_word(argument, b"--without") {
-        return to_next(plan, WITHOUT);
-    }
-    if is_word(argument, b"--status-fd") {
-        return to_next(plan, STATUS);
-    }
-    if is_word(argument, b"--") {
-        return to_next(plan, OPERAND);
-    }
-    let mut more = plan;
-    if is_word(argument, b"--help") {
+    if what == HELP {
         more.help = true;
         return more;
     }
-    misunderstood(plan, i)
-}
-
-// An argument that begins with `-` and has more is an option.
-fn is_option(argument: &[u8]) -> bool
-    ensures { λ r. ⌜ r ≡ isOption (now (argument .entry)) ⌝ }
-{
-    if argument.len() < 2 {
-        return false;
+    more.next = what;
+    if what < FORMAT {
+        return more;
     }
-    argument[0] == b'-'
+    if what > ANY {
+        return more;
+    }
+    more.chain = true;
+    more
 }
 
 // The plan with argument `i`.
@@ -189,18 +132,35 @@ pub fn with_argument(plan: Plan, argument: &[u8], i: usize) -> Plan
     }
     if plan.next == ANY {
         if is_option(argument) {
-            return with_option(plan, argument, i);
+            return with_option(plan, option_of(argument), i);
         }
         return with_operand(plan, i);
     }
     with_value(plan, argument, i)
 }
 
-// Are the text and the name there, and does no option lack its value?
+// The plan once all arguments are taken: a chain has no text among its operands, and one that is over is not understood.
+pub fn settled(plan: Plan) -> Plan
+    ensures { λ r. ⌜ r ≡ settled plan ⌝ }
+{
+    if plan.chain {
+        let mut more = plan;
+        more.given[TEXT] = 0;
+        more.given[NAME] = plan.given[TEXT];
+        more.given[CLASS] = plan.given[NAME];
+        if plan.given[CLASS] == 0 {
+            return more;
+        }
+        return misunderstood(more, plan.given[CLASS]);
+    }
+    plan
+}
+
+// Is the name there, and does no option lack its value?
 pub fn is_whole(plan: Plan) -> bool
     ensures { λ r. ⌜ r ≡ isWhole plan ⌝ }
 {
-    if plan.name == 0 {
+    if given(plan, NAME) == 0 {
         return false;
     }
     if plan.next == ANY {

@@ -1,13 +1,14 @@
 -- Document 01's table of numbers, an example each, and what an accepted and a refused reading leave, by evaluating the definition.
 use mathlib.Core.Bool.{true, false}
 use mathlib.Core.List.{List, [], _∷_, _++_}
-use mathlib.Core.Option.{some}
+use mathlib.Core.Option.{some, none}
 use mathlib.Core.Path.{_≡_, refl}
 use Prim.Native.Nat.{ℕ, zero, suc, _+_, _*_, _/_, _%_}
 use lib.ListN.{replicate}
 use Rattle.definition.specs.Lists.{ascii}
 use Rattle.definition.specs.Archive.{File, archiveOf, laidOut}
 use Rattle.definition.specs.Reading.{Answer, accepted, refused, outcome, reading, judge, start, met, within, past}
+use Rattle.definition.specs.StartUp.{StartUp, starting}
 use Rattle.definition.specs.Lookup.{Reply, given, noValue, refused as refusedReply, Place, getBytes}
 use Rattle.definition.specs.Value.{toBool, isUtf8}
 use Rattle.definition.specs.Evaluation.{definition, noFiles, file}
@@ -18,7 +19,7 @@ numberOf (accepted n o) = 0
 numberOf (refused k) = k
 
 read : List ℕ → List ℕ → ℕ
-read t s = numberOf (reading t s contents bodies .answer)
+read t s = numberOf (reading (t ∷ []) s contents bodies .answer)
 
 -- `p` that includes itself twice, and `p` of 20,000 bytes
 twice : List ℕ
@@ -28,8 +29,8 @@ large : List ℕ
 large = archiveOf (record { name = ascii "p"; body = ascii "a:" ++ replicate 19998 122 } ∷ [])
 
 readings :
-    (reading [] noFiles [] bodies ≡ outcome (refused 1) [] bodies)
-    × (reading [] noFiles contents (replicate 32767 7) ≡ outcome (refused 1) contents (replicate 32767 7))
+    (reading ([] ∷ []) noFiles [] bodies ≡ outcome (refused 1) [] bodies)
+    × (reading ([] ∷ []) noFiles contents (replicate 32767 7) ≡ outcome (refused 1) contents (replicate 32767 7))
     × (read (replicate 32769 10) noFiles ≡ 2)
     × (read (replicate 32768 10) noFiles ≡ 0)
     × (read [] [] ≡ 3)
@@ -45,9 +46,9 @@ readings = (refl, refl, refl, refl, refl, refl, refl, refl, refl, refl, refl, re
 
 -- an accepted reading zeroes what it does not use, and changes nothing past 1,538 words and 32,768 bytes; so does a refusal by 4 to 7
 leaves :
-    (reading (ascii "a.b: x") noFiles contents bodies
+    (reading (ascii "a.b: x" ∷ []) noFiles contents bodies
     ≡ outcome (accepted 1 0) (1 ∷ 5 ∷ 0 ∷ 4 ∷ 1 ∷ replicate 1533 0 ++ 7 ∷ 7 ∷ []) (ascii ".a.bx" ++ replicate 32763 0 ++ 7 ∷ 7 ∷ []))
-    × (reading (name 16 ++ ascii "a:") noFiles contents bodies
+    × (reading ((name 16 ++ ascii "a:") ∷ []) noFiles contents bodies
     ≡ outcome (refused 5) (replicate 1538 0 ++ 7 ∷ 7 ∷ []) (replicate 32768 0 ++ 7 ∷ 7 ∷ []))
 unfolding definition copies contents bodies name
 leaves = (refl, refl)
@@ -72,15 +73,15 @@ edges :
     × (laidOut (archiveOf (numbered 65)) ≡ false)
     × (laidOut (sized 65529) ≡ true)
     × (laidOut (sized 65530) ≡ false)
-    × (judge start (met opensText opensFiles) ≡ within (record { opens = 4096; entries = 0; used = 0 }))
-    × (judge start (met (opensText ++ ascii "#include \"q\"") opensFiles) ≡ past 4)
+    × (judge start (met (opensText ∷ []) opensFiles) ≡ within (record { opens = 4096; entries = 0; used = 0 }))
+    × (judge start (met ((opensText ++ ascii "#include \"q\"") ∷ []) opensFiles) ≡ past 4)
     × (read (ascii "a:" ++ replicate 32766 122) noFiles ≡ 0)
     × (read (include ++ ascii "a:" ++ replicate 12766 122) large ≡ 0)
     × (read (include ++ ascii "a:" ++ replicate 12767 122) large ≡ 7)
     -- the order of the tests
-    × (reading (replicate 32769 10) [] [] bodies ≡ outcome (refused 1) [] bodies)
-    × (reading (replicate 32769 10) [] contents bodies ≡ outcome (refused 2) contents bodies)
-    × (reading [] [] contents bodies ≡ outcome (refused 3) contents bodies)
+    × (reading (replicate 32769 10 ∷ []) [] [] bodies ≡ outcome (refused 1) [] bodies)
+    × (reading (replicate 32769 10 ∷ []) [] contents bodies ≡ outcome (refused 2) contents bodies)
+    × (reading ([] ∷ []) [] contents bodies ≡ outcome (refused 3) contents bodies)
     × (read (copies 512 (ascii "a:\n") ++ name 16 ++ ascii "b:") noFiles ≡ 5)
     × (getBytes [] bodies (replicate 1025 97) [] ≡ refusedReply 8)
     × (look "a:1" (replicate 1024 97) [] ≡ noValue)
@@ -92,6 +93,60 @@ edges :
     × (isUtf8 (0xF5 ∷ 0x80 ∷ 0x80 ∷ 0x80 ∷ []) ≡ false)
 unfolding definition copies contents bodies numberOf read name include large look numbered sized opensText opensFiles
 edges = (refl, refl, refl, refl, refl, refl, refl, refl, refl, refl, refl, refl, refl, refl, refl, refl, refl, refl, refl, refl, refl)
+
+-- ---- Document 02 (i): a start-up whose texts are a property and the text that XENVIRONMENT names
+
+property : List ℕ → List ℕ → StartUp
+property first second = record {
+  format = 8;
+  property = first;
+  xresources = none;
+  xdefaults = none;
+  isSet = true;
+  xenvironment = some second;
+  host = none;
+}
+
+startUp : List ℕ → List ℕ → List ℕ → ℕ
+startUp first second archive = numberOf (starting (property first second) archive contents bodies .answer)
+
+-- texts that are not used, each longer than a text may be: a property of format 16, .Xdefaults, one that XENVIRONMENT does not name
+long : List ℕ
+long = replicate 32769 10
+
+unused : StartUp
+unused = record {
+  format = 16;
+  property = long;
+  xresources = some (ascii "a:1");
+  xdefaults = some long;
+  isSet = false;
+  xenvironment = some long;
+  host = some (ascii "b:22");
+}
+
+startUps :
+    (startUp [] long noFiles ≡ 2)
+    × (startUp long [] noFiles ≡ 2)
+    × (startUp long long [] ≡ 2)
+    × (startUp (ascii "a:1") [] [] ≡ 3)
+    -- limits run over both texts
+    × (startUp opensText (ascii "#include \"q\"") opensFiles ≡ 4)
+    × (startUp (ascii "a:") (name 16 ++ ascii "a:") noFiles ≡ 5)
+    × (startUp (copies 256 (ascii "a:\n")) (copies 256 (ascii "a:\n")) noFiles ≡ 0)
+    × (startUp (copies 256 (ascii "a:\n")) (copies 257 (ascii "a:\n")) noFiles ≡ 6)
+    × (startUp include include large ≡ 7)
+    -- the first text's refusal comes before the second's
+    × (startUp (name 16 ++ ascii "a:") (copies 513 (ascii "a:\n")) noFiles ≡ 5)
+    × (starting unused noFiles contents bodies
+    ≡ outcome (accepted 2 0) (2 ∷ 7 ∷ 0 ∷ 2 ∷ 1 ∷ 3 ∷ 2 ∷ 2 ∷ replicate 1530 0 ++ 7 ∷ 7 ∷ []) (ascii ".a1.b22" ++ replicate 32761 0 ++ 7 ∷ 7 ∷ []))
+    × (starting (property (ascii "a:1") (name 16 ++ ascii "a:")) noFiles contents bodies
+    ≡ outcome (refused 5) (replicate 1538 0 ++ 7 ∷ 7 ∷ []) (replicate 32768 0 ++ 7 ∷ 7 ∷ []))
+    × (starting (property (ascii "a:1") long) noFiles contents bodies ≡ outcome (refused 2) contents bodies)
+unfolding definition copies contents bodies numberOf name include large opensText opensFiles property startUp long unused
+startUps = (refl, refl, refl, refl, refl, refl, refl, refl, refl, refl, refl, refl, refl)
+
+-- ---- Images
 
 -- n rows of a key `.a` and no value, from `at` on
 rowsFor : ℕ → ℕ → List ℕ

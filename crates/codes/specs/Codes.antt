@@ -4,6 +4,9 @@ use Prim.Native.Nat.{ℕ, _+_, _*_, _≤_}
 use Rattle.definition.specs.Limits.{bodyBytes, mostEntries, mostOpens}
 use Rattle.definition.specs.Reading.{Answer, accepted, refused}
 use Rattle.definition.specs.Lookup.{Reply, given, noValue, refused as refusedBy, Place}
+use Rattle.comparison.specs.Answering.{Comparison, both, noFile, refusedBy as refusedAs}
+use Rattle.comparison.specs.declared.Compared.{Compared}
+use Rattle.comparison.specs.declared.Compared.the-variants.{Both, NoFile, Refused}
 use Rattle.lookup.specs.declared.Lookup.{Lookup}
 use Rattle.lookup.specs.Replies.{LiesIn}
 use Rattle.reader.specs.declared.Answer as reader
@@ -53,3 +56,26 @@ boolCode (given true) = from16
 boolCode (given false) = 0
 boolCode noValue = noneCode
 boolCode (refusedBy k) = k
+
+-- ---- Comparisons
+
+-- a call's number, and the two lent numbers afterwards
+pub record Numbers : Type 0 where
+  pub code : ℕ
+  pub withIt : ℕ
+  pub without : ℕ
+
+abbrev pub numbers : ℕ → ℕ → ℕ → Numbers
+numbers n w o = record { code = n; withIt = w; without = o }
+
+-- 0 with both lookups' numbers, 65535 if the archive has no such file, or the refusal; only 0 changes the lent numbers
+abbrev pub comparisonNumbers : Comparison → ℕ → ℕ → Numbers
+comparisonNumbers (both a b second) w o = numbers 0 (placeCode a) (placeCode b)
+comparisonNumbers noFile w o = numbers noneCode w o
+comparisonNumbers (refusedAs k) w o = numbers k w o
+
+-- both places are in an image's bodies
+abbrev pub SmallBoth : Compared → Type 0
+SmallBoth (Both a b second) = Small a × Small b
+SmallBoth NoFile = Unit {0}
+SmallBoth (Refused k) = Unit {0}

@@ -1,9 +1,11 @@
 // Answers as numbers of 64 bits, as the boundary to C gives them.
 ghost use mathlib.Core.Path.{_≡_};
+ghost use Rattle.comparison.specs.Answering.{compared};
 ghost use Rattle.lookup.specs.Replies.{replied};
 ghost use Rattle.reader.specs.Said.{said};
 ghost use Rattle.readings.specs.Replies.{truthReplied};
-ghost use Rattle.codes.specs.Codes.{readCode, Few, placeCode, Small, boolCode};
+ghost use Rattle.codes.specs.Codes.{readCode, Few, placeCode, Small, boolCode, SmallBoth, numbers, comparisonNumbers};
+use comparison::Compared;
 use lookup::Lookup;
 use reader::Answer;
 use readings::Truth;
@@ -54,5 +56,22 @@ pub fn bool_code(truth: Truth) -> u64
         }
         Truth::Nothing => NONE,
         Truth::Refused(number) => number as u64,
+    }
+}
+
+// 0 with the numbers of both lookups in `with_it` and `without`; none if the archive has no such file, or the number of the refusal, with
+// both as they were.
+pub fn compare_code(answer: Compared, with_it: &mut u64, without: &mut u64) -> u64
+    requires { ⌜ SmallBoth answer ⌝ }
+    ensures { λ r. ⌜ numbers r (now («with_it» .exit)) (now (without .exit)) ≡ comparisonNumbers (compared answer) (now («with_it» .entry)) (now (without .entry)) ⌝ }
+{
+    match answer {
+        Compared::Both(first, second, _) => {
+            *with_it = place_code(first);
+            *without = place_code(second);
+            0
+        }
+        Compared::NoFile => NONE,
+        Compared::Refused(number) => number as u64,
     }
 }

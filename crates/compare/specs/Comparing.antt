@@ -67,9 +67,9 @@ module _ (c : Case) (struck : List ℕ) where
 abbrev pub leaving : Compared → List ℕ → List ℕ → List ℕ → List ℕ → List ℕ → Left
 leaving r s c b c′ b′ = record { answer = compared r; struck = s; contents = c; bodies = b; contents′ = c′; bodies′ = b′ }
 
-abbrev pub asked : List ℕ → List ℕ → ℕ → List ℕ → List ℕ → List ℕ → List ℕ → List ℕ → List ℕ → Case
-asked text archive file name class contents bodies contents′ bodies′ = record {
-  text = text;
+abbrev pub asked : List (List ℕ) → List ℕ → ℕ → List ℕ → List ℕ → List ℕ → List ℕ → List ℕ → List ℕ → Case
+asked texts archive file name class contents bodies contents′ bodies′ = record {
+  texts = texts;
   archive = archive;
   file = file;
   name = name;

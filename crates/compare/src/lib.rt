@@ -1,4 +1,5 @@
 // The buyer's third term as a call: one query, asked with a file on the archive and with it struck off.
+ghost use mathlib.Core.List.{map};
 ghost use Rattle.compare.specs.Comparing.{asked, leaving, Promise};
 use archive::file_count;
 use comparison::Compared;
@@ -6,13 +7,13 @@ use comparison::look_up_both;
 use limits::BODY_BYTES;
 use limits::CONTENTS_WORDS;
 use reader::Answer;
-use reader::read;
+use reader::read_texts;
 use reader_without::read_without;
 
-// Reads the text with the archive, and again with one file struck off (files are counted from 0), and looks the query up in both.
+// Reads the texts with the archive, and again with one file struck off (files are counted from 0), and looks the query up in both.
 // `struck` is room for the archive without the file.
 pub fn compare_without(
-    text: &[u8],
+    texts: &[&[u8]],
     archive: &[u8],
     file: usize,
     name: &[u8],
@@ -23,7 +24,7 @@ pub fn compare_without(
     contents_without: &mut [u16],
     bodies_without: &mut [u8],
 ) -> Compared
-    ensures { λ r. ⌜ Promise (asked (now (text .entry)) (now (archive .entry)) file (now (name .entry)) (now (class .entry)) (now (contents .entry)) (now (bodies .entry)) (now («contents_without» .entry)) (now («bodies_without» .entry))) (now (struck .entry)) (leaving r (now (struck .exit)) (now (contents .exit)) (now (bodies .exit)) (now («contents_without» .exit)) (now («bodies_without» .exit))) ⌝ }
+    ensures { λ r. ⌜ Promise (asked (map now (now (texts .entry))) (now (archive .entry)) file (now (name .entry)) (now (class .entry)) (now (contents .entry)) (now (bodies .entry)) (now («contents_without» .entry)) (now («bodies_without» .entry))) (now (struck .entry)) (leaving r (now (struck .exit)) (now (contents .exit)) (now (bodies .exit)) (now («contents_without» .exit)) (now («bodies_without» .exit))) ⌝ }
 {
     if struck.len() < archive.len() {
         return Compared::Refused(1);
@@ -34,7 +35,7 @@ pub fn compare_without(
     if bodies_without.len() < BODY_BYTES {
         return Compared::Refused(1);
     }
-    let first = read(text, archive, contents, bodies);
+    let first = read_texts(texts, archive, contents, bodies);
     match first {
         Answer::Refused(number) => Compared::Refused(number),
         Answer::Accepted(_, _) => {
@@ -42,7 +43,7 @@ pub fn compare_without(
                 return Compared::NoFile;
             }
             let second = read_without(
-                text,
+                texts,
                 archive,
                 file,
                 struck,

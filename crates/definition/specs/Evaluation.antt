@@ -9,9 +9,10 @@ use Rattle.definition.specs.Parsing.{continued, atMost, many, _>>=_, aft
 use Rattle.definition.specs.Bytes.{isDigit, isOctal, isName, isBlank, isSpace, isBinding, notNewline}
 use Rattle.definition.specs.Archive.{File, lengthsOf, bodiesOf, archiveOf, filesFrom, filesOf, prefixed, split, isNamePart, isFileName, rising, laidOut, struckOff, folderOf, pathOf, bodyOf}
 use Rattle.definition.specs.Text.{bindingOf, componentAt, partAt, isNamed, endsInName, positional, lineEnds, octalOf, escapeAt, pieceAt, afterBlanks, lineEnd, includeOf, assigned, resourceOf, directiveOf, lineAt, linesOf}
-use Rattle.definition.specs.Including.{Entered, eventsOf, opening, including, events, entriesOf, opensOf}
+use Rattle.definition.specs.Including.{Entered, eventsOf, opening, including, events, eventsOfAll, entriesOf, opensOf}
 use Rattle.definition.specs.Image.{keyOf, rowsOf, storeOf, contentsOf, writtenOver, rowsFrom, storedPartAt, entriesIn, isKey, packed, isImage}
 use Rattle.definition.specs.Reading.{judge, left, reading, met, plain, readEntries}
+use Rattle.definition.specs.StartUp.{firstText, secondText, added, textsUsed}
 use Rattle.definition.specs.Query.{queryPartAt, namesOf, positionsOf, countedQuery, queryOf}
 use Rattle.definition.specs.Matching.{equals, matchAt, markOf, markAt}
 use Rattle.definition.specs.Ranking.{meetRow, skipRow, rankOf, better, bestFrom, bestOf}
@@ -25,8 +26,9 @@ unfolding
     continued atMost many after isDigit isOctal isName isBlank isSpace isBinding notNewline
     lengthsOf bodiesOf archiveOf filesFrom filesOf prefixed split isNamePart isFileName rising laidOut struckOff folderOf pathOf bodyOf
     bindingOf componentAt partAt isNamed endsInName positional lineEnds octalOf escapeAt pieceAt afterBlanks lineEnd includeOf assigned
-    resourceOf directiveOf lineAt linesOf eventsOf opening including events entriesOf opensOf
+    resourceOf directiveOf lineAt linesOf eventsOf opening including events eventsOfAll entriesOf opensOf
     keyOf rowsOf storeOf contentsOf writtenOver rowsFrom storedPartAt entriesIn isKey packed isImage judge left reading
+    firstText secondText added textsUsed
     queryPartAt namesOf positionsOf countedQuery queryOf equals matchAt markOf markAt meetRow skipRow rankOf better bestFrom bestOf
     valueOf answerOf placeOf lookup getBytes answerIn table afterRow firstRow character characterAt isUtf8 naturalOf signed i64Of lowercase
     wordOf nonZero toBool replied readAs numberOf bytesOr getString getBool getValue shown flatten
@@ -54,7 +56,7 @@ written xs = map (λ (x : Entered). record { key = keyOf (x .entry .parts); valu
 
 -- the entries of a main text, with an archive and without
 unfoldable pub entriesWith : List File → String → List Written
-entriesWith fs t = written (readEntries (ascii t) (archiveOf fs))
+entriesWith fs t = written (readEntries (ascii t ∷ []) (archiveOf fs))
 
 unfoldable pub entries : String → List Written
 entries t = entriesWith [] t
@@ -67,7 +69,7 @@ valueIn (w ∷ v ∷ ws) = none
 
 -- what a query gets from a main text's entries
 unfoldable pub answer : String → String → String → Option (List ℕ)
-answer t name class = answerOf (plain (readEntries (ascii t) noFiles)) (queryOf (ascii name) (ascii class))
+answer t name class = answerOf (plain (readEntries (ascii t ∷ []) noFiles)) (queryOf (ascii name) (ascii class))
 
 -- ---- What was recorded of the Rust
 
@@ -90,11 +92,11 @@ abbrev pub entry : List ℕ → List ℕ → Written
 entry k v = record { key = k; value = v }
 
 unfoldable pub read : List ℕ → List ℕ → Answer
-read t s = reads (opensOf (met t s)) (written (readEntries t s))
+read t s = reads (opensOf (met (t ∷ []) s)) (written (readEntries (t ∷ []) s))
 
 module _ (text archive name class : List ℕ) where
   unfoldable pub found : Option (List ℕ)
-  found = answerOf (plain (readEntries text archive)) (queryOf name class)
+  found = answerOf (plain (readEntries (text ∷ []) archive)) (queryOf name class)
 
   unfoldable pub wellFormed : Option (List ℕ)
   wellFormed = found >>= (λ v. if isUtf8 v then some v else none)

@@ -1,12 +1,12 @@
 -- Includes (document 01, "Includes"; Xlib 15.1, IncludeFile; `parse_data_with_base_directory`): all that a reading meets, in text
--- order and without limits, from main text and archive alone.
+-- order and without limits, from its texts and the archive alone.
 use mathlib.Core.List.{List, [], _∷_, _++_}
 use mathlib.Core.Option.{Option, some, none}
 use Prim.Native.Nat.{ℕ, zero, suc}
 use Rattle.definition.specs.Archive.{File, bodyOf, folderOf, pathOf}
 use Rattle.definition.specs.Text.{Entry, Line, skipped, include, entry, linesOf}
 
--- a chain of includes: the names of the files being read, outermost first; none for the main text
+-- a chain of includes: the names of the files being read, outermost first; none for a text of the reading
 abbrev pub Chain : Type 0
 Chain = List (List ℕ)
 
@@ -36,9 +36,15 @@ including (suc d) fs folder chain n =
     let below = chain ++ file ∷ [] in
     opening below (λ body. eventsOf (including d fs (folderOf file) below) below (linesOf body)) (bodyOf fs file)
 
--- the main text: its folder and its chain are empty
+-- a text of the reading, at depth 0: its folder and its chain are empty
 unfoldable pub events : ℕ → List File → List ℕ → List Event
 events depth fs text = eventsOf (including depth fs [] []) [] (linesOf text)
+
+-- the texts of the reading, one after another (document 02 (i)); document 01's main text is the list of one. A text ends at its own end:
+-- its last line is not joined with the next text
+unfoldable pub eventsOfAll : ℕ → List File → List (List ℕ) → List Event
+eventsOfAll depth fs [] = []
+eventsOfAll depth fs (text ∷ texts) = events depth fs text ++ eventsOfAll depth fs texts
 
 -- ---- Of what a reading meets
 

@@ -1,4 +1,4 @@
--- What is right: document 01, in its order, from Xlib manual chapter 15 and X(7) RESOURCES.
+-- What is right: document 01, in its order, and what document 02 adds, from Xlib manual chapter 15 and X(7) RESOURCES.
 -- A byte, a word and a length are natural numbers, and a text is a list of bytes.
 pub mod Lists
 pub mod Parsing
@@ -9,6 +9,7 @@ pub mod Text
 pub mod Including
 pub mod Image
 pub mod Reading
+pub mod StartUp
 pub mod Query
 pub mod Matching
 pub mod Ranking
@@ -19,5 +20,6 @@ pub mod Evaluation
 mod Examples
 mod NameBytes
 mod Manual
+mod Starts
 mod Numbers
 mod Recorded

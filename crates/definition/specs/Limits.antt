@@ -1,7 +1,7 @@
 -- Document 01's limits, each under a name.
 use Prim.Native.Nat.{ℕ, _+_, _*_}
 
--- main text and archive, in bytes
+-- a text of a reading (document 01's main text is one) and the archive, in bytes
 abbrev pub textBytes : ℕ
 textBytes = 32768
 
@@ -14,7 +14,7 @@ archiveFiles = 64
 abbrev pub fileNameBytes : ℕ
 fileNameBytes = 96
 
--- the deepest text that is read; the main text is at depth 0 (Xlib has the same number; the manual is silent)
+-- the deepest text that is read; a text of the reading is at depth 0 (Xlib has the same number; the manual is silent)
 abbrev pub deepest : ℕ
 deepest = 100
 

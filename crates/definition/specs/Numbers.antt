@@ -19,7 +19,7 @@ use Rattle.definition.specs.Evaluation.{definition, file}
 deep : List ℕ
 deep = archiveOf (file "p" "#include \"p\"\na:1" ∷ [])
 
-nested : judge start (met (ascii "#include \"p\"\n") deep) ≡ within (record { opens = 100; entries = 100; used = 300 })
+nested : judge start (met (ascii "#include \"p\"\n" ∷ []) deep) ≡ within (record { opens = 100; entries = 100; used = 300 })
 unfolding definition deep
 nested = refl
 

@@ -1,14 +1,14 @@
 -- The reading call: document 01's limits laid over what a reading meets, and what the call leaves in the two lent buffers.
-use mathlib.Core.Bool.{not}
+use mathlib.Core.Bool.{Bool, not}
 use mathlib.Core.List.{List, [], _∷_, map}
 use Prim.Native.Nat.{ℕ, _+_}
 use lib.Dec.{leb, ltb}
 use lib.ListN.{length}
-use Rattle.definition.specs.Lists.{if_then_else_}
+use Rattle.definition.specs.Lists.{if_then_else_, any}
 use Rattle.definition.specs.Limits.{textBytes, deepest, mostOpens, mostEntries, mostParts, bodyBytes}
 use Rattle.definition.specs.Archive.{laidOut, filesOf}
 use Rattle.definition.specs.Text.{Entry}
-use Rattle.definition.specs.Including.{Event, opened, entered, events, Entered, entriesOf}
+use Rattle.definition.specs.Including.{Event, opened, entered, eventsOfAll, Entered, entriesOf}
 use Rattle.definition.specs.Image.{keyOf, imageContents, imageBodies, tooShort}
 
 -- ---- The limits, in text order
@@ -52,13 +52,13 @@ pub record Outcome : Type 0 where
 abbrev pub outcome : Answer → List ℕ → List ℕ → Outcome
 outcome a c b = record { answer = a; contents = c; bodies = b }
 
--- all that a reading of the main text meets
-abbrev pub met : List ℕ → List ℕ → List Event
-met text archive = events deepest (filesOf archive) text
+-- all that a reading of its texts meets; document 01's main text is the list of one
+abbrev pub met : List (List ℕ) → List ℕ → List Event
+met texts archive = eventsOfAll deepest (filesOf archive) texts
 
 -- the entries of a reading, with their chains and without
-abbrev pub readEntries : List ℕ → List ℕ → List Entered
-readEntries text archive = entriesOf (met text archive)
+abbrev pub readEntries : List (List ℕ) → List ℕ → List Entered
+readEntries texts archive = entriesOf (met texts archive)
 
 abbrev pub plain : List Entered → List Entry
 plain xs = map (λ x. x .entry) xs
@@ -71,10 +71,14 @@ left (past k) es contents bodies = outcome (refused k) (imageContents [] content
 abbrev pub start : Totals
 start = record { opens = 0; entries = 0; used = 0 }
 
+-- limit 2, which holds for each text
+abbrev pub tooLong : List ℕ → Bool
+tooLong text = ltb textBytes (length text)
+
 -- 1, 2 and 3 are tested first and change nothing
-unfoldable pub reading : List ℕ → List ℕ → List ℕ → List ℕ → Outcome
-reading text archive contents bodies =
+unfoldable pub reading : List (List ℕ) → List ℕ → List ℕ → List ℕ → Outcome
+reading texts archive contents bodies =
     if tooShort contents bodies then outcome (refused 1) contents bodies else
-    if ltb textBytes (length text) then outcome (refused 2) contents bodies else
+    if any tooLong texts then outcome (refused 2) contents bodies else
     if not (laidOut archive) then outcome (refused 3) contents bodies else
-    left (judge start (met text archive)) (plain (readEntries text archive)) contents bodies
+    left (judge start (met texts archive)) (plain (readEntries texts archive)) contents bodies

@@ -50,9 +50,10 @@ abbrev pub isAccepted : Answer → Bool
 isAccepted (accepted entries opens) = true
 isAccepted (refusedReading k) = false
 
--- a main text, an archive, the number of a file on it, a query's name and class, and the buffers lent to each reading
+-- the texts of a reading (a main text is the list of one, and a start-up's are in StartUp.antt), an archive, the number of a file on it, a
+-- query's name and class, and the buffers lent to each reading
 pub record Case : Type 0 where
-  pub text : List ℕ
+  pub texts : List (List ℕ)
   pub archive : List ℕ
   pub file : ℕ
   pub name : List ℕ
@@ -71,10 +72,10 @@ module _ (c : Case) where
 
   -- with the file on the archive, and with it struck off
   abbrev pub withFile : Outcome
-  withFile = reading (c .text) (c .archive) (c .contents) (c .bodies)
+  withFile = reading (c .texts) (c .archive) (c .contents) (c .bodies)
 
   abbrev pub withoutFile : Outcome
-  withoutFile = reading (c .text) (struckOff (c .file) (c .archive)) (c .contents′) (c .bodies′)
+  withoutFile = reading (c .texts) (struckOff (c .file) (c .archive)) (c .contents′) (c .bodies′)
 
   pub record Given : Type 0 where
     pub fileOnIt : c .file < length (filesOf (c .archive))
@@ -90,9 +91,9 @@ module _ (c : Case) where
   abbrev pub lookedUp : Outcome → Option (List ℕ)
   lookedUp o = answerIn (o .bodies) (lookup o)
 
-  -- the answer that the definition gives for the main text and an archive
+  -- the answer that the definition gives for the texts and an archive
   abbrev pub defined : List ℕ → Option (List ℕ)
-  defined archive = answerOf (plain (readEntries (c .text) archive)) query
+  defined archive = answerOf (plain (readEntries (c .texts) archive)) query
 
   pub record ThirdTerm : Type 0 where
     pub isReadToo : isAccepted (withoutFile .answer) ≡ true
@@ -102,5 +103,5 @@ module _ (c : Case) where
     pub firstAnswer : lookedUp withFile ≡ defined (c .archive)
     pub secondAnswer : lookedUp withoutFile ≡ defined (struckOff (c .file) (c .archive))
     pub equalJustWhen : (lookedUp withFile ≡ lookedUp withoutFile)
-        ↔ (NoneThroughBeats fileName (readEntries (c .text) (c .archive)) query
-        ⊎ SameBytesWithout fileName (readEntries (c .text) (c .archive)) query)
+        ↔ (NoneThroughBeats fileName (readEntries (c .texts) (c .archive)) query
+        ⊎ SameBytesWithout fileName (readEntries (c .texts) (c .archive)) query)

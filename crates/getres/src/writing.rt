@@ -35,14 +35,26 @@ pub fn write_help(fd: i32) {
     write_all(
         fd,
         b"usage: getres [--file [NAME=]PATH].. [--without NAME] [--] TEXT NAME [CLASS]\n\
+        \x20      getres [--file [NAME=]PATH].. [--without NAME] CHAIN.. [--] NAME [CLASS]\n\
         \n\
-        Prints the value that the X resources of the file TEXT give to a name and a class.\n\
-        A TEXT of - is standard input.\n\
+        Prints the value that the X resources of the file TEXT give to a name and a class; or those of a\n\
+        start-up chain, with a line for each of its two steps that says which text is used.\n\
+        A TEXT, or a PATH of a chain, of - is standard input.\n\
         \n\
         \x20 --file [NAME=]PATH  a file that includes find by NAME, or else by PATH as it is written\n\
         \x20 --without NAME      two answers, with that file and without it, and whether they differ\n\
         \x20 --status-fd N       writes the status to descriptor N, 3 to 9\n\
         \x20 --help              prints this\n\
+        \n\
+        These ask for a chain. A text that is not named, or that cannot be read, is one that could not be read.\n\
+        \n\
+        \x20 --default             a chain, whatever else is named\n\
+        \x20 --property PATH       the property RESOURCE_MANAGER; without it the property is empty\n\
+        \x20 --property-format N   its format, 8, 16 or 32; without it 8\n\
+        \x20 --xresources PATH     .Xresources\n\
+        \x20 --xdefaults PATH      .Xdefaults\n\
+        \x20 --xenvironment PATH   what XENVIRONMENT names; without it XENVIRONMENT is not set\n\
+        \x20 --host PATH           the .Xdefaults of the host\n\
         \n\
         Status: 0 a value, 1 none; with --without 0 equal, 1 different; 2 refused, or an error.\n",
     );

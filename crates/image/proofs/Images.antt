@@ -16,7 +16,7 @@ use Rattle.definition.specs.Image.{keyOf, rowsOf, storeOf, contentsOf, writtenO
 use Rattle.definition.specs.Reading as definition
 use Rattle.definition.specs.Reading.{Verdict, within, past, sizeOf, judge, plain, start, left}
 use Rattle.laws.proofs.Image.{length-rows}
-use Rattle.image.specs.Running.{World, world, Ran, went, stopped, stored, put, counted, openOne, andThen, run, closedWords, closedBytes, finished}
+use Rattle.image.specs.Running.{begun, World, world, Ran, went, stopped, stored, put, counted, openOne, andThen, run, closedWords, closedBytes, finished}
 use Rattle.image.specs.Rows.{rowStart}
 use Rattle.image.specs.declared.Totals.{Totals}
 use Rattle.image.proofs.Runs.{RoomIn, then-went, put-went, open-went, step-room, run-room, size-is}
@@ -142,9 +142,6 @@ unfolding zeroes
 two-zeroes zero h = absurd (omega arith)
 two-zeroes (suc zero) h = absurd (omega arith)
 two-zeroes (suc (suc n)) h = let e : suc (suc n) - 2 ≡ n = omega arith in rw e refl
-
-abbrev pub begun : Totals
-begun = record { opens = 0; entries = 0; used = 0 }
 
 module _ (c b : List ℕ) (hc : length c ≡ contentsWords) (hb : length b ≡ bodyBytes) where
   pub room-first : RoomIn (world begun c b)

@@ -25,6 +25,10 @@ pub record World : Type 0 where
 abbrev pub world : Totals → List ℕ → List ℕ → World
 world s c b = record { totals = s; words = c; bytes = b }
 
+-- nothing is read yet
+abbrev pub begun : Totals
+begun = record { opens = 0; entries = 0; used = 0 }
+
 -- the totals are within the limits and the buffers as long as an image
 pub record Room (s : Totals) (c b : List ℕ) : Type 0 where
   pub opens-most : s .opens ≤ mostOpens

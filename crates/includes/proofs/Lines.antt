@@ -16,7 +16,7 @@ use Rattle.image.specs.Running.{World, world, Ran, went, stopped, put, counted,
 use Rattle.image.proofs.Runs.{run-append}
 use Rattle.includes.specs.Texts.{textEvents}
 
-lines-end : linesOf [] ≡ []
+pub lines-end : linesOf [] ≡ []
 unfolding linesOf lineAt
 lines-end = ap (λ p. p .items) (many-stop lineAt line-shrinks [] refl)
 

@@ -5,27 +5,27 @@ use mathlib.Core.Option.{Option, some, none}
 use mathlib.Core.Path.{_≡_, refl, sym, ap, _∙_}
 use Prim.Native.Nat.{ℕ, zero, suc, _+_, _≤_}
 use native.Mathlib.Omega.{arith}
-use lib.Dec.{leb, ltb}
+use lib.Dec.{leb}
 use lib.ListN.{length}
-use borrow.Author.Tests.{ltb-false, le-ltb, le-leb}
-use Rattle.definition.specs.Lists.{if_then_else_, all}
-use Rattle.definition.specs.Limits.{textBytes, mostParts, mostEntries, mostOpens}
+use borrow.Author.Tests.{le-leb}
+use Rattle.definition.specs.Lists.{if_then_else_, all, any}
+use Rattle.definition.specs.Limits.{mostParts, mostEntries, mostOpens}
 use Rattle.definition.specs.Archive.{File, laidOut, bodyOf, folderOf, pathOf}
 use Rattle.definition.specs.Text.{Entry, Line, skipped, include, entry, linesOf}
-use Rattle.definition.specs.Including.{Chain, Event, opened, entered, eventsOf, opening, including, events, entriesOf, opensOf}
+use Rattle.definition.specs.Including.{Chain, Event, opened, entered, eventsOf, opening, including, events, eventsOfAll, entriesOf, opensOf}
 use Rattle.definition.specs.Image.{tooShort, imageContents, imageBodies}
-use Rattle.definition.specs.Reading.{Totals, Verdict, within, past, judge, start, accepted, refused, Outcome, outcome, met, readEntries, plain, left, reading}
+use Rattle.definition.specs.Reading.{Totals, Verdict, within, past, judge, start, accepted, refused, Outcome, outcome, met, readEntries, plain, left, tooLong, reading}
 use Rattle.definition.specs.ThirdTerm.{isAccepted}
 use Rattle.laws.proofs.Lists.{not-both, and-true, and-both}
 use Rattle.laws.proofs.Limits.{InLimits, FewParts, judge-limits, limits-judge}
 
 -- ---- An accepted reading
 
-pub record Reads (text archive contents bodies : List ℕ) : Type 0 where
+pub record Reads (texts : List (List ℕ)) (archive contents bodies : List ℕ) : Type 0 where
   pub long : tooShort contents bodies ≡ false
-  pub fits : length text ≤ textBytes
+  pub fit : any tooLong texts ≡ false
   pub isLaidOut : laidOut archive ≡ true
-  pub limits : InLimits start (met text archive)
+  pub limits : InLimits start (met texts archive)
 
 not-refused : (b : Bool) (k : ℕ) (c d : List ℕ) (o : Outcome) → isAccepted ((if b then outcome (refused k) c d else o) .answer) ≡ true
     → (b ≡ false) × (isAccepted (o .answer) ≡ true)
@@ -41,39 +41,39 @@ not-not : (b : Bool) → not b ≡ false → b ≡ true
 not-not true e = refl
 not-not false e = sym e
 
-module _ (text archive contents bodies : List ℕ) where
-  pub accepted-reads : isAccepted (reading text archive contents bodies .answer) ≡ true → Reads text archive contents bodies
+module _ (texts : List (List ℕ)) (archive contents bodies : List ℕ) where
+  pub accepted-reads : isAccepted (reading texts archive contents bodies .answer) ≡ true → Reads texts archive contents bodies
   unfolding reading
   accepted-reads e =
       let a = not-refused (tooShort contents bodies) 1 contents bodies _ e in
-      let b = not-refused (ltb textBytes (length text)) 2 contents bodies _ (a .1) in
+      let b = not-refused (any tooLong texts) 2 contents bodies _ (a .1) in
       let c = not-refused (not (laidOut archive)) 3 contents bodies _ (b .1) in
-      let d = judged (judge start (met text archive)) (plain (readEntries text archive)) contents bodies (c .1) in
+      let d = judged (judge start (met texts archive)) (plain (readEntries texts archive)) contents bodies (c .1) in
       record {
         long = a .0;
-        fits = ltb-false textBytes (length text) (b .0);
+        fit = b .0;
         isLaidOut = not-not (laidOut archive) (c .0);
-        limits = judge-limits (met text archive) start (d .0) (omega arith) (omega arith) (omega arith) (d .1) .1;
+        limits = judge-limits (met texts archive) start (d .0) (omega arith) (omega arith) (omega arith) (d .1) .1;
       }
 
   -- it leaves the image of its entries
-  pub reads-outcome : Reads text archive contents bodies
-      → reading text archive contents bodies
-      ≡ outcome (accepted (0 + length (readEntries text archive)) (0 + opensOf (met text archive)))
-      (imageContents (plain (readEntries text archive)) contents) (imageBodies (plain (readEntries text archive)) bodies)
+  pub reads-outcome : Reads texts archive contents bodies
+      → reading texts archive contents bodies
+      ≡ outcome (accepted (0 + length (readEntries texts archive)) (0 + opensOf (met texts archive)))
+      (imageContents (plain (readEntries texts archive)) contents) (imageBodies (plain (readEntries texts archive)) bodies)
   unfolding reading left
   reads-outcome r =
-      rw (r .long, le-ltb textBytes (length text) (r .fits), r .isLaidOut, limits-judge (met text archive) start (r .limits)) refl
+      rw (r .long, r .fit, r .isLaidOut, limits-judge (met texts archive) start (r .limits)) refl
 
 -- an accepted reading answers within the limits
-pub accepted-small : (text archive contents bodies c b : List ℕ) (n o : ℕ) → outcome (accepted n o) c b ≡ reading text archive contents bodies
+pub accepted-small : (texts : List (List ℕ)) (archive contents bodies c b : List ℕ) (n o : ℕ) → outcome (accepted n o) c b ≡ reading texts archive contents bodies
     → (n ≤ mostEntries) × (o ≤ mostOpens)
-accepted-small text archive contents bodies c b n o e =
-    let r = accepted-reads text archive contents bodies (rw (← e) refl) in
-    let f : outcome (accepted n o) c b ≡ _ = e ∙ reads-outcome text archive contents bodies r in
-    let g : accepted n o ≡ accepted (0 + length (readEntries text archive)) (0 + opensOf (met text archive)) = ap (λ (x : Outcome). x .answer) f in
-    let p : n ≡ 0 + length (readEntries text archive) = cc in
-    let q : o ≡ 0 + opensOf (met text archive) = cc in
+accepted-small texts archive contents bodies c b n o e =
+    let r = accepted-reads texts archive contents bodies (rw (← e) refl) in
+    let f : outcome (accepted n o) c b ≡ _ = e ∙ reads-outcome texts archive contents bodies r in
+    let g : accepted n o ≡ accepted (0 + length (readEntries texts archive)) (0 + opensOf (met texts archive)) = ap (λ (x : Outcome). x .answer) f in
+    let p : n ≡ 0 + length (readEntries texts archive) = cc in
+    let q : o ≡ 0 + opensOf (met texts archive) = cc in
     (omega (arith, r .limits .entries-most), omega (arith, r .limits .opens-most))
 
 -- ---- What holds of every line's entry holds of every entry read
@@ -113,9 +113,14 @@ module _ (good : Entry → Bool) (test : Line → Bool) (agrees : (e : Entry) �
       opening-good (ch ++ g ∷ []) _ (bodyOf fs g)
       (λ b. eventsOf-good (including d fs (folderOf g) (ch ++ g ∷ [])) (ch ++ g ∷ []) (linesOf b) (λ m. including-good d fs (folderOf g) (ch ++ g ∷ []) m) (lines-pass b))
 
-  pub events-good : (d : ℕ) (fs : List File) (t : List ℕ) → all good (plain (entriesOf (events d fs t))) ≡ true
+  events-good : (d : ℕ) (fs : List File) (t : List ℕ) → all good (plain (entriesOf (events d fs t))) ≡ true
   unfolding events
   events-good d fs t = eventsOf-good (including d fs [] []) [] (linesOf t) (λ n. including-good d fs [] [] n) (lines-pass t)
+
+  pub eventsOfAll-good : (d : ℕ) (fs : List File) (ts : List (List ℕ)) → all good (plain (entriesOf (eventsOfAll d fs ts))) ≡ true
+  unfolding eventsOfAll entriesOf all
+  eventsOfAll-good d fs [] = refl
+  eventsOfAll-good d fs (t ∷ ts) = good-append (events d fs t) (eventsOfAll d fs ts) (events-good d fs t) (eventsOfAll-good d fs ts)
 
 -- each entry of a reading within the limits has few enough parts
 pub few-parts : (es : List Event) → FewParts es → all (λ (e : Entry). leb (length (e .parts)) mostParts) (plain (entriesOf es)) ≡ true

@@ -7,7 +7,7 @@ use Prim.Native.Nat.{ℕ, zero, suc}
 use Rattle.definition.specs.Lists.{if_then_else_, any, filter, same}
 use Rattle.definition.specs.Archive.{File, bodyOf, folderOf, pathOf}
 use Rattle.definition.specs.Text.{Line, skipped, include, entry, linesOf}
-use Rattle.definition.specs.Including.{Chain, Event, opened, entered, eventsOf, opening, including, events, Entered, entriesOf}
+use Rattle.definition.specs.Including.{Chain, Event, opened, entered, eventsOf, opening, including, events, eventsOfAll, Entered, entriesOf}
 use Rattle.definition.specs.ThirdTerm.{cameThrough, leftWithout}
 use Rattle.laws.proofs.Lists.{same-eq, any-append, filter-append}
 
@@ -117,10 +117,16 @@ module _ (file : List ℕ) where
         at true e ih = at-file d folder ch n e
         at false e ih = at-other d ih folder ch n h e
 
-    -- the events read with the file struck off are those read with it, less those that came through it
-    pub events-struck : (d : ℕ) (t : List ℕ) → events d gs t ≡ eventsWithout (events d fs t)
+    events-struck : (d : ℕ) (t : List ℕ) → events d gs t ≡ eventsWithout (events d fs t)
     unfolding events any Struck
     events-struck d t = eventsOf-struck (including d fs [] []) (including d gs [] []) [] (linesOf t) refl (λ n. including-struck d [] [] n refl)
+
+    -- the events read with the file struck off are those read with it, less those that came through it
+    pub eventsOfAll-struck : (d : ℕ) (ts : List (List ℕ)) → eventsOfAll d gs ts ≡ eventsWithout (eventsOfAll d fs ts)
+    unfolding eventsOfAll filter
+    eventsOfAll-struck d [] = refl
+    eventsOfAll-struck d (t ∷ ts) =
+        rw (filter-append apart (events d fs t) (eventsOfAll d fs ts), events-struck d t, eventsOfAll-struck d ts) refl
 
   -- ---- Of the entries and the opens
 

@@ -22,9 +22,9 @@ use Rattle.definition.specs.Lookup.{keysOf, valueOf, answerOf, refused, placeOf
 use Rattle.definition.specs.ThirdTerm.{cameThrough, leftWithout, entryNumber, NoneThroughBeats, SameBytesWithout, Case, query, fileName, Given, ThirdTerm}
 use Rattle.laws.proofs.Lists.{not-both, and-true, and-both}
 use Rattle.laws.proofs.Archive.{laidOut-says, files-struck, struck-laidOut, removed-gone, removed-other}
-use Rattle.laws.proofs.Struck.{Lacks, eventsWithout, apart, events-struck, entries-without}
+use Rattle.laws.proofs.Struck.{Lacks, eventsWithout, apart, eventsOfAll-struck, entries-without}
 use Rattle.laws.proofs.Limits.{limits-fewer, used-store}
-use Rattle.laws.proofs.Reading.{Reads, accepted-reads, reads-outcome, events-good, few-parts}
+use Rattle.laws.proofs.Reading.{Reads, accepted-reads, reads-outcome, eventsOfAll-good, few-parts}
 use Rattle.laws.proofs.Keys.{isLegalLine, lines-legal}
 use Rattle.laws.proofs.Image.{isStorable, image-is}
 use Rattle.laws.proofs.Ranking.{best-beats, best-none, beats-one, beats-best, beats-kept, none-kept}
@@ -151,37 +151,37 @@ replies contents bodies (positions qs) h k = at (bestOf (keysOf (entriesIn (rows
 replies contents bodies malformed h k = λ e. let z : _≡_ {A = ℕ} 0 1 = cc in omega arith
 replies contents bodies (pastLimit j) h k = λ e. absurd (h j refl)
 
-module _ (text archive contents bodies : List ℕ) (r : Reads text archive contents bodies) where
+module _ (texts : List (List ℕ)) (archive contents bodies : List ℕ) (r : Reads texts archive contents bodies) where
   abbrev es : List Entry
-  es = plain (readEntries text archive)
+  es = plain (readEntries texts archive)
 
   storable : all isStorable es ≡ true
   unfolding isStorable isLegalLine
   storable =
       all-both _ (λ (e : Entry). leb (length (e .parts)) mostParts) es
-      (events-good _ isLegalLine (λ e. refl) lines-legal deepest (filesOf archive) text)
-      (few-parts (met text archive) (r .limits .parts-most))
+      (eventsOfAll-good _ isLegalLine (λ e. refl) lines-legal deepest (filesOf archive) texts)
+      (few-parts (met texts archive) (r .limits .parts-most))
 
   few : length es ≤ mostEntries
-  few = omega (arith, r .limits .entries-most, length-map (readEntries text archive) (λ (x : Entered). x .entry))
+  few = omega (arith, r .limits .entries-most, length-map (readEntries texts archive) (λ (x : Entered). x .entry))
 
   small : length (storeOf es) ≤ bodyBytes
-  small = omega (arith, r .limits .used-most, used-store (met text archive))
+  small = omega (arith, r .limits .used-most, used-store (met texts archive))
 
   pub reading-answers : (name class : List ℕ)
-      → answerIn (reading text archive contents bodies .bodies)
-      (getBytes (reading text archive contents bodies .contents) (reading text archive contents bodies .bodies) name class)
+      → answerIn (reading texts archive contents bodies .bodies)
+      (getBytes (reading texts archive contents bodies .contents) (reading texts archive contents bodies .bodies) name class)
       ≡ answerOf es (queryOf name class)
   reading-answers name class =
-      rw (reads-outcome text archive contents bodies r)
+      rw (reads-outcome texts archive contents bodies r)
       (answer-image es contents bodies storable few small (r .long) name class)
 
   -- and the lookup is not refused
   pub reading-replies : (name class : List ℕ) → ((k : ℕ) → queryOf name class ≡ pastLimit k → ⊥)
-      → (k : ℕ) → getBytes (reading text archive contents bodies .contents) (reading text archive contents bodies .bodies) name class ≡ refused k → ⊥
+      → (k : ℕ) → getBytes (reading texts archive contents bodies .contents) (reading texts archive contents bodies .bodies) name class ≡ refused k → ⊥
   unfolding getBytes
   reading-replies name class limits k =
-      rw (reads-outcome text archive contents bodies r, image-is es contents bodies storable few small (r .long))
+      rw (reads-outcome texts archive contents bodies r, image-is es contents bodies storable few small (r .long))
       (replies (imageContents es contents) (imageBodies es bodies) (queryOf name class) limits k)
 
 -- ---- The term
@@ -190,8 +190,8 @@ module _ (c : Case) (g : Given c) where
   abbrev struck : List ℕ
   struck = struckOff (c .file) (c .archive)
 
-  first : Reads (c .text) (c .archive) (c .contents) (c .bodies)
-  first = accepted-reads (c .text) (c .archive) (c .contents) (c .bodies) (g .isRead)
+  first : Reads (c .texts) (c .archive) (c .contents) (c .bodies)
+  first = accepted-reads (c .texts) (c .archive) (c .contents) (c .bodies) (g .isRead)
 
   lacks : Lacks (filesOf (c .archive)) (filesOf struck) (fileName c)
   lacks =
@@ -200,29 +200,29 @@ module _ (c : Case) (g : Given c) where
         others = λ n h. removed-other (c .file) (filesOf (c .archive)) n (g .fileOnIt) h;
       })
 
-  met-struck : met (c .text) struck ≡ eventsWithout (fileName c) (met (c .text) (c .archive))
-  met-struck = events-struck (fileName c) (filesOf (c .archive)) (filesOf struck) lacks deepest (c .text)
+  met-struck : met (c .texts) struck ≡ eventsWithout (fileName c) (met (c .texts) (c .archive))
+  met-struck = eventsOfAll-struck (fileName c) (filesOf (c .archive)) (filesOf struck) lacks deepest (c .texts)
 
-  second : Reads (c .text) struck (c .contents′) (c .bodies′)
+  second : Reads (c .texts) struck (c .contents′) (c .bodies′)
   second = record {
     long = g .longEnough′;
-    fits = first .fits;
+    fit = first .fit;
     isLaidOut = struck-laidOut (c .file) (c .archive) (first .isLaidOut) (g .fileOnIt);
-    limits = rw met-struck (limits-fewer (apart (fileName c)) start (met (c .text) (c .archive)) (first .limits));
+    limits = rw met-struck (limits-fewer (apart (fileName c)) start (met (c .texts) (c .archive)) (first .limits));
   }
 
-  entries-struck : readEntries (c .text) struck ≡ leftWithout (fileName c) (readEntries (c .text) (c .archive))
-  entries-struck = ap entriesOf met-struck ∙ entries-without (fileName c) (met (c .text) (c .archive))
+  entries-struck : readEntries (c .texts) struck ≡ leftWithout (fileName c) (readEntries (c .texts) (c .archive))
+  entries-struck = ap entriesOf met-struck ∙ entries-without (fileName c) (met (c .texts) (c .archive))
 
   pub third-term : ThirdTerm c
   third-term =
-      let a = reading-answers (c .text) (c .archive) (c .contents) (c .bodies) first (c .name) (c .class) in
-      let b = reading-answers (c .text) struck (c .contents′) (c .bodies′) second (c .name) (c .class) in
+      let a = reading-answers (c .texts) (c .archive) (c .contents) (c .bodies) first (c .name) (c .class) in
+      let b = reading-answers (c .texts) struck (c .contents′) (c .bodies′) second (c .name) (c .class) in
       record {
-        isReadToo = rw (reads-outcome (c .text) struck (c .contents′) (c .bodies′) second) refl;
-        firstAnswers = reading-replies (c .text) (c .archive) (c .contents) (c .bodies) first (c .name) (c .class) (g .withinLimits);
-        secondAnswers = reading-replies (c .text) struck (c .contents′) (c .bodies′) second (c .name) (c .class) (g .withinLimits);
+        isReadToo = rw (reads-outcome (c .texts) struck (c .contents′) (c .bodies′) second) refl;
+        firstAnswers = reading-replies (c .texts) (c .archive) (c .contents) (c .bodies) first (c .name) (c .class) (g .withinLimits);
+        secondAnswers = reading-replies (c .texts) struck (c .contents′) (c .bodies′) second (c .name) (c .class) (g .withinLimits);
         firstAnswer = a;
         secondAnswer = b;
-        equalJustWhen = rw (a, b, entries-struck) (equal-just-when (fileName c) (readEntries (c .text) (c .archive)) (query c) (g .withinLimits));
+        equalJustWhen = rw (a, b, entries-struck) (equal-just-when (fileName c) (readEntries (c .texts) (c .archive)) (query c) (g .withinLimits));
       }

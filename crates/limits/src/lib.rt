@@ -1,7 +1,7 @@
 // Document 01's limits, each under the name that Limits.antt of the definition has for it. A contract holds code to the definition's
 // number, so that a slip here is refused where the number is used; a test holds the two lists to each other.
 
-// Main text and archive (document 01's shelf), in bytes.
+// A text of a reading (document 01's main text is one) and the archive (its shelf), in bytes.
 pub const TEXT_BYTES: usize = 32768;
 
 pub const ARCHIVE_BYTES: usize = 65536;
@@ -10,7 +10,7 @@ pub const ARCHIVE_FILES: usize = 64;
 
 pub const FILE_NAME_BYTES: usize = 96;
 
-// The deepest text that is read; the main text is at depth 0.
+// The deepest text that is read; a text of the reading is at depth 0.
 pub const DEEPEST: usize = 100;
 
 pub const MOST_OPENS: usize = 4096;

@@ -5,7 +5,7 @@ use mathlib.Core.Path.{_≡_, refl, ap, sym, _∙_}
 use Prim.Native.Nat.{ℕ, zero, suc, _+_, _*_, _≤_, _<_}
 use native.Mathlib.Omega.{arith}
 use lib.ListN.{length, getD, length-append, length-map}
-use Rattle.definition.specs.Lists.{ascii, zeroes}
+use Rattle.definition.specs.Lists.{ascii, zeroes, any}
 use Rattle.definition.specs.Limits.{textBytes, contentsWords, bodyBytes, mostEntries, rowWords}
 use Rattle.definition.specs.Text.{Entry}
 use Rattle.definition.specs.Including.{Entered, opensOf}
@@ -69,16 +69,16 @@ words = zeroes contentsWords
 abbrev bytes : List ℕ
 bytes = zeroes bodyBytes
 
-module _ (text c b : List ℕ) (n o : ℕ) (e : outcome (accepted n o) c b ≡ reading text noFiles words bytes) where
+module _ (text c b : List ℕ) (n o : ℕ) (e : outcome (accepted n o) c b ≡ reading (text ∷ []) noFiles words bytes) where
   abbrev es : List Entry
-  es = plain (readEntries text noFiles)
+  es = plain (readEntries (text ∷ []) noFiles)
 
-  reads : Reads text noFiles words bytes
-  reads = accepted-reads text noFiles words bytes (rw (← e) refl)
+  reads : Reads (text ∷ []) noFiles words bytes
+  reads = accepted-reads (text ∷ []) noFiles words bytes (rw (← e) refl)
 
   left : outcome (accepted n o) c b
-      ≡ outcome (accepted (0 + length (readEntries text noFiles)) (0 + opensOf (met text noFiles))) (imageContents es words) (imageBodies es bytes)
-  left = e ∙ reads-outcome text noFiles words bytes reads
+      ≡ outcome (accepted (0 + length (readEntries (text ∷ []) noFiles)) (0 + opensOf (met (text ∷ []) noFiles))) (imageContents es words) (imageBodies es bytes)
+  left = e ∙ reads-outcome (text ∷ []) noFiles words bytes reads
 
   contents-are : c ≡ imageContents es words
   contents-are = ap (λ (x : Outcome). x .contents) left
@@ -86,20 +86,20 @@ module _ (text c b : List ℕ) (n o : ℕ) (e : outcome (accepted n o) c b ≡ r
   bodies-are : b ≡ imageBodies es bytes
   bodies-are = ap (λ (x : Outcome). x .bodies) left
 
-  long : length (readEntries text noFiles) ≡ length es
-  long = sym (length-map (readEntries text noFiles) (λ (x : Entered). x .entry))
+  long : length (readEntries (text ∷ []) noFiles) ≡ length es
+  long = sym (length-map (readEntries (text ∷ []) noFiles) (λ (x : Entered). x .entry))
 
   count : n ≡ length es
   count =
-      let a : accepted n o ≡ accepted (0 + length (readEntries text noFiles)) (0 + opensOf (met text noFiles)) = ap (λ (x : Outcome). x .answer) left in
-      let m : n ≡ 0 + length (readEntries text noFiles) = cc in
+      let a : accepted n o ≡ accepted (0 + length (readEntries (text ∷ []) noFiles)) (0 + opensOf (met (text ∷ []) noFiles)) = ap (λ (x : Outcome). x .answer) left in
+      let m : n ≡ 0 + length (readEntries (text ∷ []) noFiles) = cc in
       omega (arith, long)
 
   few : length es ≤ mostEntries
   few = omega (arith, reads .limits .entries-most, long)
 
   small : length (storeOf es) ≤ bodyBytes
-  small = omega (arith, reads .limits .used-most, used-store (met text noFiles))
+  small = omega (arith, reads .limits .used-most, used-store (met (text ∷ []) noFiles))
 
   lines-are : rowLines 0 (rowsIn c) b ≡ entryLines 0 es
   unfolding writtenOver
@@ -131,17 +131,17 @@ module _ (text c b : List ℕ) (n o : ℕ) (e : outcome (accepted n o) c b ≡ r
   pub accepted-lists : {out o₁ o₂ : List ℕ} {e₁ e₂ : ℕ} → Appends (wordLine (ascii "entries") n) out 0 o₁ e₁ → Appends (rowLines 0 (rowsIn c) b) o₁ e₁ o₂ e₂ → Lists text out o₂ e₂
   accepted-lists p q = let puts = piece-of is-printed (then-piece p q) in record { puts = puts; counts = piece-counts puts }
 
-refused-printed : (text c b : List ℕ) (k : ℕ) → outcome (refused k) c b ≡ reading text noFiles words bytes → wordLine (ascii "refused") k ≡ printed text
+refused-printed : (text c b : List ℕ) (k : ℕ) → outcome (refused k) c b ≡ reading (text ∷ []) noFiles words bytes → wordLine (ascii "refused") k ≡ printed text
 unfolding printed written
 refused-printed text c b k e = rw (← e)
 
-pub refused-lists : (text : List ℕ) {c b : List ℕ} {k : ℕ} {out o₁ : List ℕ} {e₁ : ℕ} → outcome (refused k) c b ≡ reading text noFiles words bytes
+pub refused-lists : (text : List ℕ) {c b : List ℕ} {k : ℕ} {out o₁ : List ℕ} {e₁ : ℕ} → outcome (refused k) c b ≡ reading (text ∷ []) noFiles words bytes
     → Appends (wordLine (ascii "refused") k) out 0 o₁ e₁ → Lists text out o₁ e₁
 refused-lists text {c} {b} {k} e p = let puts = piece-of (refused-printed text c b k e) p in record { puts = puts; counts = piece-counts puts }
 
 -- a text that is too long
 long-printed : (text : List ℕ) → textBytes < length text → wordLine (ascii "refused") 2 ≡ printed text
-unfolding printed written reading
+unfolding printed written reading any
 long-printed text h =
     let short : tooShort (zeroes contentsWords) (zeroes bodyBytes) ≡ false = rw (length-zeroes contentsWords, length-zeroes bodyBytes) in
     rw (short, lt-ltb textBytes (length text) h)

@@ -33,7 +33,7 @@ written (refused k) es = wordLine (ascii "refused") k
 
 -- what is written for a main text, read with an archive of no files
 unfoldable pub printed : List ℕ → List ℕ
-printed text = written (reading text noFiles (zeroes contentsWords) (zeroes bodyBytes) .answer) (plain (readEntries text noFiles))
+printed text = written (reading (text ∷ []) noFiles (zeroes contentsWords) (zeroes bodyBytes) .answer) (plain (readEntries (text ∷ []) noFiles))
 
 -- ---- The same of an image
 

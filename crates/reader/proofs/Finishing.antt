@@ -7,32 +7,32 @@ use native.Mathlib.Omega.{arith}
 use lib.ListN.{length, take, drop, drop-of-length-le}
 use lib.Seq.{length-take-le}
 use borrow.Author.Tests.{lt-ltb, le-ltb}
-use Rattle.definition.specs.Lists.{zeroes, beyond}
-use Rattle.definition.specs.Limits.{contentsWords, bodyBytes, textBytes, deepest}
-use Rattle.definition.specs.Archive.{laidOut, filesOf}
+use Rattle.definition.specs.Lists.{any, zeroes, beyond}
+use Rattle.definition.specs.Limits.{contentsWords, bodyBytes}
+use Rattle.definition.specs.Archive.{laidOut}
 use Rattle.definition.specs.Text.{Entry}
-use Rattle.definition.specs.Including.{Event, events, entriesOf}
 use Rattle.definition.specs.Image.{writtenOver}
-use Rattle.definition.specs.Reading.{Verdict, within, past, accepted, refused, outcome, left, judge, start, met, plain, readEntries, reading}
-use Rattle.image.specs.Running.{world, run, answered, closedWords, closedBytes, finished}
+use Rattle.definition.specs.Reading.{Verdict, within, past, accepted, refused, outcome, left, judge, start, met, plain, readEntries, tooLong, reading}
+use Rattle.image.specs.Running.{world, begun, run, answered, closedWords, closedBytes, finished}
 use Rattle.image.specs.declared.Totals.{Totals}
 use Rattle.image.specs.declared.Step.{Step}
 use Rattle.image.specs.declared.Step.the-variants.{Go, Stop}
-use Rattle.image.proofs.Images.{begun, room-after, finished-left}
-use Rattle.includes.specs.Texts.{textEvents}
+use Rattle.image.proofs.Images.{room-after, finished-left}
 use Rattle.reader.specs.Said.{Ready, leftBy}
 
 -- ---- The end of a reading, whatever it has met
 
-module _ (c b : List ℕ) (hc : length c ≡ contentsWords) (hb : length b ≡ bodyBytes) (es : List Event) where
-  ready-after : (r : Step) (c′ b′ : List ℕ) → answered r c′ b′ ≡ run (world begun c b) es → length c′ ≡ length c → length b′ ≡ length b → Ready r c′ b′
+module _ (texts : List (List ℕ)) (archive c b : List ℕ) (hc : length c ≡ contentsWords) (hb : length b ≡ bodyBytes) where
+  pub ready : (r : Step) (c′ b′ : List ℕ) → answered r c′ b′ ≡ run (world begun c b) (met texts archive)
+      → length c′ ≡ length c → length b′ ≡ length b → Ready r c′ b′
   unfolding answered
-  ready-after (Go s) c′ b′ e lc lb = room-after c b hc hb es (world s c′ b′) (sym e)
-  ready-after (Stop k) c′ b′ e lc lb = (lc ∙ hc, lb ∙ hb)
+  ready (Go s) c′ b′ e lc lb = room-after c b hc hb (met texts archive) (world s c′ b′) (sym e)
+  ready (Stop k) c′ b′ e lc lb = (lc ∙ hc, lb ∙ hb)
 
-  finished-is : (r : Step) (c′ b′ : List ℕ) → answered r c′ b′ ≡ run (world begun c b) es
-      → finished (answered r c′ b′) ≡ left (judge start es) (plain (entriesOf es)) c b
-  finished-is r c′ b′ e = ap finished e ∙ finished-left c b hc hb es
+  pub finished-is : (r : Step) (c′ b′ : List ℕ) → answered r c′ b′ ≡ run (world begun c b) (met texts archive)
+      → finished (answered r c′ b′) ≡ leftBy texts archive c b
+  unfolding leftBy
+  finished-is r c′ b′ e = ap finished e ∙ finished-left c b hc hb (met texts archive)
 
 -- what `empty_image` and `close_image` leave is the end of a reading
 module _ (r : Step) (c b : List ℕ) (ready : Ready r c b) where
@@ -47,16 +47,6 @@ module _ (r : Step) (c b : List ℕ) (ready : Ready r c b) where
       → outcome (accepted (s .entries) (s .opens)) c′ b′ ≡ finished (answered r c b)
   unfolding answered finished
   go-finished s e f = rw (e, f .0, f .1) refl
-
--- the main text
-module _ (text archive c b : List ℕ) (hc : length c ≡ contentsWords) (hb : length b ≡ bodyBytes) (r : Step) (c′ b′ : List ℕ)
-    (e : answered r c′ b′ ≡ run (world begun c b) (textEvents deepest (filesOf archive) [] [] text)) where
-  pub text-ready : length c′ ≡ length c → length b′ ≡ length b → Ready r c′ b′
-  text-ready = ready-after c b hc hb (textEvents deepest (filesOf archive) [] [] text) r c′ b′ e
-
-  pub text-finished : finished (answered r c′ b′) ≡ leftBy text archive c b
-  unfolding leftBy textEvents events
-  text-finished = finished-is c b hc hb (met text archive) r c′ b′ e
 
 -- ---- The call, in buffers of any length
 
@@ -79,34 +69,34 @@ unfolding left
 left-front (within s) es c b = λ i. outcome (accepted (s .entries) (s .opens)) (over-front contentsWords c (Rattle.definition.specs.Image.contentsOf es) i) (over-front bodyBytes b (Rattle.definition.specs.Image.storeOf es) i)
 left-front (past k) es c b = λ i. outcome (refused k) (over-front contentsWords c (Rattle.definition.specs.Image.contentsOf []) i) (over-front bodyBytes b (Rattle.definition.specs.Image.storeOf []) i)
 
-module _ (text archive c b : List ℕ) where
-  pub short-contents : length c < contentsWords → outcome (refused 1) c b ≡ reading text archive c b
+module _ (texts : List (List ℕ)) (archive c b : List ℕ) where
+  pub short-contents : length c < contentsWords → outcome (refused 1) c b ≡ reading texts archive c b
   unfolding reading
   short-contents h = rw (lt-ltb (length c) contentsWords h) refl
 
   module _ (hc : contentsWords ≤ length c) where
-    pub short-bodies : length b < bodyBytes → outcome (refused 1) c b ≡ reading text archive c b
+    pub short-bodies : length b < bodyBytes → outcome (refused 1) c b ≡ reading texts archive c b
     unfolding reading
     short-bodies h = rw (le-ltb (length c) contentsWords hc, lt-ltb (length b) bodyBytes h) refl
 
     module _ (hb : bodyBytes ≤ length b) where
-      pub long-text : textBytes < length text → outcome (refused 2) c b ≡ reading text archive c b
+      pub long-text : any tooLong texts ≡ true → outcome (refused 2) c b ≡ reading texts archive c b
       unfolding reading
-      long-text h = rw (le-ltb (length c) contentsWords hc, le-ltb (length b) bodyBytes hb, lt-ltb textBytes (length text) h) refl
+      long-text h = rw (le-ltb (length c) contentsWords hc, le-ltb (length b) bodyBytes hb, h) refl
 
-      module _ (ht : length text ≤ textBytes) where
-        pub not-laid-out : laidOut archive ≡ false → outcome (refused 3) c b ≡ reading text archive c b
+      module _ (ht : any tooLong texts ≡ false) where
+        pub not-laid-out : laidOut archive ≡ false → outcome (refused 3) c b ≡ reading texts archive c b
         unfolding reading
-        not-laid-out h = rw (le-ltb (length c) contentsWords hc, le-ltb (length b) bodyBytes hb, le-ltb textBytes (length text) ht, h) refl
+        not-laid-out h = rw (le-ltb (length c) contentsWords hc, le-ltb (length b) bodyBytes hb, ht, h) refl
 
 -- 1, 2 and 3 are passed
-pub record Admitted (text archive c b : List ℕ) : Type 0 where
+pub record Admitted (texts : List (List ℕ)) (archive c b : List ℕ) : Type 0 where
   pub words : contentsWords ≤ length c
   pub bytes : bodyBytes ≤ length b
-  pub short : length text ≤ textBytes
+  pub short : any tooLong texts ≡ false
   pub laid : laidOut archive ≡ true
 
-module _ {text archive c b : List ℕ} (h : Admitted text archive c b) where
+module _ {texts : List (List ℕ)} {archive c b : List ℕ} (h : Admitted texts archive c b) where
   pub words-front : length (take contentsWords c) ≡ contentsWords
   words-front = length-take-le contentsWords c (h .words)
 
@@ -115,10 +105,10 @@ module _ {text archive c b : List ℕ} (h : Admitted text archive c b) where
 
   -- filling the fronts of the buffers is then the reading
   pub fronts : (a : Rattle.definition.specs.Reading.Answer) (c′ b′ : List ℕ)
-      → outcome a c′ b′ ≡ leftBy text archive (take contentsWords c) (take bodyBytes b)
-      → outcome a (c′ ++ drop contentsWords c) (b′ ++ drop bodyBytes b) ≡ reading text archive c b
+      → outcome a c′ b′ ≡ leftBy texts archive (take contentsWords c) (take bodyBytes b)
+      → outcome a (c′ ++ drop contentsWords c) (b′ ++ drop bodyBytes b) ≡ reading texts archive c b
   unfolding reading leftBy
   fronts a c′ b′ e =
       (λ i. outcome (e i .answer) (e i .contents ++ drop contentsWords c) (e i .bodies ++ drop bodyBytes b))
-      ∙ left-front (judge start (met text archive)) (plain (readEntries text archive)) c b
-      ∙ sym (rw (le-ltb (length c) contentsWords (h .words), le-ltb (length b) bodyBytes (h .bytes), le-ltb textBytes (length text) (h .short), h .laid) refl)
+      ∙ left-front (judge start (met texts archive)) (plain (readEntries texts archive)) c b
+      ∙ sym (rw (le-ltb (length c) contentsWords (h .words), le-ltb (length b) bodyBytes (h .bytes), h .short, h .laid) refl)

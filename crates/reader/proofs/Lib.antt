@@ -1,2 +1,3 @@
 -- Laws of the reading call.
+pub mod Texts
 pub mod Finishing

@@ -23,5 +23,5 @@ Ready (Go s) c b = Room s c b
 Ready (Stop k) c b = (length c ≡ contentsWords) × (length b ≡ bodyBytes)
 
 -- what a reading that passes 1 to 3 leaves
-unfoldable pub leftBy : List ℕ → List ℕ → List ℕ → List ℕ → Outcome
-leftBy text archive contents bodies = left (judge start (met text archive)) (plain (readEntries text archive)) contents bodies
+unfoldable pub leftBy : List (List ℕ) → List ℕ → List ℕ → List ℕ → Outcome
+leftBy texts archive contents bodies = left (judge start (met texts archive)) (plain (readEntries texts archive)) contents bodies

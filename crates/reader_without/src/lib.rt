@@ -1,17 +1,18 @@
-// A text read with a file struck off its archive.
+// Texts read with a file struck off their archive.
 ghost use mathlib.Core.Path.{_≡_};
 ghost use mathlib.Core.Bool.{true};
+ghost use mathlib.Core.List.{map};
 ghost use Prim.Native.Nat.{_≤_, _<_};
 ghost use lib.ListN.{length};
 ghost use Rattle.definition.specs.Archive.{laidOut, filesOf};
 ghost use Rattle.reader_without.specs.Second.{SecondOf};
 use archive_edit::strike_off;
 use reader::Answer;
-use reader::read;
+use reader::read_texts;
 
 // Strikes the file off (files are counted from 0) and reads. `struck` is room for the archive without the file.
 pub fn read_without(
-    text: &[u8],
+    texts: &[&[u8]],
     archive: &[u8],
     file: usize,
     struck: &mut [u8],
@@ -19,9 +20,9 @@ pub fn read_without(
     bodies: &mut [u8],
 ) -> Answer
     requires { ⌜ (laidOut (now archive) ≡ true) × (file < length (filesOf (now archive))) × (length (now archive) ≤ length (now struck)) ⌝ }
-    ensures { λ r. ⌜ SecondOf r (now (text .entry)) (now (archive .entry)) file (now (struck .entry)) (now (contents .entry)) (now (bodies .entry)) (now (struck .exit)) (now (contents .exit)) (now (bodies .exit)) ⌝ }
+    ensures { λ r. ⌜ SecondOf r (map now (now (texts .entry))) (now (archive .entry)) file (now (struck .entry)) (now (contents .entry)) (now (bodies .entry)) (now (struck .exit)) (now (contents .exit)) (now (bodies .exit)) ⌝ }
 {
     let n = strike_off(archive, file, struck);
     let without = &struck[..n];
-    read(text, without, contents, bodies)
+    read_texts(texts, without, contents, bodies)
 }

@@ -13,7 +13,7 @@ reason-most k = at (eqb k 1) (eqb k 2) (eqb k 3) (eqb k 4) (eqb k 5) (eqb k 6) (
   where
     at : (a b c d e f g h i j : Bool) → length (
         if a then ascii "refused 1: the buffers are too short" else
-        if b then ascii "refused 2: the main text has more than 32,768 bytes" else
+        if b then ascii "refused 2: a text has more than 32,768 bytes" else
         if c then ascii "refused 3: the files are not laid out as an archive" else
         if d then ascii "refused 4: the includes open files more than 4,096 times" else
         if e then ascii "refused 5: an entry has more than 16 parts" else

@@ -7,7 +7,7 @@ use Rattle.definition.specs.Lists.{if_then_else_, ascii}
 unfoldable pub refusalOf : ℕ → List ℕ
 refusalOf k =
     if eqb k 1 then ascii "refused 1: the buffers are too short" else
-    if eqb k 2 then ascii "refused 2: the main text has more than 32,768 bytes" else
+    if eqb k 2 then ascii "refused 2: a text has more than 32,768 bytes" else
     if eqb k 3 then ascii "refused 3: the files are not laid out as an archive" else
     if eqb k 4 then ascii "refused 4: the includes open files more than 4,096 times" else
     if eqb k 5 then ascii "refused 5: an entry has more than 16 parts" else

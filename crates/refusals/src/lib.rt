@@ -13,11 +13,7 @@ pub fn put_reason(number: u8, out: &mut [u8], at: usize) -> usize
 {
     match number {
         1 => put(b"refused 1: the buffers are too short", out, at),
-        2 => put(
-            b"refused 2: the main text has more than 32,768 bytes",
-            out,
-            at,
-        ),
+        2 => put(b"refused 2: a text has more than 32,768 bytes", out, at),
         3 => put(
             b"refused 3: the files are not laid out as an archive",
             out,

@@ -1,24 +1,12 @@
 // One recorded line: the reading or the lookup is asked again, and what it gives is compared.
-ghost use mathlib.Core.Path.{_≡_};
-ghost use Prim.Native.Nat.{_≤_};
-ghost use lib.ListN.{length};
-ghost use Rattle.definition.specs.Limits.{contentsWords};
-ghost use Rattle.image.specs.Rows.{InWords};
-use crate::fields::pass_bytes;
-use crate::fields::pass_integer;
-use crate::fields::pass_number;
-use crate::fields::pass_word;
-use crate::fields::take_pair;
-use crate::fields::until;
 use check::same;
-use image::Row;
-use image::row_at;
-use limits::ARCHIVE_BYTES;
+use fields::is_reading;
+use fields::pass_bytes;
+use fields::pass_number;
+use fields::take_bytes;
 use limits::BODY_BYTES;
 use limits::CONTENTS_WORDS;
-use limits::MOST_ENTRIES;
 use limits::QUERY_BYTES;
-use limits::TEXT_BYTES;
 use lookup::Lookup;
 use lookup::get_bytes;
 use reader::Answer;
@@ -28,135 +16,27 @@ use readings::get_bool;
 use readings::get_string;
 use readings::get_value;
 use readings::show;
+use scan::next_component;
 
-// What a line asks.
-enum Kind {
-    Reading,
-    Bytes,
-    Text,
-    Bool,
-    Number,
-    Unknown,
+// Is the rest of the line one field, of so many bytes?
+fn is_whole(rest: &[u8], end: usize) -> bool {
+    end > 0 && end == rest.len()
 }
 
-fn kind_of(word: &[u8]) -> Kind {
-    if same(word, b"read") {
-        return Kind::Reading;
+// How far a number is from 0. The negative of the least `i64` does not fit one, so that is made of the number after it.
+fn magnitude(number: i64) -> usize {
+    if number >= 0 {
+        return number as usize;
     }
-    if same(word, b"bytes") {
-        return Kind::Bytes;
-    }
-    if same(word, b"string") {
-        return Kind::Text;
-    }
-    if same(word, b"bool") {
-        return Kind::Bool;
-    }
-    if same(word, b"value") {
-        return Kind::Number;
-    }
-    Kind::Unknown
+    (-1 - number) as usize + 1
 }
 
-// How many bytes of the line an entry's key and value take, if they are those of the row and lie at `at`: 0 if not.
-fn pass_entry(rest: &[u8], row: Row, at: usize, bodies: &[u8]) -> usize
-    requires { ⌜ InWords row ⌝ }
-    ensures { λ r. ⌜ r ≤ length (now (rest .entry)) ⌝ }
-{
-    let start = row.start;
-    let middle = start + row.key;
-    let end = middle + row.value;
-    if start != at {
-        return 0;
-    }
-    if end > bodies.len() {
-        return 0;
-    }
-    let key = pass_bytes(rest, &bodies[start..middle]);
-    if key == 0 {
-        return 0;
-    }
-    let value = pass_bytes(&rest[key..], &bodies[middle..end]);
-    if value == 0 {
-        return 0;
-    }
-    key + value
-}
-
-fn wide(word: u16) -> usize
-    ensures { λ r. ⌜ r ≡ word ⌝ }
-{
-    word as usize
-}
-
-// Are the entries of an image those of the line, to its end?
-fn are_entries(rest: &[u8], count: usize, contents: &[u16], bodies: &[u8]) -> bool
-    requires { ⌜ contentsWords ≡ length (now contents) ⌝ }
-{
-    if count > MOST_ENTRIES {
-        return false;
-    }
-    if wide(contents[0]) != count {
-        return false;
-    }
-    let mut fields = rest;
-    let mut at = 0;
-    let mut i = 0;
-    while i < count {
-        let row = row_at(contents, i);
-        let n = pass_entry(fields, row, at, bodies);
-        if n == 0 {
-            return false;
-        }
-        at = row.start + row.key + row.value;
-        fields = &fields[n..];
-        i += 1;
-    }
-    if wide(contents[1]) != at {
-        return false;
-    }
-    fields.len() == 0
-}
-
-fn is_reading(rest: &[u8], entries: usize, opens: usize, contents: &[u16], bodies: &[u8]) -> bool
-    requires { ⌜ contentsWords ≡ length (now contents) ⌝ }
-{
-    let first = pass_number(rest, opens);
-    if first == 0 {
-        return false;
-    }
-    let second = pass_number(&rest[first..], entries);
-    if second == 0 {
-        return false;
-    }
-    are_entries(&rest[first + second..], entries, contents, bodies)
-}
-
-// Is the rest of the line this word alone?
-fn is_word(rest: &[u8], word: &[u8]) -> bool {
-    let end = pass_word(rest, word);
-    if end == 0 {
-        return false;
-    }
-    end == rest.len()
-}
-
-// Is it these bytes alone?
-fn is_field(rest: &[u8], bytes: &[u8]) -> bool {
-    let end = pass_bytes(rest, bytes);
-    if end == 0 {
-        return false;
-    }
-    end == rest.len()
-}
-
-// Is it this number alone?
 fn is_number(rest: &[u8], number: i64) -> bool {
-    let end = pass_integer(rest, number);
-    if end == 0 {
-        return false;
+    let size = magnitude(number);
+    if number < 0 {
+        return is_whole(rest, pass_number(rest, b" -", size));
     }
-    end == rest.len()
+    is_whole(rest, pass_number(rest, b" ", size))
 }
 
 // Is a lookup's answer that of the line? Every recorded lookup is accepted.
@@ -169,9 +49,9 @@ fn is_place(rest: &[u8], answer: Lookup, bodies: &[u8]) -> bool {
             if size > bodies.len() - start {
                 return false;
             }
-            is_field(rest, &bodies[start..start + size])
+            is_whole(rest, pass_bytes(rest, &bodies[start..start + size]))
         }
-        Lookup::Nothing => is_word(rest, b"none"),
+        Lookup::Nothing => same(rest, b" none"),
         Lookup::Refused(_) => false,
     }
 }
@@ -181,11 +61,11 @@ fn is_truth(rest: &[u8], answer: Truth) -> bool {
     match answer {
         Truth::Is(truth) => {
             if truth {
-                return is_word(rest, b"true");
+                return same(rest, b" true");
             }
-            is_word(rest, b"false")
+            same(rest, b" false")
         }
-        Truth::Nothing => is_word(rest, b"none"),
+        Truth::Nothing => same(rest, b" none"),
         Truth::Refused(_) => false,
     }
 }
@@ -193,57 +73,65 @@ fn is_truth(rest: &[u8], answer: Truth) -> bool {
 fn is_value(rest: &[u8], answer: Value) -> bool {
     match answer {
         Value::Is(number) => is_number(rest, number),
-        Value::NotANumber => is_word(rest, b"notnumber"),
-        Value::Nothing => is_word(rest, b"none"),
+        Value::NotANumber => same(rest, b" notnumber"),
+        Value::Nothing => same(rest, b" none"),
         Value::Refused(_) => false,
     }
 }
 
 // What is shown for a query without an answer is the default.
 fn is_shown(rest: &[u8], shown: &[u8]) -> bool {
-    if is_word(rest, b"none") {
+    if same(rest, b" none") {
         return same(shown, b"default");
     }
-    is_field(rest, shown)
+    is_whole(rest, pass_bytes(rest, shown))
 }
 
 fn is_bytes(rest: &[u8], contents: &[u16], bodies: &[u8], name: &[u8], class: &[u8]) -> bool {
-    if !is_place(rest, get_bytes(contents, bodies, name, class), bodies) {
+    if !is_shown(rest, show(contents, bodies, name, class, b"default")) {
         return false;
     }
-    is_shown(rest, show(contents, bodies, name, class, b"default"))
+    is_place(rest, get_bytes(contents, bodies, name, class), bodies)
 }
 
 // The query is asked of the image.
 fn is_answer(
-    kind: Kind,
+    kind: &[u8],
     rest: &[u8],
     contents: &[u16],
     bodies: &[u8],
     name: &[u8],
     class: &[u8],
 ) -> bool {
-    match kind {
-        Kind::Bytes => is_bytes(rest, contents, bodies, name, class),
-        Kind::Text => is_place(rest, get_string(contents, bodies, name, class), bodies),
-        Kind::Bool => is_truth(rest, get_bool(contents, bodies, name, class)),
-        Kind::Number => is_value(rest, get_value(contents, bodies, name, class)),
-        Kind::Reading => false,
-        Kind::Unknown => false,
+    if same(kind, b"bytes") {
+        return is_bytes(rest, contents, bodies, name, class);
     }
+    if same(kind, b"string") {
+        return is_place(rest, get_string(contents, bodies, name, class), bodies);
+    }
+    if same(kind, b"bool") {
+        return is_truth(rest, get_bool(contents, bodies, name, class));
+    }
+    if same(kind, b"value") {
+        return is_value(rest, get_value(contents, bodies, name, class));
+    }
+    false
 }
 
 // A query's name and class, and the answer.
-fn replay_lookup(kind: Kind, rest: &[u8], contents: &[u16], bodies: &[u8]) -> bool {
+fn replay_lookup(kind: &[u8], line: &[u8], contents: &[u16], bodies: &[u8]) -> bool {
     let mut name = [0; QUERY_BYTES];
     let mut class = [0; QUERY_BYTES];
-    let query = take_pair(rest, &mut name, &mut class);
-    if !query.good {
+    let first = take_bytes(line, &mut name);
+    let n = first.size;
+    let middle = first.end;
+    let rest = &line[middle..];
+    let second = take_bytes(rest, &mut class);
+    let m = second.size;
+    let end = second.end;
+    if middle == 0 || end == 0 {
         return false;
     }
-    let n = query.first;
-    let m = query.second;
-    let end = query.end;
     is_answer(
         kind,
         &rest[end..],
@@ -255,32 +143,34 @@ fn replay_lookup(kind: Kind, rest: &[u8], contents: &[u16], bodies: &[u8]) -> bo
 }
 
 // The text is read again. Every recorded reading is accepted.
-fn replay_reading(kind: Kind, rest: &[u8], text: &[u8], archive: &[u8]) -> bool {
+fn replay_reading(kind: &[u8], line: &[u8], text: &[u8], archive: &[u8]) -> bool {
     let mut contents = [0; CONTENTS_WORDS];
     let mut bodies = [0; BODY_BYTES];
     let answer = reader::read(text, archive, &mut contents, &mut bodies);
     let Answer::Accepted(entries, opens) = answer else {
         return false;
     };
-    let Kind::Reading = kind else {
-        return replay_lookup(kind, rest, &contents, &bodies);
-    };
-    is_reading(rest, entries, opens, &contents, &bodies)
+    if same(kind, b"read") {
+        return is_reading(line, entries, opens, &contents, &bodies);
+    }
+    replay_lookup(kind, line, &contents, &bodies)
 }
 
 // Is a line, without its newline, what the calls answer?
 pub fn replay_case(line: &[u8]) -> bool {
-    let mut text = [0; TEXT_BYTES];
-    let mut archive = [0; ARCHIVE_BYTES];
-    let n = until(line, b' ');
-    let kind = kind_of(&line[..n]);
-    let rest = &line[n..];
-    let asked = take_pair(rest, &mut text, &mut archive);
-    if !asked.good {
+    let mut text = io::large_buffer();
+    let mut archive = io::large_buffer();
+    let kind = next_component(line);
+    let fields = &line[kind..];
+    let first = take_bytes(fields, &mut text);
+    let n = first.size;
+    let middle = first.end;
+    let rest = &fields[middle..];
+    let second = take_bytes(rest, &mut archive);
+    let m = second.size;
+    let end = second.end;
+    if middle == 0 || end == 0 {
         return false;
     }
-    let size = asked.first;
-    let length = asked.second;
-    let end = asked.end;
-    replay_reading(kind, &rest[end..], &text[..size], &archive[..length])
+    replay_reading(&line[..kind], &rest[end..], &text[..n], &archive[..m])
 }

@@ -1,6 +1,6 @@
 -- The place that a lookup finds is small enough for its code, and what the boundary makes of each answer. Assumes nothing.
 use mathlib.Core.List.{List}
-use mathlib.Core.Path.{_≡_, refl, sym, ap, _∙_}
+use mathlib.Core.Path.{_≡_, refl, ap, _∙_}
 use Prim.Native.Nat.{ℕ}
 use lib.IntN.{ℤ}
 use Rattle.definition.specs.Reading.{Outcome, outcome, reading}
@@ -10,8 +10,8 @@ use Rattle.definition.specs.Value.{Number, getString}
 use Rattle.definition.specs.ThirdTerm.{Case, withFile, withoutFile}
 use Rattle.comparison.specs.declared.Compared.{Compared}
 use Rattle.comparison.specs.declared.Compared.the-variants.{Both, NoFile, Refused as RefusedCall}
-use Rattle.comparison.specs.Answering.{compared}
-use Rattle.compare.specs.Comparing.{Left, Promise, leaving}
+use Rattle.comparison.specs.Answering.{Comparison, compared}
+use Rattle.compare.specs.Comparing.{Left, comparing, Promise, leaving}
 use Rattle.compare.proofs.Comparing.{answered-both}
 use Rattle.lookup.specs.Replies.{replied}
 use Rattle.lookup.specs.declared.Lookup.{Lookup}
@@ -23,14 +23,14 @@ use Rattle.reader.specs.Said.{said}
 use Rattle.readings.specs.Replies.{valueReplied}
 use Rattle.readings.specs.declared.Value.{Value}
 use Rattle.readings.proofs.Readings.{string-found}
-use Rattle.codes.specs.Codes.{noneCode, readCode, Few, placeCode, Small}
-use Rattle.resource_manager.specs.Boundary.{crossed, crossing, taken, compares, compareCode, carried, CarriesTerm, Crosses}
+use Rattle.codes.specs.Codes.{readCode, Few, Small, Numbers, comparisonNumbers, SmallBoth}
+use Rattle.resource_manager.specs.Boundary.{crossed, crossing, taken, compares, carried, Crosses}
 
 -- ---- Readings and lookups, once the answer is told
 
-module _ (text archive contents bodies c b : List ℕ) where
-  pub read-few : (r : Answer) → outcome (said r) c b ≡ reading text archive contents bodies → Few r
-  read-few (Accepted n o) e = accepted-small text archive contents bodies c b n o e
+module _ (texts : List (List ℕ)) (archive contents bodies c b : List ℕ) where
+  pub read-few : (r : Answer) → outcome (said r) c b ≡ reading texts archive contents bodies → Few r
+  read-few (Accepted n o) e = accepted-small texts archive contents bodies c b n o e
   read-few (RefusedReading k) e = tt
 
 pub read-crosses : (r : Answer) (n : ℕ) (c b : List ℕ) (o : Outcome) → outcome (said r) c b ≡ o → n ≡ readCode (said r) → crossing n c b ≡ crossed o
@@ -52,36 +52,25 @@ module _ (contents bodies name class : List ℕ) where
 
 -- ---- A comparing call
 
-module _ (c : Case) (struck : List ℕ) (r : Compared) (s c₁ b₁ c₂ b₂ : List ℕ) (p : Promise c struck (leaving r s c₁ b₁ c₂ b₂)) where
-  pub both-small : (a b : Lookup) (second : Answer) → r ≡ Both a b second → Small a × Small b
-  both-small a b second e =
-      let m = answered-both c struck (leaving r s c₁ b₁ c₂ b₂) (replied a) (replied b) (said second) (rw e refl) (p .equals) in (
+module _ (c : Case) (struck : List ℕ) where
+  pub both-small : (r : Compared) (s c₁ b₁ c₂ b₂ : List ℕ) → leaving r s c₁ b₁ c₂ b₂ ≡ comparing c struck → SmallBoth r
+  both-small (Both a b second) s c₁ b₁ c₂ b₂ e =
+      let m = answered-both c struck _ (replied a) (replied b) (said second) refl e in (
         bytes-small (withFile c .contents) (withFile c .bodies) (c .name) (c .class) a (m .first-looked),
         bytes-small (withoutFile c .contents) (withoutFile c .bodies) (c .name) (c .class) b (m .second-looked),
       )
+  both-small NoFile s c₁ b₁ c₂ b₂ e = tt
+  both-small (RefusedCall k) s c₁ b₁ c₂ b₂ e = tt
 
-  module _ (w o : ℕ) where
-    crosses : Crosses c struck w o (carried (leaving r s c₁ b₁ c₂ b₂) w o)
-    crosses = record {
-      equals = ap (λ (l : Left). carried l w o) (p .equals);
-      third-term = λ g room.
-          let t = p .third-term g room in
-          let e = ap (λ (l : Left). carried l w o) (t .made) in
-          record {
-            made = e;
-            code = ap compareCode (t .answers);
-            first = rw (t .answers) refl;
-            second = rw (t .answers) refl;
-            term = t .term;
-          };
-    }
-
-    pub crosses-both : (a b : Lookup) (second : Answer) → r ≡ Both a b second → (m n : ℕ) → m ≡ placeCode (replied a) → n ≡ placeCode (replied b)
-        → Crosses c struck w o (compares 0 m n s c₁ b₁ c₂ b₂)
-    crosses-both a b second e m n f g = rw (f, g) (rw e at crosses)
-
-    pub crosses-none : r ≡ NoFile → Crosses c struck w o (compares noneCode w o s c₁ b₁ c₂ b₂)
-    crosses-none e = rw e at crosses
-
-    pub crosses-refused : (k : ℕ) → r ≡ RefusedCall k → Crosses c struck w o (compares k w o s c₁ b₁ c₂ b₂)
-    crosses-refused k e = rw e at crosses
+  pub crosses : (r : Compared) (n : Numbers) (w o : ℕ) (s c₁ b₁ c₂ b₂ : List ℕ) → Promise c struck (leaving r s c₁ b₁ c₂ b₂) → n ≡ comparisonNumbers (compared r) w o
+      → Crosses c struck w o (compares n s c₁ b₁ c₂ b₂)
+  crosses r n w o s c₁ b₁ c₂ b₂ p e = record {
+    equals = rw e (ap (λ (l : Left). carried l w o) (p .equals));
+    third-term = λ g room.
+        let t = p .third-term g room in
+        record {
+          made = rw e (ap (λ (l : Left). carried l w o) (t .made));
+          both = e ∙ ap (λ (a : Comparison). comparisonNumbers a w o) (t .answers);
+          term = t .term;
+        };
+  }

@@ -1,16 +1,21 @@
 -- What the calls for C give and leave, by the codes of their answers.
+use mathlib.Core.Bool.{Bool, not}
 use mathlib.Core.List.{List}
 use mathlib.Core.Path.{_≡_}
 use Prim.Native.Nat.{ℕ, _≤_}
 use lib.IntN.{ℤ}
+use lib.Dec.{eqb}
 use lib.ListN.{length}
 use Rattle.definition.specs.Reading.{Outcome}
 use Rattle.definition.specs.Lookup.{Reply, given, noValue, refused as refusedBy}
 use Rattle.definition.specs.Value.{Number, number, notANumber}
 use Rattle.definition.specs.ThirdTerm.{Case, withFile, withoutFile, lookup, Given, ThirdTerm}
-use Rattle.comparison.specs.Answering.{Comparison, both, noFile, refusedBy as refusedAs}
 use Rattle.compare.specs.Comparing.{Left, bothRead, comparing}
-use Rattle.codes.specs.Codes.{noneCode, notANumberCode, readCode, placeCode}
+use Rattle.codes.specs.Codes.{noneCode, notANumberCode, readCode, placeCode, Numbers, numbers, comparisonNumbers}
+
+-- a flag is no if it is 0, else yes
+abbrev pub yes : ℕ → Bool
+yes n = not (eqb n 0)
 
 -- ---- Readings
 
@@ -45,48 +50,27 @@ taken (refusedBy k) lent = taking k lent
 
 -- ---- The comparing call
 
--- a call's number, the two lent numbers, and each lent buffer afterwards
+-- a call's numbers, and each lent buffer afterwards
 pub record Compares : Type 0 where
-  pub code : ℕ
-  pub withIt : ℕ
-  pub without : ℕ
+  pub numbers : Numbers
   pub struck : List ℕ
   pub contents : List ℕ
   pub bodies : List ℕ
   pub contents′ : List ℕ
   pub bodies′ : List ℕ
 
-abbrev pub compares : ℕ → ℕ → ℕ → List ℕ → List ℕ → List ℕ → List ℕ → List ℕ → Compares
-compares n w o s c b c′ b′ = record { code = n; withIt = w; without = o; struck = s; contents = c; bodies = b; contents′ = c′; bodies′ = b′ }
-
--- 0 with both lookups' numbers, 65535 if the archive has no such file, or the refusal; only 0 changes the lent numbers
-abbrev pub compareCode : Comparison → ℕ
-compareCode (both a b second) = 0
-compareCode noFile = noneCode
-compareCode (refusedAs k) = k
-
-abbrev pub codeWith : Comparison → ℕ → ℕ
-codeWith (both a b second) lent = placeCode a
-codeWith noFile lent = lent
-codeWith (refusedAs k) lent = lent
-
-abbrev pub codeWithout : Comparison → ℕ → ℕ
-codeWithout (both a b second) lent = placeCode b
-codeWithout noFile lent = lent
-codeWithout (refusedAs k) lent = lent
+abbrev pub compares : Numbers → List ℕ → List ℕ → List ℕ → List ℕ → List ℕ → Compares
+compares n s c b c′ b′ = record { numbers = n; struck = s; contents = c; bodies = b; contents′ = c′; bodies′ = b′ }
 
 abbrev pub carried : Left → ℕ → ℕ → Compares
-carried l w o =
-    compares (compareCode (l .answer)) (codeWith (l .answer) w) (codeWithout (l .answer) o) (l .struck) (l .contents) (l .bodies) (l .contents′) (l .bodies′)
+carried l w o = compares (comparisonNumbers (l .answer) w o) (l .struck) (l .contents) (l .bodies) (l .contents′) (l .bodies′)
 
 module _ (c : Case) (struck : List ℕ) (withIt without : ℕ) where
   -- the third term, of a call that gives and leaves these: both readings and both lookups are made, 0 with the numbers of both
   -- lookups, and they are as the term says
   pub record CarriesTerm (after : Compares) : Type 0 where
     pub made : after ≡ carried (bothRead c struck) withIt without
-    pub code : after .code ≡ 0
-    pub first : after .withIt ≡ placeCode (lookup c (withFile c))
-    pub second : after .without ≡ placeCode (lookup c (withoutFile c))
+    pub both : after .numbers ≡ numbers 0 (placeCode (lookup c (withFile c))) (placeCode (lookup c (withoutFile c)))
     pub term : ThirdTerm c
 
   -- what the call promises: its number and all that is lent, of any arguments; and the term, with nothing given beyond the term's own

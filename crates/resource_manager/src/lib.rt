@@ -1,19 +1,22 @@
 // The calls for C, Rust and the tests to link. A slice passes as a pointer and an element count.
+mod comparing;
+
+ghost use mathlib.Core.List.{[], _∷_};
 ghost use mathlib.Core.Path.{_≡_};
 ghost use Rattle.definition.specs.Reading.{reading};
+ghost use Rattle.definition.specs.StartUp.{starting};
 ghost use Rattle.definition.specs.Lookup.{getBytes};
 ghost use Rattle.definition.specs.Value as definition;
 ghost use Rattle.definition.specs.Value.{getString, getBool, getValue};
+ghost use Rattle.startup.specs.Lending.{lending, startUp};
 ghost use Rattle.codes.specs.Codes.{placeCode, boolCode};
-ghost use Rattle.resource_manager.specs.Boundary.{crossed, crossing, taking, taken, compares, Crosses};
-ghost use Rattle.compare.specs.Comparing.{asked};
+ghost use Rattle.resource_manager.specs.Boundary.{yes, crossed, crossing, taking, taken};
 ghost use Rattle.readings.specs.Showing.{shownAt};
 use codes::NONE;
 use codes::NOT_A_NUMBER;
 use codes::bool_code;
 use codes::place_code;
 use codes::read_code;
-use comparison::Compared;
 use readings::Value;
 
 // Document 01's reading call. The low 16 bits are 0, or the number of the refusal and that alone; entries stand in bits 16 to 31
@@ -25,9 +28,49 @@ pub extern "C" fn resource_manager_read(
     contents: &mut [u16],
     bodies: &mut [u8],
 ) -> u64
-    ensures { λ r. ⌜ crossing r (now (contents .exit)) (now (bodies .exit)) ≡ crossed (reading (now (text .entry)) (now (shelf .entry)) (now (contents .entry)) (now (bodies .entry))) ⌝ }
+    ensures { λ r. ⌜ crossing r (now (contents .exit)) (now (bodies .exit)) ≡ crossed (reading (now (text .entry) ∷ []) (now (shelf .entry)) (now (contents .entry)) (now (bodies .entry))) ⌝ }
 {
     let answer = reader::read(text, shelf, contents, bodies);
+    read_code(answer)
+}
+
+// The reading call over what a reader starts with: document 02 (i). A flag is no if it is 0, else yes. The answer is that of
+// `resource_manager_read`.
+#[no_mangle]
+pub extern "C" fn resource_manager_read_default<'a>(
+    property_format: u8,
+    property: &'a [u8],
+    xresources_read: u8,
+    xresources: &'a [u8],
+    xdefaults_read: u8,
+    xdefaults: &'a [u8],
+    xenvironment_set: u8,
+    xenvironment_read: u8,
+    xenvironment: &'a [u8],
+    host_read: u8,
+    host: &'a [u8],
+    shelf: &[u8],
+    contents: &mut [u16],
+    bodies: &mut [u8],
+) -> u64
+    ensures { λ r. ⌜ crossing r (now (contents .exit)) (now (bodies .exit)) ≡ crossed (starting (startUp «property_format» (now (property .entry)) (lending (yes «xresources_read») (now (xresources .entry))) (lending (yes «xdefaults_read») (now (xdefaults .entry))) (yes «xenvironment_set») (lending (yes «xenvironment_read») (now (xenvironment .entry))) (lending (yes «host_read») (now (host .entry)))) (now (shelf .entry)) (now (contents .entry)) (now (bodies .entry))) ⌝ }
+{
+    let answer = startup::read_default(
+        property_format,
+        property,
+        xresources_read != 0,
+        xresources,
+        xdefaults_read != 0,
+        xdefaults,
+        xenvironment_set != 0,
+        xenvironment_read != 0,
+        xenvironment,
+        host_read != 0,
+        host,
+        shelf,
+        contents,
+        bodies,
+    );
     read_code(answer)
 }
 
@@ -111,47 +154,5 @@ pub extern "C" fn resource_manager_get_value(
         Value::NotANumber => NOT_A_NUMBER,
         Value::Nothing => NONE,
         Value::Refused(number) => number as u64,
-    }
-}
-
-// A query's value with a file on the archive and with it struck off: 0 with the numbers of both lookups in `with_it` and `without`;
-// 65535 if the archive has no such file, or the refusal, with both as they were.
-#[no_mangle]
-pub extern "C" fn resource_manager_compare_without(
-    text: &[u8],
-    shelf: &[u8],
-    file: usize,
-    name: &[u8],
-    class: &[u8],
-    struck: &mut [u8],
-    contents: &mut [u16],
-    bodies: &mut [u8],
-    contents_without: &mut [u16],
-    bodies_without: &mut [u8],
-    with_it: &mut u64,
-    without: &mut u64,
-) -> u64
-    ensures { λ r. ⌜ Crosses (asked (now (text .entry)) (now (shelf .entry)) file (now (name .entry)) (now (class .entry)) (now (contents .entry)) (now (bodies .entry)) (now («contents_without» .entry)) (now («bodies_without» .entry))) (now (struck .entry)) (now («with_it» .entry)) (now (without .entry)) (compares r (now («with_it» .exit)) (now (without .exit)) (now (struck .exit)) (now (contents .exit)) (now (bodies .exit)) (now («contents_without» .exit)) (now («bodies_without» .exit))) ⌝ }
-{
-    let answer = compare::compare_without(
-        text,
-        shelf,
-        file,
-        name,
-        class,
-        struck,
-        contents,
-        bodies,
-        contents_without,
-        bodies_without,
-    );
-    match answer {
-        Compared::Both(first, second, _) => {
-            *with_it = place_code(first);
-            *without = place_code(second);
-            0
-        }
-        Compared::NoFile => NONE,
-        Compared::Refused(number) => number as u64,
     }
 }

@@ -1,17 +1,20 @@
 //! The model and the Rust on one case: what document 01 admits, what must be equal, what is counted.
 
+use crate::rust::start::Setting;
 use crate::rust::{listed, number, texts, Room};
 use cases::admitted::{admitted_query, admitted_reading, LeftOut};
-use model::archive::{judge, strike};
+use cases::chains::Combination;
+use model::archive::judge;
 use model::image;
 use model::line::write_key;
 use model::lookup::{get_bool, get_bytes, get_string, get_value};
 use model::matching::{positions, winner};
 use model::query::split;
 use model::reading::{Entry, Reading};
+use model::startup::StartUp;
 use oracle::resource_manager::Database;
-use records::{Case, Kind, Query, Source};
-use std::collections::BTreeMap;
+use records::{Case, Kind, Query, Source, Start};
+use std::collections::{BTreeMap, BTreeSet};
 
 #[derive(Default)]
 pub struct Counts {
@@ -19,6 +22,10 @@ pub struct Counts {
     lookups: usize,
     /// Lookups whose answer moves with a file struck off.
     moved: usize,
+    /// Readings by processes of their own.
+    processes: usize,
+    /// Combinations of the chains that were read.
+    pub combinations: BTreeSet<Combination>,
     left_out: BTreeMap<LeftOut, usize>,
 }
 
@@ -27,36 +34,51 @@ impl Counts {
         *self.left_out.entry(why).or_default() += 1;
     }
 
+    /// An error if no file that was struck off changed an answer.
+    pub fn some_moved(&self) -> Result<(), String> {
+        (self.moved > 0).then_some(()).ok_or("no answer moved with a file struck off".to_string())
+    }
+
     /// What was compared; an error if nothing was.
     pub fn report(&self) -> Result<String, String> {
         if self.readings + self.lookups == 0 {
             return Err("nothing was compared".to_string());
         }
         let moved = if self.moved > 0 { format!(" ({} moved)", self.moved) } else { String::new() };
+        let processes =
+            if self.processes > 0 { format!(" ({} by processes of their own)", self.processes) } else { String::new() };
+        let combinations = match self.combinations.len() {
+            0 => String::new(),
+            count => format!(" in {count} combinations of texts"),
+        };
         let reasons: Vec<String> = self.left_out.iter().map(|(why, count)| format!("{count} {why}")).collect();
         let left_out = if reasons.is_empty() { "nothing".to_string() } else { reasons.join(", ") };
-        Ok(format!("{} readings and {} lookups{moved} compared; left out: {left_out}", self.readings, self.lookups))
+        let Self { readings, lookups, .. } = self;
+        Ok(format!("{readings} readings{processes}{combinations} and {lookups} lookups{moved} compared; left out: {left_out}"))
     }
 }
 
-/// What the Rust read.
+/// What the Rust read, and the model's reading, which is the same.
 pub struct Read {
     database: Database,
     entries: Vec<(Vec<u8>, Vec<u8>)>,
     opens: usize,
+    reading: Reading,
 }
 
 pub struct Both {
     room: Room,
     contents: Vec<u16>,
     bodies: Vec<u8>,
+    /// The source of which a file was struck off last: most often another of its files is next.
+    whole: Option<(Source, Read)>,
     pub counts: Counts,
 }
 
 impl Both {
     pub fn new(room: Room) -> Self {
         let (contents, bodies) = records::buffers();
-        Self { room, contents, bodies, counts: Counts::default() }
+        Self { room, contents, bodies, whole: None, counts: Counts::default() }
     }
 
     /// Compares entries and opens. Gives what the Rust read, or none if the source is left out.
@@ -69,12 +91,30 @@ impl Both {
             }
         };
         let (database, opens) = self.room.read(source);
-        let read = Read { entries: listed(&database), database, opens };
-        if read.entries != entries(&reading.entries) || read.opens != reading.opens {
+        let read = Read { entries: listed(&database), database, opens, reading };
+        if read.entries != entries(&read.reading.entries) || read.opens != read.reading.opens {
             return Err(self.difference(&Case::read(source.clone())));
         }
         self.counts.readings += 1;
+        if let Start::Chain(start_up) = &source.start {
+            self.counts.combinations.insert(Combination::of(start_up));
+        }
         Ok(Some(read))
+    }
+
+    /// Compares what a process of its own reads of a chain, laid before it like this.
+    pub fn start(&mut self, start_up: &StartUp, archive: &[u8], setting: Setting) -> Result<(), String> {
+        let case = Case::read(Source::chain(start_up.clone(), archive.to_vec()));
+        let answer = records::model_answer(&case).map_err(|refusal| format!("refused {}", refusal.number()))?;
+        let said = self.room.start(start_up, archive, setting);
+        if said != records::answer_fields(&answer).join(" ") {
+            let model = records::write_line(&case, &answer);
+            return Err(format!("they differ with {setting:?}\n{}\nthe Rust:  {said}\nthe model: {model}", describe(&case)));
+        }
+        self.counts.readings += 1;
+        self.counts.processes += 1;
+        self.counts.combinations.insert(Combination::of(start_up));
+        Ok(())
     }
 
     /// Compares a source, the image that the model makes of it, and the answers to the queries.
@@ -93,7 +133,7 @@ impl Both {
 
     /// Has the model write its image, which must hold what the Rust read, for the lookups that follow.
     fn take_image(&mut self, source: &Source, read: &Read) -> Result<(), String> {
-        let accepted = image::read(&mut self.contents, &mut self.bodies, &source.text, &source.archive);
+        let accepted = image::read(&mut self.contents, &mut self.bodies, &source.texts(), &source.archive);
         let same = accepted == Ok(image::Accepted { entries: read.entries.len(), opens: read.opens });
         if !same || records::listed(&self.contents, &self.bodies) != read.entries {
             return Err(self.difference(&Case::read(source.clone())));
@@ -143,31 +183,32 @@ impl Both {
     /// The third term on one file and some queries: what the Rust reads and finds with the file
     /// struck off, against the chains of includes that the definition gives with the file.
     pub fn strike(&mut self, source: &Source, which: usize, queries: &[Query]) -> Result<(), String> {
-        let Ok(reading) = admitted_reading(source) else { return self.read(source).map(drop) };
+        let known = self.whole.take().filter(|(of, _)| of == source).map(|(_, read)| read);
+        let Some(first) = known.map_or_else(|| self.read(source), |read| Ok(Some(read)))? else { return Ok(()) };
+        let reading = &first.reading;
         let archive = judge(&source.archive).expect("an admitted archive");
         let file = &archive.files[which].name;
         let left: Vec<Entry> = reading.entries.iter().filter(|entry| !entry.came_through(file)).cloned().collect();
-        let struck = Source { text: source.text.clone(), archive: strike(&source.archive, which) };
         let why = |what: &str| format!("{what} with file {which} struck off from {}", describe(&Case::read(source.clone())));
 
-        let second = self.read(&struck)?.ok_or_else(|| why("the reading is refused"))?;
+        let second = self.read(&source.struck(which))?.ok_or_else(|| why("the reading is refused"))?;
         if second.entries != entries(&left) {
             return Err(why("other entries"));
         }
-        let (first, _) = self.room.read(source);
         for query in queries {
             if let Err(why) = admitted_query(query, reading.entries.iter().map(|entry| &entry.key[..])) {
                 self.counts.leave_out(why);
                 continue;
             }
             let (name, class) = texts(query).expect("an admitted query");
-            let equal = first.get_bytes(name, class) == second.database.get_bytes(name, class);
-            if equal != is_unmoved(&reading, &left, file, query) {
+            let equal = first.database.get_bytes(name, class) == second.database.get_bytes(name, class);
+            if equal != is_unmoved(reading, &left, file, query) {
                 return Err(why(&format!("another answer to {name:?}, {class:?}")));
             }
             self.counts.lookups += 1;
             self.counts.moved += usize::from(!equal);
         }
+        self.whole = Some((source.clone(), first));
         Ok(())
     }
 
@@ -183,10 +224,11 @@ impl Both {
 
 fn describe(case: &Case) -> String {
     let shown = |bytes: &[u8]| format!("\"{}\"", bytes.escape_ascii());
+    let texts: Vec<String> = case.source.texts().into_iter().map(shown).collect();
     let files = judge(&case.source.archive).map(|archive| archive.files).unwrap_or_default();
     let files: Vec<String> = files.iter().map(|file| format!("{} => {}", shown(&file.name), shown(&file.body))).collect();
     let query = format!("name {}, class {}", shown(&case.query.name), shown(&case.query.class));
-    format!("text {}, files [{}], {query}", shown(&case.source.text), files.join("; "))
+    format!("texts [{}], files [{}], {query}", texts.join("; "), files.join("; "))
 }
 
 fn entries(entries: &[Entry]) -> Vec<(Vec<u8>, Vec<u8>)> {

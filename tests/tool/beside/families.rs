@@ -1,18 +1,21 @@
 //! The families of cases on which the model and the Rust are compared.
 
 use crate::both::Both;
-use cases::damage::damaged;
+use crate::rust::start::{Home, Named, Setting};
+use cases::chains::{self, every_combination, Combination, Found};
+use cases::damage::{damage_text, damaged};
 use cases::draw::Draw;
 use cases::limits::edges;
+use cases::readings::Extent;
 use cases::texts::aligned_key;
 use cases::words::{each_word, keys, queries};
-use cases::{archives, realistic, texts};
+use cases::{archives, named_chains, realistic, texts};
 use model::archive::{judge, lay_out, File};
-use records::{Query, Source};
+use records::{archive_of, Query, Source};
 
 type Family = fn(&mut Both, u64) -> Result<(), String>;
 
-const FAMILIES: [(&str, Family); 17] = [
+const FAMILIES: [(&str, Family); 22] = [
     ("texts", every_text),
     ("values", every_value),
     ("keys", every_key),
@@ -30,6 +33,11 @@ const FAMILIES: [(&str, Family); 17] = [
     ("realistic", like_real_files),
     ("damaged", damaged_copies),
     ("struck-off", struck_off),
+    ("start-ups", every_start_up),
+    ("chains-by-name", named_chains),
+    ("chain-limits", chains_at_the_limits),
+    ("chains", random_chains),
+    ("chains-struck-off", chains_struck_off),
 ];
 
 pub fn names() -> Vec<&'static str> {
@@ -210,7 +218,7 @@ fn damaged_copies(both: &mut Both, seed: u64) -> Result<(), String> {
             0 => query.name = damaged(draw, &query.name),
             1 => query.class = damaged(draw, &query.class),
             2..=4 if !files.is_empty() => source.archive = with_a_damaged_file(draw, files),
-            _ => source.text = damaged(draw, &source.text),
+            _ => damage_text(draw, &mut source),
         }
         both.ask(&source, &and_others(draw, query))
     })
@@ -245,5 +253,70 @@ fn struck_off(both: &mut Both, seed: u64) -> Result<(), String> {
         let queries = and_others(draw, query);
         let count = judge(&source.archive).expect("a good archive").files.len();
         (0..count).try_for_each(|which| both.strike(&source, which, &queries))
-    })
+    })?;
+    both.counts.some_moved()
+}
+
+/// Every combination of texts to choose from, each by a process of its own. Of the texts that cannot be read every one is once a
+/// directory and once not there; where both that HOME would hold are so, HOME is also once not set.
+fn every_start_up(both: &mut Both, _: u64) -> Result<(), String> {
+    const TEXTS: [&[u8]; 5] = [
+        b"*from: property\n#include \"p\"\n*last: \\1",
+        b"*from: xresources\n#include \"d/p\"\n*last: 1\\",
+        b"*from: xdefaults\n*last:1\n#include \"p\"",
+        b"01*named: xenvironment\n#include \"d/p\"\n#include \"p\"",
+        b"n*host: desk\n#include \"p\"\n!",
+    ];
+    let archive = archive_of(&[(b"p", b"*p: 1\n#include \"d/p\""), (b"d/p", b"*d.p: 2\n#include \"q\""), (b"d/q", b"*q: 3")]);
+    for combination in (0..Combination::COUNT).map(Combination::nth) {
+        let mut texts = TEXTS.iter();
+        let start_up = combination.start_up(|| texts.next().expect("five texts").to_vec());
+        let Combination { xresources, xdefaults, xenvironment, host, .. } = combination;
+        let unreadable =
+            [xresources, xdefaults, xenvironment.unwrap_or(Found::Text), host].map(|found| found == Found::Unreadable);
+        for turn in 0..16 {
+            let mut setting = Setting::nth(turn, &start_up);
+            if setting.directories.iter().zip(unreadable).any(|(is_directory, unreadable)| *is_directory && !unreadable) {
+                continue;
+            }
+            setting.home = if turn % 2 == 0 { Home::Absolute } else { Home::Empty };
+            both.start(&start_up, &archive, setting)?;
+        }
+        if unreadable[..2] == [true, true] {
+            let setting = Setting { directories: [false; 4], home: Home::Unset, named: Named::Bare };
+            both.start(&start_up, &archive, setting)?;
+        }
+    }
+    every_combination(&both.counts.combinations)
+}
+
+/// Chains chosen by hand, each laid before the Rust in many ways.
+fn named_chains(both: &mut Both, _: u64) -> Result<(), String> {
+    let queries = [Query::new(b"a", b""), Query::new(b"b", b""), Query::new(b"first", b"second"), Query::new(b"q", b"")];
+    let named = named_chains::named();
+    (0..48).try_for_each(|_| named.iter().try_for_each(|named| both.ask(&named.source, &queries)))
+}
+
+fn chains_at_the_limits(both: &mut Both, _: u64) -> Result<(), String> {
+    let query = [Query::new(b"a", b"")];
+    named_chains::at_limits()
+        .iter()
+        .try_for_each(|edge| both.ask(&edge.source, &query).map_err(|why| format!("{}: {why}", edge.label)))
+}
+
+fn random_chains(both: &mut Both, seed: u64) -> Result<(), String> {
+    chains::in_turn(Extent { seed, times: 1 }, "chains beside", 12, |draw, combination| {
+        let (source, query) = chains::chain(draw, combination);
+        both.ask(&source, &[query])
+    })?;
+    every_combination(&both.counts.combinations)
+}
+
+/// Each file of a chain's archive struck off.
+fn chains_struck_off(both: &mut Both, seed: u64) -> Result<(), String> {
+    let extent = Extent { seed, times: 1 };
+    chains::STRIKES
+        .iter()
+        .try_for_each(|(_, family)| family(extent, &mut |source, which, queries| both.strike(source, which, queries)))?;
+    both.counts.some_moved()
 }

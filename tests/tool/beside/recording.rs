@@ -2,13 +2,14 @@
 
 use crate::both::is_admitted;
 use crate::rust::Room;
-use cases::damage::damaged;
+use cases::chains::{chain, Combination};
+use cases::damage::damage_text;
 use cases::draw::Draw;
 use cases::limits::edges;
 use cases::named::{named, small};
 use cases::words::words;
-use cases::{archives, realistic, texts};
-use model::archive::{judge, strike};
+use cases::{archives, named_chains, realistic, texts};
+use model::archive::judge;
 use records::{write_line, Answer, Case, Kind, Query, Source};
 use std::collections::BTreeSet;
 use std::path::Path;
@@ -17,18 +18,26 @@ use std::path::Path;
 const SHORT_LINE: usize = 1_000;
 const LONG_LINE: usize = 8_000;
 const LONGEST_LINE: usize = 70_500;
+const SHORT_CHAIN: usize = 360;
+
+/// Of the chains at the limits the few that are recorded, as they are long.
+const RECORDED_CHAINS: [&str; 4] = ["256 entries in each", "4,096 opens in two texts", "100 depths in each", "16 parts in each"];
 
 /// Long cases that are compared but not recorded: they would show little that the others do not.
 const NOT_RECORDED: [&str; 3] = ["a comment of 32,768", "bindings of 32,768", "a full store and a line that makes no entry"];
 
-/// Writes every file anew, and tells how many answers there are.
+/// Writes every file anew below the folder of the crates, and tells how many answers there are.
 pub fn record(folder: &str, seed: u64, room: &mut Room) -> Result<String, String> {
     let mut count = 0;
-    let mut write = |name: &str, lines: Vec<String>| {
+    let mut write_for = |replay: &str, name: &str, lines: Vec<String>| {
         count += lines.len();
-        let path = Path::new(folder).join(name);
-        std::fs::write(&path, lines.join("\n") + "\n").map_err(|error| format!("{}: {error}", path.display()))
+        let data = Path::new(folder).join(replay).join("data");
+        let path = data.join(name);
+        let written = std::fs::create_dir_all(&data).and_then(|()| std::fs::write(&path, lines.join("\n") + "\n"));
+        written.map_err(|error| format!("{}: {error}", path.display()))
     };
+    write_for("replay_default", "default.txt", chains(room, &mut Draw::new(seed, "default.txt"))?)?;
+    let mut write = |name: &str, lines: Vec<String>| write_for("replay", name, lines);
     let draw = |stream: &str| Draw::new(seed, stream);
 
     write("small.txt", chosen(room, small())?)?;
@@ -61,6 +70,10 @@ fn chosen(room: &mut Room, cases: Vec<Case>) -> Result<Vec<String>, String> {
 /// So many lines of drawn cases: admitted, short, and no line twice. Of the lookups that find
 /// nothing three in four are passed over.
 fn drawn(room: &mut Room, count: usize, draw: &mut Draw, case: impl Fn(&mut Draw) -> Case) -> Vec<String> {
+    drawn_within(room, count, SHORT_LINE, draw, case)
+}
+
+fn drawn_within(room: &mut Room, count: usize, longest: usize, draw: &mut Draw, case: impl Fn(&mut Draw) -> Case) -> Vec<String> {
     let mut lines = Vec::new();
     let mut seen = BTreeSet::new();
     while lines.len() < count {
@@ -72,7 +85,7 @@ fn drawn(room: &mut Room, count: usize, draw: &mut Draw, case: impl Fn(&mut Draw
         let idle =
             matches!(&answer, Answer::Bytes(None)) || matches!(&answer, Answer::Read { entries, .. } if entries.is_empty());
         let line = write_line(&case, &answer);
-        if idle && !draw.one_in(4) || line.len() > SHORT_LINE || !seen.insert(line.clone()) {
+        if idle && !draw.one_in(4) || line.len() > longest || !seen.insert(line.clone()) {
             continue;
         }
         lines.push(line);
@@ -137,8 +150,7 @@ fn struck_off(room: &mut Room, count: usize, draw: &mut Draw) -> Vec<String> {
         let (source, query) = archives::source(draw);
         let whole = Case::ask(Kind::Bytes, source.clone(), query.clone());
         let files = judge(&source.archive).expect("a good archive").files.len();
-        let struck = |which| Source { text: source.text.clone(), archive: strike(&source.archive, which) };
-        let cases: Vec<Case> = (0..files).map(|which| Case::ask(Kind::Bytes, struck(which), query.clone())).collect();
+        let cases: Vec<Case> = (0..files).map(|which| Case::ask(Kind::Bytes, source.struck(which), query.clone())).collect();
         if !is_admitted(&whole) || cases.iter().all(|case| room.answer(case) == room.answer(&whole)) {
             continue;
         }
@@ -160,7 +172,7 @@ fn random_reading(draw: &mut Draw) -> Case {
 
 fn damaged_case(draw: &mut Draw) -> Case {
     let (mut source, query) = random_pair(draw, 4);
-    source.text = damaged(draw, &source.text);
+    damage_text(draw, &mut source);
     if draw.one_in(2) {
         Case::read(source)
     } else {
@@ -172,4 +184,21 @@ fn realistic_case(draw: &mut Draw) -> Case {
     let kind = [Kind::Bytes, Kind::Bytes, Kind::String, Kind::Bool, Kind::Value][draw.below(5)];
     let source = realistic::source(draw, 12);
     Case::ask(kind, source, realistic::query(draw))
+}
+
+/// Chains: those chosen by hand, some at the limits, and random ones.
+fn chains(room: &mut Room, draw: &mut Draw) -> Result<Vec<String>, String> {
+    let mut cases: Vec<Case> = named_chains::named().into_iter().map(|named| Case::read(named.source)).collect();
+    for label in RECORDED_CHAINS {
+        let edge = named_chains::at_limits().into_iter().find(|edge| edge.label == label).ok_or(format!("no chain: {label}"))?;
+        cases.push(Case::read(edge.source));
+    }
+    let mut lines = chosen(room, cases)?;
+    lines.extend(drawn_within(room, 150, SHORT_CHAIN, draw, random_chain));
+    Ok(lines)
+}
+
+fn random_chain(draw: &mut Draw) -> Case {
+    let combination = Combination::nth(draw.below(Combination::COUNT));
+    Case::read(chain(draw, combination).0)
 }

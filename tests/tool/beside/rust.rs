@@ -1,11 +1,17 @@
 //! The Rust's side: archives written out as files, and the Rust's answers as the records have them.
 
+#[path = "start.rs"]
+pub mod start;
+
 use model::archive::{judge, Archive};
 use model::lookup::Number;
+use model::startup::StartUp;
 use oracle::resource_manager::{entries_of, Database};
-use records::{Answer, Case, Kind, Query, Source};
+use records::{answer_fields, hex, Answer, Case, Kind, Query, Source, Start};
+use start::{lay_out, start_here, Setting};
 use std::fs;
 use std::path::{Path, PathBuf};
+use std::process::Command;
 
 /// A directory in which each archive gets a directory of its own, removed when the next one comes.
 pub struct Room {
@@ -13,11 +19,13 @@ pub struct Room {
     made: usize,
     /// The archive that is written out, and where.
     current: Option<(Vec<u8>, PathBuf)>,
+    /// How many chains were read.
+    chains: usize,
 }
 
 impl Room {
     pub fn new(root: &str) -> Self {
-        Self { root: PathBuf::from(root), made: 0, current: None }
+        Self { root: PathBuf::from(root), made: 0, current: None, chains: 0 }
     }
 
     /// The directory that holds the files of a good archive.
@@ -41,10 +49,43 @@ impl Room {
         }
     }
 
-    /// The Rust's reading of a source, and its opens.
+    /// The Rust's reading of a source, and its opens. Chains are set up in one way after the other.
     pub fn read(&mut self, source: &Source) -> (Database, usize) {
-        let directory = self.directory(&source.archive);
-        oracle::count_opens(|| Database::new_from_data_with_base_directory(&source.text, &directory))
+        match &source.start {
+            Start::Text(text) => {
+                let directory = self.directory(&source.archive);
+                oracle::count_opens(|| Database::new_from_data_with_base_directory(text, &directory))
+            }
+            Start::Chain(start_up) => {
+                self.chains += 1;
+                let setting = Setting::nth(self.chains, start_up);
+                self.with_chain(start_up, &source.archive, setting, |directory| start_here(start_up, directory, setting))
+            }
+        }
+    }
+
+    /// Runs `work` with a directory that holds a chain's own files too.
+    fn with_chain<T>(&mut self, start_up: &StartUp, archive: &[u8], setting: Setting, work: impl FnOnce(&Path) -> T) -> T {
+        let directory = self.directory(archive);
+        lay_out(start_up, &directory, setting);
+        let result = work(&directory);
+        self.clear();
+        result
+    }
+
+    /// What a process of its own says of a chain: this program, begun as `start FORMAT PROPERTY` in the chain's directory,
+    /// with HOME and XENVIRONMENT alone in its environment.
+    pub fn start(&mut self, start_up: &StartUp, archive: &[u8], setting: Setting) -> String {
+        let mut command = Command::new(std::env::current_exe().expect("this program"));
+        command.args(["start", &start_up.format.to_string(), &hex(&start_up.property)]).env_clear();
+        let run = |directory: &Path| {
+            let environment = setting.environment(start_up, directory);
+            command.envs(environment.into_iter().filter_map(|(name, value)| Some((name, value?))));
+            command.current_dir(directory).output().expect("a process")
+        };
+        let output = self.with_chain(start_up, archive, setting, run);
+        let said = String::from_utf8_lossy(if output.status.success() { &output.stdout } else { &output.stderr });
+        said.trim_end().to_string()
     }
 
     /// The Rust's answer to a case that is admitted to the run.
@@ -65,6 +106,12 @@ impl Drop for Room {
     fn drop(&mut self) {
         self.clear();
     }
+}
+
+/// What the process of a chain says: opens, and the entries.
+pub fn said_of_start(format: u8, property: &[u8]) -> String {
+    let (database, opens) = oracle::count_opens(|| start::start(format, property));
+    answer_fields(&Answer::Read { opens, entries: listed(&database) }).join(" ")
 }
 
 fn write_out(archive: &Archive, directory: &Path) {

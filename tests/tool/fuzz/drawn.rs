@@ -1,23 +1,26 @@
 //! What the fuzzing draws: sources with queries, and files for an archive.
 
-use cases::damage::damaged;
+use cases::chains::{chain, Combination};
+use cases::damage::{damage_text, damaged};
 use cases::draw::Draw;
 use cases::{archives, crowded, realistic, texts};
-use model::limits::{ARCHIVE_BYTES, ARCHIVE_FILES, FILE_NAME_BYTES, QUERY_BYTES, QUERY_PARTS};
-use records::{Query, Source};
+use model::limits::{ARCHIVE_BYTES, ARCHIVE_FILES, FILE_NAME_BYTES, QUERY_BYTES, QUERY_PARTS, TEXT_BYTES};
+use records::{Query, Source, Start};
 
 /// A source, and queries of which some meet its entries.
 pub fn source(draw: &mut Draw) -> (Source, Vec<Query>) {
     // Few near the limits of a reading, which take the model long.
     let (source, query) = match draw.below(100) {
         0 => (crowded::source(draw), texts::query(draw)),
-        1..=35 => archives::source(draw),
-        36..=56 => plain(draw),
-        57..=60 => long_value(draw),
-        61..=75 => (realistic::source(draw, 30), realistic::query(draw)),
-        76..=90 => {
+        1..=20 => archives::source(draw),
+        21..=34 => plain(draw),
+        35..=38 => long_value(draw),
+        39..=50 => (realistic::source(draw, 30), realistic::query(draw)),
+        51..=75 => start_up(draw),
+        76 => long_start_up(draw),
+        77..=90 => {
             let (mut source, query) = archives::source(draw);
-            source.text = damaged(draw, &source.text);
+            damage_text(draw, &mut source);
             (source, query)
         }
         _ => {
@@ -34,6 +37,27 @@ pub fn source(draw: &mut Draw) -> (Source, Vec<Query>) {
 fn plain(draw: &mut Draw) -> (Source, Query) {
     let query = texts::query(draw);
     (Source::plain(&texts::text(draw, 8, &query)), query)
+}
+
+fn start_up(draw: &mut Draw) -> (Source, Query) {
+    let combination = Combination::nth(draw.below(Combination::COUNT));
+    chain(draw, combination)
+}
+
+/// A start-up of which one text is near the limit, used or not.
+fn long_start_up(draw: &mut Draw) -> (Source, Query) {
+    let (mut source, query) = start_up(draw);
+    let long = vec![b'\n'; near(draw, TEXT_BYTES)];
+    if let Start::Chain(chain) = &mut source.start {
+        match draw.below(5) {
+            0 => chain.property = long,
+            1 => chain.xresources = Some(long),
+            2 => chain.xdefaults = Some(long),
+            3 => chain.xenvironment = Some(long),
+            _ => chain.host = Some(long),
+        }
+    }
+    (source, query)
 }
 
 /// A value of more than 255 bytes, which takes both bytes of a length.

@@ -2,7 +2,7 @@
 
 use model::image;
 use model::lookup::{get_bool, get_bytes, get_string, get_value, show, Number};
-use records::{Query, Source};
+use records::{Query, Source, Start};
 use resource_manager::{Database, Error, ValueError};
 use std::any::Any;
 use std::fmt::Debug;
@@ -11,6 +11,7 @@ use std::panic::{catch_unwind, AssertUnwindSafe};
 use crate::files;
 #[cfg(feature = "rust")]
 use crate::rusts::Rusts;
+use crate::starts::{self, Home};
 
 #[derive(Default)]
 pub struct Counts {
@@ -18,12 +19,16 @@ pub struct Counts {
     pub refused_files: usize,
     pub readings: usize,
     pub refused_readings: usize,
+    /// Readings of the texts of a start-up.
+    pub starts: usize,
+    pub refused_starts: usize,
     pub lookups: usize,
     pub refused_lookups: usize,
     pub comparisons: usize,
     /// Comparisons with another answer without the file.
     pub moved: usize,
     pub rusts_readings: usize,
+    pub rusts_starts: usize,
     pub rusts_lookups: usize,
     pub rusts_comparisons: usize,
 }
@@ -31,43 +36,59 @@ pub struct Counts {
 impl Counts {
     /// What was compared; an error if some of it was not.
     pub fn report(&self) -> Result<String, String> {
-        let Self { archives, refused_files, readings, refused_readings, lookups, refused_lookups, comparisons, moved, .. } = self;
-        let [rusts_readings, rusts_lookups, rusts_comparisons] =
-            [self.rusts_readings, self.rusts_lookups, self.rusts_comparisons];
-        let beside_the_rust = rusts_readings.min(rusts_lookups).min(rusts_comparisons);
-        if [archives, refused_files, readings, refused_readings, lookups, refused_lookups, comparisons, moved].contains(&&0)
-            || cfg!(feature = "rust") && beside_the_rust == 0
-        {
+        let Self { archives, refused_files, readings, refused_readings, starts, refused_starts, .. } = self;
+        let Self { lookups, refused_lookups, comparisons, moved, .. } = self;
+        let reading_counts = [archives, refused_files, readings, refused_readings, starts, refused_starts];
+        if reading_counts.contains(&&0) || [lookups, refused_lookups, comparisons, moved].contains(&&0) {
             return Err("too little was compared".to_string());
         }
-        let rusts = if cfg!(feature = "rust") {
-            format!("{rusts_readings}, {rusts_lookups} and {rusts_comparisons} of them beside the Rust")
-        } else {
-            "none beside the Rust, which is not at hand".to_string()
-        };
         Ok(format!(
             "{archives} archives built ({refused_files} files refused), {readings} readings ({refused_readings} refused), \
-             {lookups} lookups ({refused_lookups} refused) and {comparisons} comparisons ({moved} moved) beside the model, {rusts}"
+             {starts} start-ups ({refused_starts} refused), {lookups} lookups ({refused_lookups} refused) and {comparisons} \
+             comparisons ({moved} moved) beside the model, {}",
+            self.beside_the_rust()?
         ))
+    }
+
+    fn count_reading(&mut self, is_start: bool, is_refused: bool) {
+        let [all, refused] = match is_start {
+            true => [&mut self.starts, &mut self.refused_starts],
+            false => [&mut self.readings, &mut self.refused_readings],
+        };
+        *all += 1;
+        *refused += usize::from(is_refused);
+    }
+
+    fn beside_the_rust(&self) -> Result<String, String> {
+        let Self { rusts_readings, rusts_starts, rusts_lookups, rusts_comparisons, .. } = self;
+        if cfg!(not(feature = "rust")) {
+            return Ok("none beside the Rust, which is not at hand".to_string());
+        }
+        if [rusts_readings, rusts_starts, rusts_lookups, rusts_comparisons].contains(&&0) {
+            return Err("too little was compared with the Rust".to_string());
+        }
+        Ok(format!("{rusts_readings}, {rusts_starts}, {rusts_lookups} and {rusts_comparisons} of them beside the Rust"))
     }
 }
 
 pub struct Held {
     contents: Vec<u16>,
     bodies: Vec<u8>,
+    home: Home,
     #[cfg(feature = "rust")]
     rusts: Rusts,
     pub counts: Counts,
 }
 
 impl Held {
-    pub fn new(_room: &str) -> Self {
+    pub fn new(room: &str) -> Self {
         let (contents, bodies) = records::buffers();
         Self {
             contents,
             bodies,
+            home: Home::new(room),
             #[cfg(feature = "rust")]
-            rusts: Rusts::new(_room),
+            rusts: Rusts::new(room),
             counts: Counts::default(),
         }
     }
@@ -100,10 +121,10 @@ impl Held {
         let Some(archive) = files::archive(source)? else { return Ok(()) };
         let which = self.counts.comparisons % (archive.len() + 1);
         let file = archive.names().nth(which).unwrap_or("not/there");
-        let answer = Database::compare_without(&source.text, &archive, file, name, class);
+        let answer = starts::compare(source, &archive, file, name, class);
         let answer = answer.map_err(Error::number).map(|found| found.map(|both| (both.with_file, both.without_file)));
         let models = files::compared(source, which, name.as_bytes(), class.as_bytes());
-        same(&format!("compare_without of {file:?}"), &answer, &models)?;
+        same(&format!("comparison without {file:?}"), &answer, &models)?;
         self.counts.comparisons += 1;
         if let Ok(Some((with_file, without_file))) = answer {
             self.counts.moved += usize::from(with_file != without_file);
@@ -118,25 +139,27 @@ impl Held {
 
     /// The crate's reading, or none if it is refused.
     fn read(&mut self, source: &Source) -> Result<Option<Database>, String> {
-        let read = match files::archive(source)? {
-            Some(archive) => Database::new_from_data_with_archive(&source.text, archive),
-            None => Database::new_from_data_with_archive(&source.text, &source.archive),
-        };
-        let models = image::read(&mut self.contents, &mut self.bodies, &source.text, &source.archive);
-        self.counts.readings += 1;
-        let answer = read.as_ref().map(|database| (database.entries().len(), database.opens())).map_err(|e| e.number());
+        let archive = files::archive(source)?;
+        let bytes = archive.as_ref().map_or(&source.archive[..], |archive| archive.as_bytes());
+        let models = image::read(&mut self.contents, &mut self.bodies, &source.texts(), &source.archive);
         let models = models.map(|accepted| (accepted.entries, accepted.opens)).map_err(|refusal| refusal.number());
-        same("reading", answer, models)?;
-        let Ok(database) = read else {
-            self.counts.refused_readings += 1;
-            return Ok(None);
-        };
-        same("entries", files::listed(&database), records::listed(&self.contents, &self.bodies))?;
-        #[cfg(feature = "rust")]
-        {
-            self.counts.rusts_readings += usize::from(self.rusts.read(source, &database)?);
+        let mut last = None;
+        for read in self.home.readings(source, bytes)? {
+            let answer = read.as_ref().map(|database| (database.entries().len(), database.opens())).map_err(|e| e.number());
+            same("reading", answer, models)?;
+            last = read.ok();
+            if let Some(database) = &last {
+                same("entries", files::listed(database), records::listed(&self.contents, &self.bodies))?;
+            }
         }
-        Ok(Some(database))
+        let is_start = matches!(source.start, Start::Chain(_));
+        self.counts.count_reading(is_start, last.is_none());
+        #[cfg(feature = "rust")]
+        if let Some(database) = &last {
+            let compared = usize::from(self.rusts.read(source, database)?);
+            *(if is_start { &mut self.counts.rusts_starts } else { &mut self.counts.rusts_readings }) += compared;
+        }
+        Ok(last)
     }
 
     fn look_up(&mut self, database: &Database, _source: &Source, name: &str, class: &str) -> Result<(), String> {

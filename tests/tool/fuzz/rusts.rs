@@ -5,7 +5,6 @@ use crate::files;
 use crate::held::same;
 use crate::rust::{listed, Room};
 use cases::admitted::admitted_reading;
-use model::archive::strike;
 use records::{Case, Kind, Query, Source};
 use resource_manager::Database;
 
@@ -64,8 +63,8 @@ impl Rusts {
         if !is_admitted(&Case::ask(Kind::Bytes, source.clone(), query)) {
             return Ok(false);
         }
-        let struck = Source { text: source.text.clone(), archive: strike(&source.archive, which) };
-        let values = [source, &struck].map(|source| self.room.read(source).0.get_bytes(name, class).map(<[u8]>::to_vec));
+        let values =
+            [source, &source.struck(which)].map(|source| self.room.read(source).0.get_bytes(name, class).map(<[u8]>::to_vec));
         same("compare_without, beside the Rust", [with_file, without_file], values)?;
         Ok(true)
     }

@@ -2,14 +2,27 @@
 //! both buffers and around them.
 
 use crate::fenced::Fenced;
+use crate::lending::{holds, Edit, StartUpRoom};
 use cases::draw::Draw;
 use model::image;
 use model::limits::{BODIES_BYTES, CONTENTS_WORDS};
-use records::Source;
+use port::StartUp;
+use records::{Source, Start};
 use std::ops::Range;
 
-/// The reading call, or a faulty one in its place.
-pub type Call = fn(&[u8], &[u8], &mut [u16], &mut [u8]) -> u64;
+pub type Read = fn(&[u8], &[u8], &mut [u16], &mut [u8]) -> u64;
+pub type ReadDefault = fn(&StartUp, &[u8], &mut [u16], &mut [u8]) -> u64;
+
+/// The reading calls of the port, or faulty ones in their place.
+#[derive(Clone, Copy)]
+pub struct Calls {
+    pub read: Read,
+    pub read_default: ReadDefault,
+    /// What is done to a start-up before it is read: nothing, but for a faulty port.
+    pub edit: Edit,
+}
+
+pub const PORTS: Calls = Calls { read: port::read_word, read_default: port::read_default_word, edit: |start_up| start_up };
 
 /// Entries and opens, or the refusal's number.
 pub type Answer = Result<(usize, usize), u8>;
@@ -63,9 +76,14 @@ pub const SHAPES: [Shape; 8] = [
     shape(0, MOST_BYTES - BODIES_BYTES, true),
 ];
 
+/// One reading of a family in so many finds garbage in its buffers, the others what the reading before left. No
+/// divisor of the number of shapes, so that each shape has its garbage.
+const GARBAGE_OF: usize = 5;
+
 pub struct Both {
-    call: Call,
+    calls: Calls,
     text: Fenced,
+    start_up: StartUpRoom,
     archive: Fenced,
     contents: Fenced,
     bodies: Fenced,
@@ -75,14 +93,17 @@ pub struct Both {
     garbage: Vec<u8>,
     turn: usize,
     lent: Shape,
+    /// Whether the buffers and all around them were found to be as the model's, and nobody has written since.
+    is_level: bool,
 }
 
 impl Both {
-    pub fn new(call: Call) -> Self {
+    pub fn new(calls: Calls) -> Self {
         let draw = &mut Draw::new(0, "garbage");
         Self {
-            call,
+            calls,
             text: Fenced::new(TEXT_PAGES),
+            start_up: StartUpRoom::new(TEXT_PAGES),
             archive: Fenced::new(TEXT_PAGES),
             contents: Fenced::new(CONTENTS_PAGES),
             bodies: Fenced::new(BODIES_PAGES),
@@ -91,23 +112,33 @@ impl Both {
             garbage: (0..3 * MOST_BYTES).map(|_| draw.byte()).collect(),
             turn: 0,
             lent: SHAPES[0],
+            is_level: false,
         }
     }
 
-    /// Compares one reading, with buffers lent in the next of the shapes.
+    /// Compares one reading of many, with buffers lent in the next of the shapes.
     pub fn compare(&mut self, source: &Source) -> Result<Answer, String> {
         self.turn += 1;
-        self.compare_in(source, SHAPES[self.turn % SHAPES.len()])
+        if !self.is_level || self.turn % GARBAGE_OF == 0 {
+            self.fill();
+        }
+        self.compare_as_it_is(source, SHAPES[self.turn % SHAPES.len()])
     }
 
-    /// Compares one reading with buffers lent like this.
+    /// Compares one reading with buffers lent like this, full of garbage.
     pub fn compare_in(&mut self, source: &Source, shape: Shape) -> Result<Answer, String> {
-        let word = self.call(source, shape)?;
+        self.fill();
+        self.compare_as_it_is(source, shape)
+    }
+
+    fn compare_as_it_is(&mut self, source: &Source, shape: Shape) -> Result<Answer, String> {
+        let word = self.call_as_it_is(source, shape)?;
         let answer = self.models_read(source);
         if word != word_of(answer) {
             return Err(format!("the port answers {}, the model {}", shown(word), shown(word_of(answer))));
         }
         self.same_buffers()?;
+        self.is_level = true;
         Ok(answer)
     }
 
@@ -115,7 +146,7 @@ impl Both {
     pub fn models_read(&mut self, source: &Source) -> Answer {
         let (words, bytes) = (self.lent.words(), self.lent.bytes());
         let (contents, bodies) = (&mut self.models_contents[words], &mut self.models_bodies[bytes]);
-        match image::read(contents, bodies, &source.text, &source.archive) {
+        match image::read(contents, bodies, &source.texts(), &source.archive) {
             Ok(accepted) => Ok((accepted.entries, accepted.opens)),
             Err(refusal) => Err(refusal.number()),
         }
@@ -129,16 +160,30 @@ impl Both {
         (&mut self.contents.words()[shape.words()], &mut self.bodies.bytes()[shape.bytes()])
     }
 
-    /// Has the port read, and gives the word that it returns.
+    /// Has the port read into buffers full of garbage, and gives the word that it returns.
     pub fn call(&mut self, source: &Source, shape: Shape) -> Result<u64, String> {
-        self.lent = shape;
         self.fill();
+        self.call_as_it_is(source, shape)
+    }
+
+    fn call_as_it_is(&mut self, source: &Source, shape: Shape) -> Result<u64, String> {
+        self.lent = shape;
+        self.is_level = false;
         let (contents, bodies) = (&mut self.contents.words()[shape.words()], &mut self.bodies.bytes()[shape.bytes()]);
-        // A text that is too long for the fenced memory is lent where it is.
-        let text = self.text.copy(&source.text, shape.at_end).unwrap_or(&source.text);
+        // What is too long for the fenced memory is lent where it is.
         let archive = self.archive.copy(&source.archive, shape.at_end).unwrap_or(&source.archive);
-        let word = (self.call)(text, archive, contents, bodies);
-        if text != &source.text[..] || archive != &source.archive[..] {
+        let (word, is_same) = match &source.start {
+            Start::Text(bytes) => {
+                let text = self.text.copy(bytes, shape.at_end).unwrap_or(bytes);
+                ((self.calls.read)(text, archive, contents, bodies), text == &bytes[..])
+            }
+            Start::Chain(start_up) => {
+                let lent = self.start_up.lend(start_up, shape.at_end);
+                let word = (self.calls.read_default)(&(self.calls.edit)(lent), archive, contents, bodies);
+                (word, holds(&lent, start_up))
+            }
+        };
+        if !is_same || archive != &source.archive[..] {
             return Err("the port changed what it reads".to_string());
         }
         Ok(word)
@@ -146,6 +191,7 @@ impl Both {
 
     /// Puts garbage wherever a buffer may stand, the same for both.
     fn fill(&mut self) {
+        self.is_level = false;
         let from = self.turn.wrapping_mul(62_989) % (2 * MOST_BYTES);
         let garbage = &self.garbage[from..];
         self.contents.bytes().copy_from_slice(&garbage[..2 * MOST_WORDS]);

@@ -2,19 +2,29 @@
 //! buffers and around them, and the third term in its answers.
 
 use crate::asking::{bytes_at, place_word};
-use crate::both::{Both, Shape, SHAPES};
+use crate::both::{self, Both, Shape, SHAPES};
 use crate::fenced::Fenced;
+use crate::lending::{holds, Edit, StartUpRoom};
 use crate::run::{describe, shown};
 use crate::third::{case_of, Counts};
-use model::archive::{judge, strike};
+use model::archive::judge;
 use model::limits::{BODIES_BYTES, CONTENTS_WORDS};
 use model::lookup;
 use model::reading::read;
-use port::Lent;
-use records::{Query, Source};
+use port::{compare_default_without_word, compare_without_word, Lent};
+use records::{Query, Source, Start};
 
-/// The comparing call, or a faulty one in its place.
-pub type Call = fn(&[u8], &[u8], usize, &[u8], &[u8], Lent) -> u64;
+/// A comparing call with its texts, archive and query, of which the number of a file and what it writes are left.
+pub type Call<'a> = &'a dyn Fn(usize, Lent) -> u64;
+
+/// The comparing calls of the port: as they are, or with something done to them by a faulty port.
+#[derive(Clone, Copy)]
+pub struct Calls {
+    pub around: fn(Call, usize, Lent) -> u64,
+    pub edit: Edit,
+}
+
+pub const PORTS: Calls = Calls { around: |call, file, lent| call(file, lent), edit: |start_up| start_up };
 
 pub const NO_FILE: u64 = 65_535;
 
@@ -30,10 +40,17 @@ pub struct Room {
 /// What the call returns, and the words of both answers afterwards.
 pub type Words = (u64, u64, u64);
 
-const STRUCK_PAGES: usize = 17;
+const ARCHIVE_PAGES: usize = 17;
+const TEXT_PAGES: usize = 9;
+const QUERY_PAGES: usize = 1;
 
 pub struct Comparing {
-    call: Call,
+    calls: Calls,
+    text: Fenced,
+    start_up: StartUpRoom,
+    archive: Fenced,
+    name: Fenced,
+    class: Fenced,
     with_it: Both,
     without: Both,
     struck: Fenced,
@@ -43,13 +60,18 @@ pub struct Comparing {
 }
 
 impl Comparing {
-    pub fn new(call: Call) -> Self {
+    pub fn new(calls: Calls) -> Self {
         Self {
-            call,
-            with_it: Both::new(port::read_word),
-            without: Both::new(port::read_word),
-            struck: Fenced::new(STRUCK_PAGES),
-            models_struck: vec![0; STRUCK_PAGES * 4096],
+            calls,
+            text: Fenced::new(TEXT_PAGES),
+            start_up: StartUpRoom::new(TEXT_PAGES),
+            archive: Fenced::new(ARCHIVE_PAGES),
+            name: Fenced::new(QUERY_PAGES),
+            class: Fenced::new(QUERY_PAGES),
+            with_it: Both::new(both::PORTS),
+            without: Both::new(both::PORTS),
+            struck: Fenced::new(ARCHIVE_PAGES),
+            models_struck: vec![0; ARCHIVE_PAGES * 4096],
             turn: 0,
             counts: Counts::default(),
         }
@@ -70,7 +92,7 @@ impl Comparing {
         }
         let answers = (found(with_it, &mut self.with_it)?, found(without, &mut self.without)?);
         let archive = judge(&source.archive).expect("the archive of an accepted reading");
-        let entries = read(&source.text, &archive).expect("an accepted reading").entries;
+        let entries = read(&source.texts(), &archive).expect("an accepted reading").entries;
         let case = case_of(&entries, &archive.files[which].name, query);
         case.holds(&answers).map_err(why)?;
         self.counts.files += 1;
@@ -80,7 +102,7 @@ impl Comparing {
 
     /// Compares the call with the model in all that it returns and leaves.
     pub fn compare(&mut self, source: &Source, which: usize, query: &Query, room: Room) -> Result<Words, String> {
-        let words = self.call(source, which, query, room);
+        let words = self.call(source, which, query, room)?;
         let models = self.models_words(source, which, query, room);
         if words != models {
             return Err(format!("the port answers {words:x?}, the model {models:x?}, with buffers lent as {room:?}"));
@@ -102,7 +124,7 @@ impl Comparing {
         source.archive.len().saturating_add_signed(room.more)
     }
 
-    fn call(&mut self, source: &Source, which: usize, query: &Query, room: Room) -> Words {
+    fn call(&mut self, source: &Source, which: usize, query: &Query, room: Room) -> Result<Words, String> {
         let (mut first, mut second) = self.lent_words();
         let length = self.struck_length(source, room);
         self.struck.bytes().fill(self.turn as u8);
@@ -110,7 +132,7 @@ impl Comparing {
         let (contents, bodies) = self.with_it.lend(room.with_it);
         let (contents_without, bodies_without) = self.without.lend(room.without);
         let lent = Lent {
-            struck: &mut self.struck.bytes()[STRUCK_PAGES * 4096 - length..],
+            struck: &mut self.struck.bytes()[ARCHIVE_PAGES * 4096 - length..],
             contents,
             bodies,
             contents_without,
@@ -118,8 +140,28 @@ impl Comparing {
             with_it: &mut first,
             without: &mut second,
         };
-        let word = (self.call)(&source.text, &source.archive, which, &query.name, &query.class, lent);
-        (word, first, second)
+        // What is read stands at a fence too, or where it is if it is too long.
+        let at_end = self.turn % 2 == 0;
+        let archive = self.archive.copy(&source.archive, at_end).unwrap_or(&source.archive);
+        let name = self.name.copy(&query.name, at_end).unwrap_or(&query.name);
+        let class = self.class.copy(&query.class, at_end).unwrap_or(&query.class);
+        let Calls { around, edit } = self.calls;
+        let (word, is_same) = match &source.start {
+            Start::Text(bytes) => {
+                let text = self.text.copy(bytes, at_end).unwrap_or(bytes);
+                let call = |file, lent: Lent| compare_without_word(text, archive, file, name, class, lent);
+                (around(&call, which, lent), text == &bytes[..])
+            }
+            Start::Chain(start_up) => {
+                let texts = self.start_up.lend(start_up, at_end);
+                let call = |file, lent: Lent| compare_default_without_word(&edit(texts), archive, file, name, class, lent);
+                (around(&call, which, lent), holds(&texts, start_up))
+            }
+        };
+        if !is_same || archive != &source.archive[..] || name != &query.name[..] || class != &query.class[..] {
+            return Err("the port changed what it reads".to_string());
+        }
+        Ok((word, first, second))
     }
 
     /// The same by the model: 1 for any buffer that is too short, then the first reading, the file, the
@@ -137,7 +179,7 @@ impl Comparing {
         if which >= judge(&source.archive).expect("the archive of an accepted reading").files.len() {
             return refused(NO_FILE);
         }
-        let struck = Source { text: source.text.clone(), archive: strike(&source.archive, which) };
+        let struck = source.struck(which);
         let start = self.models_struck.len() - length;
         self.models_struck[start..start + struck.archive.len()].copy_from_slice(&struck.archive);
         self.without.models_read(&struck).expect("a reading that is accepted with the file");

@@ -1,15 +1,15 @@
 //! Shows that the comparison can fail: ports with a fault each, every one of which it must see. A
 //! faulty port is the port with something done to what it takes or to what it leaves.
 
-use crate::both::Call;
+use crate::both::{Calls, Read, PORTS};
 use crate::tests::{comparison_with_the_rust, whole_comparison};
-use crate::{comparing_faults, lookup_faults};
+use crate::{comparing_faults, lookup_faults, start_up_faults};
 use model::limits::{BODIES_BYTES, CONTENTS_WORDS, TEXT_BYTES};
 use std::os::unix::process::ExitStatusExt;
 use std::path::Path;
 use std::process::{Command, ExitStatus};
 
-const FAULTS: [(&str, Call); 22] = [
+const FAULTS: [(&str, Read); 22] = [
     ("the last byte of the store is another", last_byte),
     ("the first word is one more", |t, a, c, b| after(t, a, c, b, |c, _| c[0] += 1)),
     ("the second word is one more", |t, a, c, b| after(t, a, c, b, |c, _| c[1] += 1)),
@@ -35,7 +35,7 @@ const FAULTS: [(&str, Call); 22] = [
 ];
 
 /// Faults that the fences around lent memory stop.
-const TRESPASSES: [(&str, Call); 4] = [
+const TRESPASSES: [(&str, Read); 4] = [
     ("reads past the text", |t, a, c, b| peek(unsafe { t.as_ptr().add(t.len()) }, || port::read_word(t, a, c, b))),
     ("reads before the archive", |t, a, c, b| peek(unsafe { a.as_ptr().sub(1) }, || port::read_word(t, a, c, b))),
     ("writes past the contents", |t, a, c, b| {
@@ -64,12 +64,15 @@ pub fn one(label: &str, with: &str, room: &str) -> Result<String, String> {
     if let Some(result) = lookup_faults::one(label, with, room) {
         return result.map(|()| "not seen".to_string());
     }
-    if let Some(result) = comparing_faults::one(label) {
+    if let Some(result) = comparing_faults::one(label, with) {
         return result.map(|()| "not seen".to_string());
     }
-    let call = FAULTS.iter().chain(&TRESPASSES).find(|(of, _)| *of == label).ok_or("no such fault")?.1;
+    if let Some(result) = start_up_faults::one(label, with, room) {
+        return result.map(|()| "not seen".to_string());
+    }
+    let read = FAULTS.iter().chain(&TRESPASSES).find(|(of, _)| *of == label).ok_or("no such fault")?.1;
     let compare = if with == "both" { whole_comparison } else { comparison_with_the_rust };
-    compare(call, room).map(|()| "not seen".to_string())
+    compare(Calls { read, ..PORTS }, room).map(|()| "not seen".to_string())
 }
 
 /// How a process ends that holds one fault to the comparison. It has a directory of its own, as it may

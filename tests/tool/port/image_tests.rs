@@ -1,7 +1,7 @@
 //! Lookups in buffers that hold no image, or one that no reading made.
 
 use crate::asking::{shown, Asking, Lookups};
-use crate::both::Both;
+use crate::both::{self, Both};
 use crate::lookup_tests::Test;
 use cases::draw::Draw;
 use cases::texts;
@@ -21,7 +21,7 @@ pub const TESTS: [(&str, Test); 5] = [
 /// An image of a text, in buffers that are just long enough.
 pub fn image_of(text: &[u8]) -> (Vec<u16>, Vec<u8>) {
     let (mut contents, mut bodies) = records::buffers();
-    image::read(&mut contents, &mut bodies, text, &[0, 0]).expect("a text within limits");
+    image::read(&mut contents, &mut bodies, &[text], &[0, 0]).expect("a text within limits");
     (contents, bodies)
 }
 
@@ -35,7 +35,7 @@ struct Judging {
 
 impl Judging {
     fn new(lookups: Lookups) -> Self {
-        Self { both: Both::new(port::read_word), asking: Asking::new(lookups), good: 0, bad: 0 }
+        Self { both: Both::new(both::PORTS), asking: Asking::new(lookups), good: 0, bad: 0 }
     }
 
     /// Compares the lookups, and tells whether the buffers hold an image.
@@ -155,7 +155,7 @@ fn changed_bytes(lookups: Lookups) -> Result<String, String> {
     for _ in 0..30_000 {
         let (mut contents, mut bodies) = records::buffers();
         let query = texts::query(draw);
-        if image::read(&mut contents, &mut bodies, &texts::text(draw, 8, &query), &[0, 0]).is_err() {
+        if image::read(&mut contents, &mut bodies, &[&texts::text(draw, 8, &query)], &[0, 0]).is_err() {
             continue;
         }
         let (rows, used) = (2 + 3 * usize::from(contents[0]), usize::from(contents[1]));

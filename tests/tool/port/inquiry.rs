@@ -2,7 +2,7 @@
 //! and beside the Rust where document 01 admits it. Says what was compared and what was left out.
 
 use crate::asking::{Asking, Lookups, Words};
-use crate::both::Call;
+use crate::both::Calls;
 use crate::run::{describe, shown, smaller, Run, Rusts};
 use cases::admitted::LeftOut;
 use records::{Query, Source};
@@ -70,7 +70,7 @@ pub struct Inquiry {
 }
 
 impl Inquiry {
-    pub fn new(read: Call, lookups: Lookups, room: &str) -> Self {
+    pub fn new(read: Calls, lookups: Lookups, room: &str) -> Self {
         Self { run: Run::new(read, room), asking: Asking::new(lookups), counts: Counts::default() }
     }
 

@@ -3,8 +3,8 @@
 
 use crate::asking::{Lookup, Lookups, ShowLookup, ValueLookup, PORTS};
 use crate::faults::{each_seen, peek, poke, status};
-use crate::lookup_tests;
 use crate::third::{Telling, Third};
+use crate::{both, lookup_tests};
 use cases::readings::Extent;
 use cases::struck::FAMILIES;
 use port::{get_bool_word, get_bytes_word, get_string_word, get_value_word, show_word};
@@ -127,7 +127,7 @@ pub fn one(label: &str, with: &str, room: &str) -> Option<Result<(), String>> {
 }
 
 fn third_term(get_bytes: Lookup, telling: Telling) -> Result<(), String> {
-    let mut third = Third::new(port::read_word, get_bytes, telling);
+    let mut third = Third::new(both::PORTS, get_bytes, telling);
     let (_, family) = FAMILIES[1];
     family(Extent { seed: 1, times: 1 }, &mut |source, which, queries| third.see(source, which, queries))
 }

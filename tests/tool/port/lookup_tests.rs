@@ -4,7 +4,7 @@ use crate::asking::{said, Lookups, Said};
 use crate::inquiry::Inquiry;
 use crate::query_tests::dotted;
 use crate::run::describe;
-use crate::{image_tests, query_tests};
+use crate::{both, image_tests, query_tests};
 use cases::lookups::FAMILIES;
 use cases::readings::Extent;
 use model::lookup::Number;
@@ -143,7 +143,7 @@ pub fn test(name: &str, lookups: Lookups, room: &str) -> Option<Result<String, S
 
 /// Every lookup says what is expected, and what the model and the Rust say.
 fn as_expected(all: &[Asked], lookups: Lookups, room: &str) -> Result<String, String> {
-    let mut inquiry = Inquiry::new(port::read_word, lookups, room);
+    let mut inquiry = Inquiry::new(both::PORTS, lookups, room);
     let mut answers = Vec::new();
     for Asked { source, query, expected } in all {
         inquiry.ask(source, std::slice::from_ref(query))?;
@@ -180,7 +180,7 @@ fn described(answer: Result<Said, u8>) -> String {
 /// What faulty lookups are held to.
 pub fn whole_comparison(lookups: Lookups, room: &str) -> Result<(), String> {
     names().into_iter().try_for_each(|name| test(name, lookups, room).expect("a test").map(drop))?;
-    let mut inquiry = Inquiry::new(port::read_word, lookups, room);
+    let mut inquiry = Inquiry::new(both::PORTS, lookups, room);
     let family = |name: &str| FAMILIES.iter().find(|(of, _)| *of == name).expect("a family").1;
     ["limits", "query-words", "random"]
         .into_iter()
@@ -189,7 +189,7 @@ pub fn whole_comparison(lookups: Lookups, room: &str) -> Result<(), String> {
 
 /// The named cases with no model.
 pub fn comparison_with_the_rust(lookups: Lookups, room: &str) -> Result<(), String> {
-    let mut inquiry = Inquiry::new(port::read_word, lookups, room);
+    let mut inquiry = Inquiry::new(both::PORTS, lookups, room);
     for (_, all) in named() {
         for Asked { source, query, .. } in all {
             inquiry.ask_by_the_rust(&source, &query)?;

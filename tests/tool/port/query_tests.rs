@@ -2,7 +2,7 @@
 //! itself, and the lent number.
 
 use crate::asking::{place_word, shown, Asking, Lookups, Words};
-use crate::both::{Both, SHAPES};
+use crate::both::{self, Both, SHAPES};
 use crate::fenced::zero_bytes;
 use crate::image_tests::image_of;
 use crate::lookup_tests::Test;
@@ -51,7 +51,7 @@ fn lent_number(lookups: Lookups) -> Result<String, String> {
 
 /// Names and classes around 1,024 bytes and far past them, up to lengths of over 32 bits.
 fn query_lengths(lookups: Lookups) -> Result<String, String> {
-    let mut both = Both::new(port::read_word);
+    let mut both = Both::new(both::PORTS);
     let mut asking = Asking::new(lookups);
     let text = [vec![b'a'; 1024], b":1".to_vec()].concat();
     let mut count = 0;
@@ -125,7 +125,7 @@ fn query_texts() -> Vec<QueryText> {
 
 /// 8, then 9, then malformed, then 10, for every pair of a name and a class.
 fn order_of_refusals(lookups: Lookups) -> Result<String, String> {
-    let (mut both, mut asking) = (Both::new(port::read_word), Asking::new(lookups));
+    let (mut both, mut asking) = (Both::new(both::PORTS), Asking::new(lookups));
     let (contents, bodies) = image_of(b"*a:1");
     let texts = query_texts();
     let pairs = || texts.iter().flat_map(|name| texts.iter().map(move |class| (name, class)));

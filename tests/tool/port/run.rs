@@ -1,11 +1,13 @@
 //! A run over a family of cases: every reading beside the model, and beside the Rust where document
 //! 01 admits it. Says what was compared and what was left out.
 
-use crate::both::{word_of, Answer, Both, Call, SHAPES};
+use crate::both::{word_of, Answer, Both, Calls, SHAPES};
 use cases::admitted::LeftOut;
 use model::archive::{judge, lay_out, File};
-use records::Source;
+use model::startup::StartUp;
+use records::{Source, Start};
 use std::collections::BTreeMap;
+use std::rc::Rc;
 
 #[cfg(feature = "rust")]
 use crate::both::shown as shown_word;
@@ -63,13 +65,13 @@ pub struct Run {
 
 impl Run {
     #[cfg(feature = "rust")]
-    pub fn new(call: Call, room: &str) -> Self {
-        Self { both: Both::new(call), counts: Counts::default(), room: Room::new(room) }
+    pub fn new(calls: Calls, room: &str) -> Self {
+        Self { both: Both::new(calls), counts: Counts::default(), room: Room::new(room) }
     }
 
     #[cfg(not(feature = "rust"))]
-    pub fn new(call: Call, _room: &str) -> Self {
-        Self { both: Both::new(call), counts: Counts::default() }
+    pub fn new(calls: Calls, _room: &str) -> Self {
+        Self { both: Both::new(calls), counts: Counts::default() }
     }
 
     /// Compares one reading. A difference is told with the smallest source that was found to show one.
@@ -152,17 +154,16 @@ pub fn smaller(mut source: Source, mut why: String, mut differ: impl FnMut(&Sour
     }
 }
 
-/// The source with a piece of the text or of a file left out, or without a file, the larger pieces first.
+/// The source with a piece of a text or of a file left out, or without a file, the larger pieces first.
 fn shorter(source: &Source) -> impl Iterator<Item = Source> + '_ {
-    let with = |archive: Vec<u8>| Source { text: source.text.clone(), archive };
-    let texts = without_a_piece(&source.text).map(|text| Source { text, archive: source.archive.clone() });
+    let with = |archive: Vec<u8>| Source { start: source.start.clone(), archive };
+    let texts = shorter_starts(&source.start).map(|start| Source { start, archive: source.archive.clone() });
     let bad = judge(&source.archive).is_none().then_some(&source.archive[..]);
     let bad = bad.into_iter().flat_map(without_a_piece).map(with);
     let files = judge(&source.archive).unwrap_or_default().files;
     let good = (0..files.len()).flat_map(move |which| {
         let mut others = files.clone();
         let File { name, body } = others.remove(which);
-        let bodies: Vec<Vec<u8>> = without_a_piece(&body).collect();
         let put_back = {
             let others = others.clone();
             move |body| {
@@ -171,14 +172,45 @@ fn shorter(source: &Source) -> impl Iterator<Item = Source> + '_ {
                 lay_out(&files)
             }
         };
-        std::iter::once(lay_out(&others)).chain(bodies.into_iter().map(put_back))
+        std::iter::once(lay_out(&others)).chain(without_a_piece(&body).map(put_back))
     });
     texts.chain(bad).chain(good.map(with))
 }
 
-fn without_a_piece(bytes: &[u8]) -> impl Iterator<Item = Vec<u8>> + '_ {
+fn shorter_starts(start: &Start) -> Box<dyn Iterator<Item = Start> + '_> {
+    match start {
+        Start::Text(text) => Box::new(without_a_piece(text).map(Start::Text)),
+        Start::Chain(start_up) => {
+            let property = without_a_piece(&start_up.property).map(|property| StartUp { property, ..start_up.clone() });
+            let texts = TEXTS.into_iter().flat_map(move |(_, text)| {
+                let bytes = text(&mut start_up.clone()).take();
+                let less = bytes.into_iter().flat_map(|bytes| std::iter::once(None).chain(without_a_piece(&bytes).map(Some)));
+                less.map(move |less| {
+                    let mut changed = start_up.clone();
+                    *text(&mut changed) = less;
+                    changed
+                })
+            });
+            Box::new(property.chain(texts).map(Start::Chain))
+        }
+    }
+}
+
+type TextOf = fn(&mut StartUp) -> &mut Option<Vec<u8>>;
+
+/// The texts of a start-up that may be unreadable.
+pub const TEXTS: [(&str, TextOf); 4] = [
+    (".Xresources", |start_up| &mut start_up.xresources),
+    (".Xdefaults", |start_up| &mut start_up.xdefaults),
+    ("XENVIRONMENT's", |start_up| &mut start_up.xenvironment),
+    ("the host's", |start_up| &mut start_up.host),
+];
+
+fn without_a_piece(bytes: &[u8]) -> impl Iterator<Item = Vec<u8>> {
+    let bytes: Rc<[u8]> = bytes.into();
     let sizes = std::iter::successors(Some(bytes.len()), |size| Some(size / 2)).take_while(|size| *size > 0);
     sizes.flat_map(move |size| {
+        let bytes = bytes.clone();
         (0..bytes.len()).step_by(size).map(move |at| [&bytes[..at], &bytes[(at + size).min(bytes.len())..]].concat())
     })
 }
@@ -190,9 +222,24 @@ pub fn shown(bytes: &[u8]) -> String {
 }
 
 pub fn describe(source: &Source) -> String {
+    let start = match &source.start {
+        Start::Text(text) => format!("text {}", shown(text)),
+        Start::Chain(start_up) => described(start_up),
+    };
     let Some(archive) = judge(&source.archive) else {
-        return format!("text {}, archive {}", shown(&source.text), shown(&source.archive));
+        return format!("{start}, archive {}", shown(&source.archive));
     };
     let files: Vec<String> = archive.files.iter().map(|file| format!("{} => {}", shown(&file.name), shown(&file.body))).collect();
-    format!("text {}, files [{}]", shown(&source.text), files.join("; "))
+    format!("{start}, files [{}]", files.join("; "))
+}
+
+fn described(start_up: &StartUp) -> String {
+    let StartUp { format, property, xenvironment_set, .. } = start_up;
+    let text = |(name, text): &(&str, TextOf)| match text(&mut start_up.clone()) {
+        Some(bytes) => format!("{name} {}", shown(bytes)),
+        None => format!("{name} unreadable"),
+    };
+    let set = if *xenvironment_set { "set" } else { "not set" };
+    let texts = TEXTS.iter().map(text).collect::<Vec<_>>().join(", ");
+    format!("property {} of format {format}, XENVIRONMENT {set}, {texts}", shown(property))
 }

@@ -2,20 +2,21 @@
 //! the comparison must see.
 
 use crate::asking;
-use crate::both::{shown, word_of, Both, Call, Shape, SHAPES};
+use crate::both::{self, shown, word_of, Both, Calls, Shape, SHAPES};
 use crate::faults;
 use crate::fenced::zero_bytes;
 use crate::run::Run;
-use crate::{comparing_faults, comparing_tests, lookup_faults, lookup_tests};
+use crate::{comparing, comparing_faults, comparing_tests, lookup_faults, lookup_tests, start_up_faults, start_up_tests};
 use cases::archives;
 use cases::draw::Draw;
 use cases::limits::Edge;
+use cases::named_chains;
 use cases::readings::{at_limits, Extent, Family, FAMILIES};
 use model::image;
 use model::limits::{ARCHIVE_BYTES, BODIES_BYTES, CONTENTS_WORDS, TEXT_BYTES};
 use records::Source;
 
-type Test = fn(Call) -> Result<String, String>;
+pub type Test = fn(Calls) -> Result<String, String>;
 
 const TESTS: [(&str, Test); 5] = [
     ("limits", limits),
@@ -26,7 +27,7 @@ const TESTS: [(&str, Test); 5] = [
 ];
 
 /// Cases at the limits that have a line of their own.
-const NAMED: [&str; 13] = [
+const NAMED: [&str; 25] = [
     "16 parts",
     "17 parts",
     "512 lines",
@@ -40,17 +41,39 @@ const NAMED: [&str; 13] = [
     "32,769 newlines",
     "64 files in a chain",
     "64 files in a ring",
+    "two texts of 32,768",
+    "a long second text",
+    "every long text that is not used",
+    "no archive, and a long text that is used",
+    "511 entries and one",
+    "512 entries and one",
+    "a store of 32,768 in two texts",
+    "a store of 32,769 in two texts",
+    "4,096 opens in two texts",
+    "4,097 opens in two texts",
+    "100 depths in each",
+    "17 parts in the second",
 ];
+
+/// The cases at the limits, of main texts and of start-ups.
+fn edges() -> Vec<Edge> {
+    at_limits().into_iter().chain(named_chains::at_limits()).collect()
+}
 
 pub fn names() -> Vec<&'static str> {
     let readings = NAMED.into_iter().chain(TESTS.map(|(name, _)| name)).chain(["faults"]);
+    let start_ups = start_up_tests::names().chain(["faults of start-ups"]);
     let lookups = lookup_tests::names().into_iter().chain(["faults of lookups"]);
-    readings.chain(lookups).chain(comparing_tests::names()).chain(["faults of the comparing call"]).collect()
+    let comparing = comparing_tests::names().chain(["faults of the comparing call"]);
+    readings.chain(start_ups).chain(lookups).chain(comparing).collect()
 }
 
 pub fn test(name: &str, room: &str) -> Result<String, String> {
     if name == "faults" {
         return faults::all_seen(room);
+    }
+    if name == "faults of start-ups" {
+        return start_up_faults::all_seen(room);
     }
     if name == "faults of lookups" {
         return lookup_faults::all_seen(room);
@@ -61,15 +84,15 @@ pub fn test(name: &str, room: &str) -> Result<String, String> {
     if let Some(result) = lookup_tests::test(name, asking::PORTS, room) {
         return result;
     }
-    if let Some(test) = comparing_tests::find(name) {
-        return test(port::compare_without_word);
+    if let Some(result) = comparing_tests::test(name, comparing::PORTS) {
+        return result;
     }
-    if let Some((_, test)) = TESTS.iter().find(|(of, _)| *of == name) {
-        return test(port::read_word);
+    if let Some(test) = TESTS.iter().chain(&start_up_tests::TESTS).find(|(of, _)| *of == name).map(|(_, test)| *test) {
+        return test(both::PORTS);
     }
-    let edges = at_limits();
+    let edges = edges();
     let edge = edges.iter().find(|edge| edge.label == name && NAMED.contains(&name)).ok_or(format!("no such test: {name}"))?;
-    let mut run = Run::new(port::read_word, room);
+    let mut run = Run::new(both::PORTS, room);
     at_edge(&mut run.both, edge)?;
     run.see(&edge.source).map(drop)?;
     let beside = if run.counts.beside_the_rust > 0 { "the model and the Rust" } else { "the model" };
@@ -77,7 +100,7 @@ pub fn test(name: &str, room: &str) -> Result<String, String> {
 }
 
 /// A case at a limit gives what is expected, however the buffers are lent.
-fn at_edge(both: &mut Both, edge: &Edge) -> Result<(), String> {
+pub fn at_edge(both: &mut Both, edge: &Edge) -> Result<(), String> {
     for shape in SHAPES {
         let answer = both.compare_in(&edge.source, shape).map_err(|why| format!("{}: {why}", edge.label))?;
         if answer != edge.expected {
@@ -87,18 +110,18 @@ fn at_edge(both: &mut Both, edge: &Edge) -> Result<(), String> {
     Ok(())
 }
 
-fn limits(call: Call) -> Result<String, String> {
-    let mut both = Both::new(call);
-    let edges = at_limits();
+fn limits(calls: Calls) -> Result<String, String> {
+    let mut both = Both::new(calls);
+    let edges = edges();
     edges.iter().try_for_each(|edge| at_edge(&mut both, edge))?;
     Ok(format!("{} cases, each with buffers lent in {} ways", edges.len(), SHAPES.len()))
 }
 
 /// Every length that is too short is refused by 1, before anything else is looked at.
-fn short_buffers(call: Call) -> Result<String, String> {
-    let mut both = Both::new(call);
+fn short_buffers(calls: Calls) -> Result<String, String> {
+    let mut both = Both::new(calls);
     let good = Source::plain(b"a:1");
-    let long = Source { text: vec![b'\n'; TEXT_BYTES + 1], archive: Vec::new() };
+    let long = Source::text(vec![b'\n'; TEXT_BYTES + 1], Vec::new());
     let mut count = 0;
     let mut refused = |words: usize, bytes: usize| {
         for source in [&good, &long] {
@@ -120,14 +143,14 @@ fn short_buffers(call: Call) -> Result<String, String> {
 }
 
 /// Texts and archives of more bytes than they may have, up to lengths of over 32 bits.
-fn long_texts(call: Call) -> Result<String, String> {
-    let mut both = Both::new(call);
+fn long_texts(calls: Calls) -> Result<String, String> {
+    let mut both = Both::new(calls);
     let mut count = 0;
     for more in [0, 1, 2, 100, 32_767, 32_768, 32_769, 90_000, 200_000] {
         for b in [b'\n', b'a', b':', b'\\', b'!', b'#'] {
             let long = Source::plain(&vec![b; TEXT_BYTES + more]);
             if both.compare(&long)?.err() != (more > 0).then_some(2) {
-                return Err(format!("a text of {} bytes", long.text.len()));
+                return Err(format!("a text of {} bytes", TEXT_BYTES + more));
             }
             count += 1;
         }
@@ -142,8 +165,8 @@ fn long_texts(call: Call) -> Result<String, String> {
     let (mut contents, mut bodies) = (vec![7; CONTENTS_WORDS], vec![7; BODIES_BYTES]);
     for more in [0, 2, 32_768, 32_769, 65_536, 100_000] {
         let long = &zeroes[..(1 << 32) + more];
-        let text = call(long, &[0, 0], &mut contents, &mut bodies);
-        let archive = call(b"a:1", long, &mut contents, &mut bodies);
+        let text = (calls.read)(long, &[0, 0], &mut contents, &mut bodies);
+        let archive = (calls.read)(b"a:1", long, &mut contents, &mut bodies);
         if (text, archive) != (2, 3) || contents.iter().any(|&w| w != 7) || bodies.iter().any(|&b| b != 7) {
             return Err(format!("lengths of {}: {} and {}", long.len(), shown(text), shown(archive)));
         }
@@ -153,8 +176,8 @@ fn long_texts(call: Call) -> Result<String, String> {
 }
 
 /// 1, then 2, then 3, then what the text meets.
-fn order_of_refusals(call: Call) -> Result<String, String> {
-    let mut both = Both::new(call);
+fn order_of_refusals(calls: Calls) -> Result<String, String> {
+    let mut both = Both::new(calls);
     let mut count = 0;
     for short in [false, true] {
         for long in [false, true] {
@@ -162,7 +185,7 @@ fn order_of_refusals(call: Call) -> Result<String, String> {
                 for wide in [false, true] {
                     let line: &[u8] = if wide { b"?????????????????a:\n" } else { b"a:\n" };
                     let text = [line, &vec![b'\n'; if long { TEXT_BYTES } else { 9 }]].concat();
-                    let source = Source { text, archive: if bad { vec![0] } else { vec![0, 0] } };
+                    let source = Source::text(text, if bad { vec![0] } else { vec![0, 0] });
                     let shape = if short { Shape { words: 0, ..SHAPES[0] } } else { SHAPES[0] };
                     let met = [(short, 1), (long, 2), (bad, 3), (wide, 5)].into_iter().find(|(is, _)| *is);
                     let answer = both.compare_in(&source, shape)?;
@@ -178,7 +201,7 @@ fn order_of_refusals(call: Call) -> Result<String, String> {
 }
 
 /// Both are lent for reading, so the same bytes may be lent as both.
-fn text_within_the_archive(call: Call) -> Result<String, String> {
+fn text_within_the_archive(calls: Calls) -> Result<String, String> {
     let draw = &mut Draw::new(1, "text within the archive");
     let mut count = 0;
     for _ in 0..5_000 {
@@ -186,8 +209,8 @@ fn text_within_the_archive(call: Call) -> Result<String, String> {
         let text = &archive[draw.below(archive.len())..];
         let mut ports = (vec![7; CONTENTS_WORDS], vec![7; BODIES_BYTES]);
         let mut models = ports.clone();
-        let word = call(text, &archive, &mut ports.0, &mut ports.1);
-        let read = image::read(&mut models.0, &mut models.1, text, &archive);
+        let word = (calls.read)(text, &archive, &mut ports.0, &mut ports.1);
+        let read = image::read(&mut models.0, &mut models.1, &[text], &archive);
         let answer = read.map(|accepted| (accepted.entries, accepted.opens)).map_err(|refusal| refusal.number());
         if word != word_of(answer) || ports != models {
             return Err(format!("\"{}\" within \"{}\"", text.escape_ascii(), archive.escape_ascii()));
@@ -197,18 +220,18 @@ fn text_within_the_archive(call: Call) -> Result<String, String> {
     Ok(format!("{count} readings"))
 }
 
-/// What a faulty port is held to.
-pub fn whole_comparison(call: Call, room: &str) -> Result<(), String> {
-    TESTS.iter().try_for_each(|(_, test)| test(call).map(drop))?;
-    let mut run = Run::new(call, room);
-    ["limits", "archive-damage", "include-lines", "random"]
-        .into_iter()
-        .try_for_each(|name| family(name)(Extent { seed: 1, times: 1 }, &mut |source| run.see(source).map(drop)))
+/// What a faulty port is held to, what takes longest last.
+pub fn whole_comparison(calls: Calls, room: &str) -> Result<(), String> {
+    let mut run = Run::new(calls, room);
+    let mut see = |name| family(name)(Extent { seed: 1, times: 1 }, &mut |source| run.compare(source).map(drop));
+    see("limits")?;
+    TESTS.iter().try_for_each(|(_, test)| test(calls).map(drop))?;
+    ["archive-damage", "include-lines", "random"].into_iter().try_for_each(see)
 }
 
 /// The same with no model.
-pub fn comparison_with_the_rust(call: Call, room: &str) -> Result<(), String> {
-    let mut run = Run::new(call, room);
+pub fn comparison_with_the_rust(calls: Calls, room: &str) -> Result<(), String> {
+    let mut run = Run::new(calls, room);
     family("limits")(Extent { seed: 1, times: 1 }, &mut |source| run.see_by_the_rust(source).map(drop))
 }
 

@@ -3,9 +3,9 @@
 //! answer must be the model's, and both must be equal exactly where the term says so.
 
 use crate::asking::{bytes_at, place_word, Lookup};
-use crate::both::{Both, Call};
+use crate::both::{Both, Calls};
 use crate::run::{describe, shown};
-use model::archive::{judge, strike};
+use model::archive::judge;
 use model::lookup;
 use model::matching::{highest_row, positions, Row};
 use model::query::split;
@@ -82,25 +82,24 @@ pub struct Third {
 }
 
 impl Third {
-    pub fn new(read: Call, get_bytes: Lookup, telling: Telling) -> Self {
+    pub fn new(read: Calls, get_bytes: Lookup, telling: Telling) -> Self {
         Self { get_bytes, telling, with_it: Both::new(read), without: Both::new(read), counts: Counts::default() }
     }
 
     /// The term on one file of a source and some queries within limits.
     pub fn see(&mut self, source: &Source, which: usize, queries: &[Query]) -> Result<(), String> {
         let why = |why: String| format!("{}, file {which} struck off: {why}", describe(source));
-        let struck = Source { text: source.text.clone(), archive: strike(&source.archive, which) };
         // The term takes readings that are accepted with the file.
         if self.with_it.compare(source).map_err(why)?.is_err() {
             self.counts.refused += 1;
             return Ok(());
         }
-        if let Err(number) = self.without.compare(&struck).map_err(why)? {
+        if let Err(number) = self.without.compare(&source.struck(which)).map_err(why)? {
             return Err(why(format!("the second reading is refused by {number}")));
         }
         self.counts.files += 1;
         let archive = judge(&source.archive).expect("the archive of an accepted reading");
-        let entries = read(&source.text, &archive).expect("an accepted reading").entries;
+        let entries = read(&source.texts(), &archive).expect("an accepted reading").entries;
         for query in queries {
             let case = case_of(&entries, &archive.files[which].name, query);
             self.judge(case, query)

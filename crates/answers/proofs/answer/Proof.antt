@@ -1,5 +1,7 @@
 -- `answers::answer` meets its contract. Assumes nothing.
+use mathlib.Core.List.{map}
 use native.Mathlib.Omega.{arith}
+use denote.Ref.{now}
 use Rattle.definition.specs.Lists.{zeroes}
 use Rattle.definition.specs.Limits.{contentsWords, bodyBytes}
 use Rattle.answers.proofs.Showing.{looked}
@@ -12,16 +14,16 @@ tell-requires : tie.Need-tell-requires
 unfolding zeroes
 tell-requires c κs =
     let lookup = c .before .before .before .before in
-    let s = lookup .before .before .before .before .before .before .before .before in
-    (looked (s .args .text .now) (s .args .archive .now) (s .args .name .now) (s .args .class .now) (zeroes contentsWords) (zeroes bodyBytes) _ _ _ (lookup .look-up .ensures) .1, omega (arith, lookup .look-up .kept .1 .1 .1 .1 .1 .0), s .pre)
+    let s = lookup .before .before .before .before .before .before .before in
+    (looked (map now (s .args .texts .now)) (s .args .archive .now) (s .args .name .now) (s .args .class .now) (zeroes contentsWords) (zeroes bodyBytes) _ _ _ (lookup .look-up .ensures) .1, omega (arith, lookup .look-up .kept .1 .1 .1 .1 .1 .0), s .pre)
 
 returns : tie.Need-returns
 unfolding zeroes
 returns c =
     let t2 = c .before .before in
     let lookup = t2 .before .before .before .before .before in
-    let s = lookup .before .before .before .before .before .before .before .before in
-    answer-told (s .args .text .now) (s .args .archive .now) (s .args .name .now) (s .args .class .now) (lookup .look-up .ensures) (t2 .tell .ensures)
+    let s = lookup .before .before .before .before .before .before .before in
+    answer-told (map now (s .args .texts .now)) (s .args .archive .now) (s .args .name .now) (s .args .class .now) (lookup .look-up .ensures) (t2 .tell .ensures)
 
 pub answer-spec : {M : Type 1} → statement M
 answer-spec =

@@ -1,5 +1,7 @@
 -- `answers_without::compare_file` meets its contract. Assumes nothing.
+use mathlib.Core.List.{map}
 use native.Mathlib.Omega.{arith}
+use denote.Ref.{now}
 use Rattle.definition.specs.Lists.{zeroes}
 use Rattle.answers_without.proofs.Twice.{both-inside, both-told, none-told, refused-told}
 use borrow.Author.Needs.{needs}
@@ -7,7 +9,7 @@ use Rattle.answers_without.proofs.compare_file.Statement.{statement}
 use Rattle.answers_without.proofs.compare_file.Tie as tie
 
 abbrev start-of : tie.After-compare-without → tie.Start
-start-of c = c .before .before .before .before .before .before .before .before .before .before .before .before
+start-of c = c .before .before .before .before .before .before .before .before .before .before .before
 
 tell-both-requires : tie.Need-tell-both-requires
 tell-both-requires c κs =
@@ -30,7 +32,7 @@ returns c =
     let x = t .before .before .before .before .before in
     let w = x .before .before .before .before .before .before .before in
     let s = start-of w in
-    both-told (s .args .text .now) (s .args .archive .now) (s .args .number) (s .args .file .now) (s .args .name .now) (s .args .class .now) (x .compared .given .0 .0) (x .compared .given .0 .1 .0) (x .compared .given .0 .1 .1 .0) (rw (x .compared .given .1) at (w .compare-without .ensures .equals)) (t .tell-both .ensures)
+    both-told (map now (s .args .texts .now)) (s .args .archive .now) (s .args .number) (s .args .file .now) (s .args .name .now) (s .args .class .now) (x .compared .given .0 .0) (x .compared .given .0 .1 .0) (x .compared .given .0 .1 .1 .0) (rw (x .compared .given .1) at (w .compare-without .ensures .equals)) (t .tell-both .ensures)
 
 returns-2 : tie.Need-returns-2
 unfolding zeroes
@@ -39,7 +41,7 @@ returns-2 c =
     let x = t .before .before in
     let w = x .before .before .before .before .before .before .before in
     let s = start-of w in
-    none-told (s .args .text .now) (s .args .archive .now) (s .args .number) (s .args .file .now) (s .args .name .now) (s .args .class .now) (rw (x .enum-told .given .1) at (w .compare-without .ensures .equals)) (t .no-file .ensures)
+    none-told (map now (s .args .texts .now)) (s .args .archive .now) (s .args .number) (s .args .file .now) (s .args .name .now) (s .args .class .now) (rw (x .enum-told .given .1) at (w .compare-without .ensures .equals)) (t .no-file .ensures)
 
 returns-3 : tie.Need-returns-3
 unfolding zeroes
@@ -48,7 +50,7 @@ returns-3 c =
     let x = r2 .before .before .before in
     let w = x .before .before .before .before .before .before .before in
     let s = start-of w in
-    refused-told (s .args .text .now) (s .args .archive .now) (s .args .number) (s .args .file .now) (s .args .name .now) (s .args .class .now) _ (rw (x .compared2 .given .1) at (w .compare-without .ensures .equals)) (r2 .refuse .ensures)
+    refused-told (map now (s .args .texts .now)) (s .args .archive .now) (s .args .number) (s .args .file .now) (s .args .name .now) (s .args .class .now) _ (rw (x .compared2 .given .1) at (w .compare-without .ensures .equals)) (r2 .refuse .ensures)
 
 pub compare-file-spec : {M : Type 1} → statement M
 compare-file-spec =

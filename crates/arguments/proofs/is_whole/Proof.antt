@@ -2,20 +2,21 @@
 use borrow.Author.Tests.{eq-eqb, ne-eqb}
 use mathlib.Core.Path.{refl}
 use Rattle.arguments.specs.Planning.{isWhole}
+use borrow.Author.Needs.{needs}
 use Rattle.arguments.proofs.is_whole.Statement.{statement}
 use Rattle.arguments.proofs.is_whole.Tie as tie
 
 returns : tie.Need-returns
 unfolding isWhole
-returns c = rw (eq-eqb _ _ (c .if1 .taken)) refl
+returns c = rw (← c .before .given .ensures, eq-eqb _ _ (c .if1 .taken)) refl
 
 returns-2 : tie.Need-returns-2
 unfolding isWhole
-returns-2 c = rw (ne-eqb _ _ (c .before .before .if1 .left), eq-eqb _ _ (c .if2 .taken)) refl
+returns-2 c = rw (← c .before .before .before .given .ensures, ne-eqb _ _ (c .before .before .if1 .left), eq-eqb _ _ (c .if2 .taken)) refl
 
 returns-3 : tie.Need-returns-3
 unfolding isWhole
-returns-3 c = rw (ne-eqb _ _ (c .before .before .before .if1 .left), ne-eqb _ _ (c .before .if2 .left)) refl
+returns-3 c = rw (← c .before .before .before .before .given .ensures, ne-eqb _ _ (c .before .before .before .if1 .left), ne-eqb _ _ (c .before .if2 .left)) refl
 
 pub is-whole-spec : {M : Type 1} → statement M
-is-whole-spec = tie.close (tie.spec returns returns-2 returns-3)
+is-whole-spec = tie.close (tie.spec (λ c κs. search needs) returns returns-2 returns-3)

@@ -1,6 +1,5 @@
 -- `arguments::with_operand` meets its contract. Assumes nothing.
 use borrow.Author.Tests.{eq-eqb, ne-eqb}
-use mathlib.Core.Path.{refl}
 use Rattle.arguments.specs.Planning.{withOperand}
 use borrow.Author.Needs.{needs}
 use Rattle.arguments.proofs.with_operand.Statement.{statement}
@@ -8,20 +7,16 @@ use Rattle.arguments.proofs.with_operand.Tie as tie
 
 returns : tie.Need-returns
 unfolding withOperand
-returns c = rw (eq-eqb _ _ (c .if1 .taken)) refl
+returns c = rw (← c .before .before .given .ensures, eq-eqb _ _ (c .before .if1 .taken)) (c .once .ensures)
 
 returns-2 : tie.Need-returns-2
 unfolding withOperand
-returns-2 c = rw (ne-eqb _ _ (c .before .before .if1 .left), eq-eqb _ _ (c .if2 .taken)) refl
+returns-2 c = rw (← c .before .before .before .before .given .ensures, ne-eqb _ _ (c .before .before .before .if1 .left), ← c .before .before .given2 .ensures, eq-eqb _ _ (c .before .if2 .taken)) (c .once2 .ensures)
 
 returns-3 : tie.Need-returns-3
 unfolding withOperand
-returns-3 c = rw (ne-eqb _ _ (c .before .before .before .before .if1 .left), ne-eqb _ _ (c .before .before .if2 .left), eq-eqb _ _ (c .if3 .taken)) refl
-
-returns-4 : tie.Need-returns-4
-unfolding withOperand
-returns-4 c = rw (ne-eqb _ _ (c .before .before .before .before .before .if1 .left), ne-eqb _ _ (c .before .before .before .if2 .left), ne-eqb _ _ (c .before .if3 .left)) (c .misunderstood .ensures)
+returns-3 c = rw (← c .before .before .before .before .given .ensures, ne-eqb _ _ (c .before .before .before .if1 .left), ← c .before .before .given2 .ensures, ne-eqb _ _ (c .before .if2 .left)) (c .once3 .ensures)
 
 pub with-operand-spec : {M : Type 1} → statement M
 with-operand-spec =
-    tie.close (tie.spec returns returns-2 returns-3 (λ c κs. search needs) returns-4)
+    tie.close (tie.spec (λ c κs. search needs) (λ c κs. search needs) returns (λ c κs. search needs) (λ c κs. search needs) returns-2 (λ c κs. search needs) returns-3)

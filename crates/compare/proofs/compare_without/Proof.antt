@@ -1,5 +1,6 @@
 -- `compare::compare_without` meets its contract. Assumes nothing.
 use mathlib.Core.Bool.{true}
+use mathlib.Core.List.{map}
 use mathlib.Core.Path.{_≡_}
 use native.Mathlib.Omega.{arith}
 use Rattle.definition.specs.Archive.{laidOut}
@@ -9,30 +10,31 @@ use Rattle.archive.proofs.Walk.{length-files, rows-room}
 use Rattle.compare.specs.Comparing.{asked}
 use Rattle.compare.proofs.Comparing.{read-is, read-laidOut, short-struck, short-contents, short-bodies, Room, first-refused, no-file, both-left, promised}
 use borrow.Author.Needs.{needs}
+use denote.Ref.{now}
 use Rattle.compare.proofs.compare_without.Statement.{statement}
 use Rattle.compare.proofs.compare_without.Tie as tie
 
 abbrev begun : tie.After-slice-known5 → tie.Start
-begun c = c .before .before .before .before .before .before .before .before .before
+begun c = c .before .before .before .before .before .before .before .before
 
 abbrev case : tie.After-slice-known5 → Case
 case c =
     let a = begun c .args in
-    asked (a .text .now) (a .archive .now) (a .file) (a .name .now) (a .class .now) (a .contents .now) (a .bodies .now) (a .contents-without .now) (a .bodies-without .now)
+    asked (map now (a .texts .now)) (a .archive .now) (a .file) (a .name .now) (a .class .now) (a .contents .now) (a .bodies .now) (a .contents-without .now) (a .bodies-without .now)
 
 -- the tests of room are behind
-abbrev tested : tie.After-read → tie.After-slice-known5
+abbrev tested : tie.After-read-texts → tie.After-slice-known5
 tested c = c .before .before .before .before .before .before
 
-room : (c : tie.After-read) → Room (case (tested c)) (begun (tested c) .args .struck .now)
+room : (c : tie.After-read-texts) → Room (case (tested c)) (begun (tested c) .args .struck .now)
 room c = let e = c .before .before .before in record { archive = e .before .before .if1 .left; contents = e .before .if2 .left; bodies = e .if3 .left }
 
 -- the first reading is accepted
-abbrev was-read : tie.After-enum-told → tie.After-read
+abbrev was-read : tie.After-enum-told → tie.After-read-texts
 was-read c = c .before .before .before .before .before .before
 
-read-with : (c : tie.After-enum-told) → (let r = was-read c .read in outcome (accepted (c .enum-told .given .0 .0) (c .enum-told .given .0 .1 .0)) (r .last .1 .1 .0) (r .last .1 .1 .1 .0) ≡ withFile (case (tested (was-read c))))
-read-with c = read-is (was-read c .read .result) _ _ _ _ (was-read c .read .ensures) (c .enum-told .given .1)
+read-with : (c : tie.After-enum-told) → (let r = was-read c .read-texts in outcome (accepted (c .enum-told .given .0 .0) (c .enum-told .given .0 .1 .0)) (r .last .1 .1 .0) (r .last .1 .1 .1 .0) ≡ withFile (case (tested (was-read c))))
+read-with c = read-is (was-read c .read-texts .result) _ _ _ _ (was-read c .read-texts .ensures) (c .enum-told .given .1)
 
 laid : (c : tie.After-enum-told) → laidOut (case (tested (was-read c)) .archive) ≡ true
 laid c = read-laidOut _ _ _ _ _ _ _ _ (read-with c)
@@ -66,7 +68,7 @@ read-without-requires c κs =
 returns-5 : tie.Need-returns-5
 returns-5 c =
     let read-here = c .before .before .before .before .before .before .before in
-    promised _ _ _ (first-refused (case (tested read-here)) _ (room read-here) _ _ _ (read-is (read-here .read .result) _ _ _ _ (read-here .read .ensures) (c .before .first .given .1)))
+    promised _ _ _ (first-refused (case (tested read-here)) _ (room read-here) _ _ _ (read-is (read-here .read-texts .result) _ _ _ _ (read-here .read-texts .ensures) (c .before .first .given .1)))
 
 returns-6 : tie.Need-returns-6
 returns-6 c =

@@ -21,4 +21,4 @@ read-arguments-spec =
     tie.close
     (tie.spec
     Inv-loop μ-loop (λ c κs. search needs) (λ c κs. search needs) loop-holds (λ c κs. search needs) (λ c. search needs)
-    (λ c. search needs) loop-again (λ c. search needs))
+    (λ c. search needs) loop-again (λ c κs. search needs) (λ c. search needs))

@@ -12,7 +12,7 @@ use Rattle.reader_without.proofs.read_without.Statement.{statement}
 use Rattle.reader_without.proofs.read_without.Tie as tie
 
 abbrev begun : tie.After-strike-off → tie.Start
-begun c = c .before .before .before .before .before .before .before
+begun c = c .before .before .before .before .before .before
 
 -- the archive without the file fits
 fits : (c : tie.Start) → length (struckOff (c .args .file) (c .args .archive .now)) ≤ length (c .args .struck .now)
@@ -23,7 +23,7 @@ shorter : (c : tie.After-strike-off) → c .strike-off .result ≤ length (c .st
 shorter c = omega (arith, c .strike-off .ensures .0, c .strike-off .kept .1 .1 .0, fits (begun c))
 
 strike-off-requires : tie.Need-strike-off-requires
-strike-off-requires c κs = let s = c .before .before .before .before .before .before in (s .pre .0, s .pre .1, fits s)
+strike-off-requires c κs = let s = c .before .before .before .before .before in (s .pre .0, s .pre .1, fits s)
 
 slice-reshare-prefix-without : tie.Need-slice-reshare-prefix-without
 slice-reshare-prefix-without c = shorter (c .before .before)
@@ -35,7 +35,7 @@ returns : tie.Need-returns
 returns c =
     let read-here = c .before .before .before .before in
     let strike-off-here = read-here .before .before .before .before .before .before in
-    second-read (read-here .read .result) _ _ _ _ _ _ _ _ _ _ (fits (begun strike-off-here)) (strike-off-here .strike-off .ensures .0) (strike-off-here .strike-off .ensures .1) (read-here .read .ensures)
+    second-read (read-here .read-texts .result) _ _ _ _ _ _ _ _ _ _ (fits (begun strike-off-here)) (strike-off-here .strike-off .ensures .0) (strike-off-here .strike-off .ensures .1) (read-here .read-texts .ensures)
 
 pub read-without-spec : {M : Type 1} → statement M
 read-without-spec =

@@ -1,2 +1,0 @@
--- Laws of the arguments.
-pub mod Words

@@ -1,0 +1,2 @@
+-- Laws of the comparing call of a start-up.
+pub mod Started

@@ -1,0 +1,2 @@
+-- What the contracts of the fields cite beside the definition.
+pub mod Fields

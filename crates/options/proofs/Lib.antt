@@ -1,0 +1,2 @@
+-- Laws of getres's options.
+pub mod Words

@@ -1,0 +1,2 @@
+-- What the contracts of getres's options cite.
+pub mod Options

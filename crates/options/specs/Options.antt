@@ -1,0 +1,114 @@
+-- What an argument says by itself.
+use mathlib.Core.Bool.{Bool, true, false, not}
+use mathlib.Core.List.{List, [], _∷_}
+use Prim.Native.Nat.{ℕ, _-_}
+use lib.Dec.{eqb}
+use Rattle.definition.specs.Lists.{if_then_else_, ascii, same}
+use Rattle.definition.specs.Bytes.{within}
+
+-- ---- What an argument is for
+
+-- an operand
+abbrev pub text : ℕ
+text = 0
+
+abbrev pub name : ℕ
+name = 1
+
+abbrev pub class : ℕ
+class = 2
+
+-- the value of an option
+abbrev pub without : ℕ
+without = 3
+
+abbrev pub status : ℕ
+status = 4
+
+-- of a start-up chain: the property's format, the property, .Xresources, .Xdefaults, what XENVIRONMENT names, the host's .Xdefaults
+abbrev pub format : ℕ
+format = 5
+
+abbrev pub property : ℕ
+property = 6
+
+abbrev pub xresources : ℕ
+xresources = 7
+
+abbrev pub xdefaults : ℕ
+xdefaults = 8
+
+abbrev pub xenvironment : ℕ
+xenvironment = 9
+
+abbrev pub host : ℕ
+host = 10
+
+-- an operand or an option; the value of `--file`; an operand, whatever it looks like
+abbrev pub anything : ℕ
+anything = 11
+
+abbrev pub file : ℕ
+file = 12
+
+abbrev pub operand : ℕ
+operand = 13
+
+-- options that nothing follows
+abbrev pub help : ℕ
+help = 14
+
+abbrev pub unknown : ℕ
+unknown = 15
+
+-- ---- Values
+
+-- a digit from 3 to 9, or 0 for anything else
+unfoldable pub descriptor : List ℕ → ℕ
+descriptor [] = 0
+descriptor (c ∷ []) = if within 51 57 c then c - 48 else 0
+descriptor (c ∷ d ∷ t) = 0
+
+-- a property's format, or 0 for anything else
+unfoldable pub formatOf : List ℕ → ℕ
+formatOf a =
+    if same a (ascii "8") then 8 else
+    if same a (ascii "16") then 16 else
+    if same a (ascii "32") then 32 else
+    0
+
+unfoldable pub takes : ℕ → List ℕ → Bool
+takes what a =
+    if eqb what status then not (eqb (descriptor a) 0) else
+    if eqb what format then not (eqb (formatOf a) 0) else
+    true
+
+-- ---- Options
+
+-- it begins with `-` and has more
+unfoldable pub isOption : List ℕ → Bool
+isOption [] = false
+isOption (c ∷ []) = false
+isOption (c ∷ d ∷ t) = eqb c 45
+
+-- what follows an option of a chain
+unfoldable pub chainOption : List ℕ → ℕ
+chainOption a =
+    if same a (ascii "--default") then anything else
+    if same a (ascii "--property") then property else
+    if same a (ascii "--property-format") then format else
+    if same a (ascii "--xresources") then xresources else
+    if same a (ascii "--xdefaults") then xdefaults else
+    if same a (ascii "--xenvironment") then xenvironment else
+    if same a (ascii "--host") then host else
+    unknown
+
+-- what follows an option
+unfoldable pub optionOf : List ℕ → ℕ
+optionOf a =
+    if same a (ascii "--file") then file else
+    if same a (ascii "--without") then without else
+    if same a (ascii "--status-fd") then status else
+    if same a (ascii "--help") then help else
+    if same a (ascii "--") then operand else
+    chainOption a

@@ -1,0 +1,2 @@
+-- Laws of a start-up.
+pub mod Starting

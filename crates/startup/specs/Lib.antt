@@ -1,0 +1,2 @@
+-- What the contracts of a start-up cite beside the definition.
+pub mod Lending

@@ -1,0 +1,2 @@
+-- Laws of a chain's steps.
+pub mod Lines

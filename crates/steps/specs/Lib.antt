@@ -1,0 +1,2 @@
+-- What the contracts of a chain's steps cite.
+pub mod Steps

@@ -1,0 +1,2 @@
+-- What the contracts of the tallies cite.
+pub mod Counting
