@@ -2,16 +2,17 @@
 use mathlib.Core.Bool.{true, false}
 use mathlib.Core.List.{List, [], _∷_, map}
 use mathlib.Core.Path.{_≡_, refl, sym, _∙_}
-use Prim.Native.Nat.{ℕ, zero, suc, _+_, _≤_, _<_}
+use Prim.Native.Nat.{ℕ, suc, _+_, _≤_, _<_}
 use native.Mathlib.Omega.{arith}
-use lib.ListN.{length, drop, getD}
+use lib.ListN.{length, drop, getD, drop-of-length-le}
+use lib.Seq.{drop-cons}
 use borrow.Author.Tests.{lt-ltb, le-ltb}
 use Rattle.definition.specs.Lists.{any}
 use Rattle.definition.specs.Limits.{textBytes, deepest, contentsWords, bodyBytes}
 use Rattle.definition.specs.Archive.{filesOf}
-use Rattle.definition.specs.Including.{events, eventsOfAll}
+use Rattle.definition.specs.Including.{Event, events, eventsOfAll}
 use Rattle.definition.specs.Reading.{tooLong, met}
-use Rattle.image.specs.Running.{world, begun, Room, went, andThen, run, answered}
+use Rattle.image.specs.Running.{world, begun, Room, andThen, run, answered}
 use Rattle.image.specs.declared.Totals.{Totals}
 use Rattle.image.specs.declared.Step.the-variants.{Go, Stop}
 use Rattle.image.proofs.Runs.{run-append, run-room}
@@ -24,18 +25,10 @@ module _ {D : Type 0} (now : D → List ℕ) where
   from i ds = map now (drop i ds)
 
   from-next : (ds : List D) (i : ℕ) (d : D) → i < length ds → from i ds ≡ now (getD ds i d) ∷ from (i + 1) ds
-  from-next ds i d h = let e : i + 1 ≡ suc i = omega arith in rw e (at ds i h)
-    where
-      at : (ds : List D) (i : ℕ) → i < length ds → from i ds ≡ now (getD ds i d) ∷ from (suc i) ds
-      at [] i h = absurd (omega arith)
-      at (x ∷ ds) zero h = refl
-      at (x ∷ ds) (suc i) h = at ds i (omega (arith, h))
+  from-next ds i d h = let e : i + 1 ≡ suc i = omega arith in rw (e, drop-cons ds i d h) refl
 
   from-end : (ds : List D) (i : ℕ) → length ds ≤ i → from i ds ≡ []
-  from-end [] zero h = refl
-  from-end [] (suc i) h = refl
-  from-end (x ∷ ds) zero h = absurd (omega arith)
-  from-end (x ∷ ds) (suc i) h = from-end ds i (omega (arith, h))
+  from-end ds i h = rw (drop-of-length-le ds h) refl
 
   -- ---- Their lengths
 
@@ -74,7 +67,7 @@ module _ {D : Type 0} (now : D → List ℕ) where
     reading-done h = sym (r .same ∙ rw (from-end ds i h) refl)
 
     module _ (d : D) (h : i < length ds) where
-      abbrev here : List Rattle.definition.specs.Including.Event
+      abbrev here : List Event
       here = textEvents deepest (filesOf archive) [] [] (now (getD ds i d))
 
       next : run (world s c b) (met (from i ds) archive) ≡ andThen (run (world s c b) here) (λ v. run v (met (from (i + 1) ds) archive))
