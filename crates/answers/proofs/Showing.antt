@@ -1,28 +1,25 @@
 -- What getres shows is what the definition answers. Assumes nothing.
 use mathlib.Core.Bool.{Bool, true, false}
 use mathlib.Core.List.{List, []}
-use mathlib.Core.Option.{Option, some, none}
+use mathlib.Core.Option.{Option, none}
 use mathlib.Core.Path.{_≡_, refl, sym, ap, _∙_}
-use Prim.Native.Nat.{ℕ, _+_, _-_, _≤_, _<_}
+use Prim.Native.Nat.{ℕ, _-_}
 use native.Mathlib.Omega.{arith}
-use lib.ListN.{length, take, drop}
-use lib.Seq.{slice}
-use Rattle.definition.specs.Lists.{same}
+use lib.ListN.{length}
 use Rattle.definition.specs.Image.{isImage}
 use Rattle.definition.specs.Text.{Entry}
 use Rattle.definition.specs.Evaluation.{definition}
 use Rattle.definition.specs.Query.{Query, positions, malformed, pastLimit, queryOf}
 use Rattle.definition.specs.Reading.{Answer, accepted, refused as refusedReading, Outcome, outcome, reading, plain, readEntries}
-use Rattle.definition.specs.Lookup.{Reply, given, noValue as noReply, refused, Place, getBytes, answerIn, answerOf}
-use Rattle.definition.specs.ThirdTerm.{Case, withFile, withoutFile, lookup}
-use Rattle.laws.proofs.Lists.{not-both, both-ways, same-eq, eq-same, part-slice}
+use Rattle.definition.specs.Lookup.{refused, getBytes, answerIn, answerOf}
+use Rattle.definition.specs.ThirdTerm.{lookup}
 use Rattle.laws.proofs.Reading.{Reads, accepted-reads}
 use Rattle.laws.proofs.ThirdTerm.{reading-answers, reading-replies}
 use Rattle.lookup.specs.declared.Lookup.{Lookup}
 use Rattle.lookup.specs.declared.Lookup.the-variants.{Found, Nothing, Refused}
 use Rattle.lookup.specs.Replies.{replied, LiesIn}
 use Rattle.lookup.proofs.Looking.{no-image, past, found-inside}
-use Rattle.reports.specs.Showing.{Shown, value, noValue, refusedBy, shownOf}
+use Rattle.showing.specs.Showing.{refusedBy, shownOf}
 use Rattle.answers.specs.Answering.{ofBytes, ofQuery, ofReading, afterReading, LooksUp, answerShown}
 
 -- ---- A lookup's answer

@@ -6,7 +6,7 @@ use Rattle.definition.specs.Lists.{zeroes}
 use Rattle.definition.specs.Limits.{contentsWords, bodyBytes}
 use Rattle.lookup.specs.declared.Lookup.{Lookup}
 use Rattle.reports.specs.declared.Report.{Report}
-use Rattle.reports.specs.Showing.{shownOf}
+use Rattle.showing.specs.Showing.{shownOf}
 use Rattle.reports.specs.Telling.{told, Reports}
 use Rattle.reports.proofs.Telling.{reports-of}
 use Rattle.answers.specs.Answering.{LooksUp, answerTold}

@@ -11,7 +11,7 @@ use Rattle.definition.specs.Reading.{Answer, accepted, refused, reading, plain,
 use Rattle.definition.specs.Lookup.{Reply, refused as refusedLookup, Place, getBytes, answerOf}
 use Rattle.lookup.specs.declared.Lookup.{Lookup}
 use Rattle.lookup.specs.Replies.{replied}
-use Rattle.reports.specs.Showing.{Shown, value, noValue, refusedBy}
+use Rattle.showing.specs.Showing.{Shown, value, noValue, refusedBy}
 use Rattle.reports.specs.Telling.{Told, told}
 
 -- ---- Texts read, and the query looked up in them

@@ -14,7 +14,7 @@ use Rattle.comparison.specs.declared.Compared.the-variants as comparison
 use Rattle.compare.specs.Comparing.{Left, asked, comparing, leaving}
 use Rattle.compare.proofs.Comparing.{answered-both}
 use Rattle.reports.specs.declared.Report.{Report}
-use Rattle.reports.specs.Showing.{shownOf}
+use Rattle.showing.specs.Showing.{shownOf}
 use Rattle.reports.specs.Telling.{refused, bothTold, notAmong, Reports}
 use Rattle.reports.proofs.Telling.{reports-of}
 use Rattle.answers.proofs.Showing.{inside-of}

@@ -5,7 +5,7 @@ use Rattle.definition.specs.Lists.{zeroes}
 use Rattle.definition.specs.Limits.{archiveBytes, contentsWords, bodyBytes}
 use Rattle.comparison.specs.Answering.{Comparison, both, noFile, refusedBy as refusedCall}
 use Rattle.compare.specs.Comparing.{Left, asked, comparing}
-use Rattle.reports.specs.Showing.{shownIn}
+use Rattle.showing.specs.Showing.{shownIn}
 use Rattle.reports.specs.Telling.{Told, refused, bothTold, notAmong}
 
 -- what the comparing call answers and leaves, told of a file's name

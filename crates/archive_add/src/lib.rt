@@ -16,10 +16,10 @@ use archive_slot::slot_for;
 use archive_write::copy_part;
 use archive_write::put_lengths;
 use archive_write::put_word;
+use copies::copy_in;
 use file_names::is_file_name;
 use limits::ARCHIVE_BYTES;
 use limits::ARCHIVE_FILES;
-use scan::copy_in;
 
 // What became of a file that was to be added: the archive with it has so many bytes, or why there is none. It is too large if
 // it passes an archive's limit or the bytes lent for it.

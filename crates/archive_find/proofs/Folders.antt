@@ -5,14 +5,17 @@ use mathlib.Core.Path.{_≡_, refl, sym, ap, _∙_}
 use Prim.Native.Nat.{ℕ, zero, suc, _+_, _-_, _≤_, _<_}
 use native.Mathlib.Omega.{arith}
 use lib.Dec.{eqb}
-use lib.ListN.{length, take, drop, getD, length-append, length-drop, List·getD-append}
-use lib.Seq.{getD-drop, getD-take, getD-append-seam, drop-cons, length-take-le}
+use lib.ListN.{length, take, drop, getD, length-append, length-drop, drop-of-length-le, List·getD-append}
+use lib.Seq.{getD-drop, getD-take, getD-append-seam, drop-cons, drop-length, length-take-le}
 use borrow.Author.Tests.{eq-eqb, ne-eqb, eqb-true, eqb-false}
 use Rattle.definition.specs.Lists.{if_then_else_, any, isEmpty, same}
 use Rattle.definition.specs.Bytes.{slash}
 use Rattle.definition.specs.Archive.{folderOf}
-use Rattle.laws.proofs.Lists.{not-both, any-getD, same-from-equal, same-from-other, same-from-end}
+use Rattle.laws.proofs.Lists.{not-both, any-getD, same-eq, eq-same, same-from-equal, same-from-other, same-from-end}
 use Rattle.archive_find.specs.Finding.{stem}
+
+next-is : (i : ℕ) → 0 < i → suc (i - 1) ≡ i
+next-is i h = omega arith
 
 -- ---- The folder of a name
 
@@ -38,19 +41,23 @@ folder-at (c ∷ t) (suc i) h e k =
     rw (any-getD (eqb slash) t i 0 (omega arith) (eq-eqb slash (getD t i 0) (sym e)), folder-at t i (omega arith) e k) refl
 
 module _ (n : List ℕ) (i : ℕ) (h : 0 < i) (k : i ≤ length n) (none-after : any (eqb slash) (drop i n) ≡ false) where
-  next-is : suc (i - 1) ≡ i
-  next-is = omega arith
-
   pub folder-here : getD n (i - 1) 0 ≡ slash → folderOf n ≡ take (i - 1) n
-  folder-here e = folder-at n (i - 1) (omega arith) e (rw next-is none-after)
+  folder-here e = folder-at n (i - 1) (omega arith) e (rw (next-is i h) none-after)
 
   pub folder-back : (getD n (i - 1) 0 ≡ slash → ⊥) → any (eqb slash) (drop (i - 1) n) ≡ false
   folder-back e =
       let l : i - 1 < length n = omega arith in
-      rw (drop-cons n (i - 1) 0 l, any-cons (getD n (i - 1) 0) (drop (suc (i - 1)) n) (λ q. e (sym q)), next-is) none-after
+      rw (drop-cons n (i - 1) 0 l, any-cons (getD n (i - 1) 0) (drop (suc (i - 1)) n) (λ q. e (sym q)), next-is i h) none-after
 
 -- ---- What stands at a place, compared with k
 
+long : (s k : List ℕ) (at : ℕ) → at + length k ≤ length s → length (take (length k) (drop at s)) ≡ length k
+long s k at h = length-take-le (length k) (drop at s) (rw length-drop (omega arith))
+
+byte : (s k : List ℕ) (at i : ℕ) → i < length k → getD (take (length k) (drop at s)) i 0 ≡ getD s (at + i) 0
+byte s k at i h = getD-take (length k) (drop at s) i 0 h ∙ getD-drop at s i 0
+
+-- from its start
 pub record Agreeing (s k : List ℕ) (at i : ℕ) : Type 0 where
   pub i-most : i ≤ length k
   pub inside : at + length k ≤ length s
@@ -60,24 +67,56 @@ pub agreeing-first : (s k : List ℕ) (at : ℕ) → at + length k ≤ length s 
 agreeing-first s k at h = record { i-most = omega arith; inside = h; so-far = refl }
 
 module _ {s k : List ℕ} {at i : ℕ} (m : Agreeing s k at i) where
-  long : length (take (length k) (drop at s)) ≡ length k
-  long = length-take-le (length k) (drop at s) (rw length-drop (omega (arith, m .inside)))
-
   pub agreeing-all : length k ≤ i → same (take (length k) (drop at s)) k ≡ true
-  agreeing-all h = m .so-far ∙ same-from-end (take (length k) (drop at s)) k i (omega (arith, long)) h
+  agreeing-all h = m .so-far ∙ same-from-end (take (length k) (drop at s)) k i (omega (arith, long s k at (m .inside))) h
 
   module _ (h : i < length k) where
-    byte : getD (take (length k) (drop at s)) i 0 ≡ getD s (at + i) 0
-    byte = getD-take (length k) (drop at s) i 0 h ∙ getD-drop at s i 0
-
     pub agreeing-off : (getD s (at + i) 0 ≡ getD k i 0 → ⊥) → same (take (length k) (drop at s)) k ≡ false
-    agreeing-off f = m .so-far ∙ same-from-other (take (length k) (drop at s)) k i (omega (arith, long)) h (λ q. f (sym byte ∙ q))
+    agreeing-off f = m .so-far ∙ same-from-other (take (length k) (drop at s)) k i (omega (arith, long s k at (m .inside))) h (λ q. f (sym (byte s k at i h) ∙ q))
 
     pub agreeing-on : getD s (at + i) 0 ≡ getD k i 0 → Agreeing s k at (i + 1)
     agreeing-on e = record {
       i-most = omega arith;
       inside = m .inside;
-      so-far = m .so-far ∙ same-from-equal (take (length k) (drop at s)) k i (omega (arith, long)) h (byte ∙ e);
+      so-far = m .so-far ∙ same-from-equal (take (length k) (drop at s)) k i (omega (arith, long s k at (m .inside))) h (byte s k at i h ∙ e);
+    }
+
+-- from its end
+pub record Ending (s k : List ℕ) (at i : ℕ) : Type 0 where
+  pub i-most : i ≤ length k
+  pub inside : at + length k ≤ length s
+  pub so-far : drop i (take (length k) (drop at s)) ≡ drop i k
+
+pub ending-first : (s k : List ℕ) (at : ℕ) → at + length k ≤ length s → Ending s k at (length k)
+ending-first s k at h = record {
+  i-most = omega arith;
+  inside = h;
+  so-far = drop-of-length-le (take (length k) (drop at s)) {i = length k} (omega (arith, long s k at h)) ∙ sym (drop-length k);
+}
+
+module _ {s k : List ℕ} {at i : ℕ} (m : Ending s k at i) where
+  pub ending-all : i ≤ 0 → same (take (length k) (drop at s)) k ≡ true
+  ending-all h = let z : i ≡ 0 = omega arith in eq-same (take (length k) (drop at s)) k (rw z at (m .so-far))
+
+  module _ (h : 0 < i) where
+    there : getD (take (length k) (drop at s)) (i - 1) 0 ≡ getD s (at + (i - 1)) 0
+    there = byte s k at (i - 1) (omega arith)
+
+    pub ending-off : (getD s (at + (i - 1)) 0 ≡ getD k (i - 1) 0 → ⊥) → same (take (length k) (drop at s)) k ≡ false
+    ending-off f = at-off (same (take (length k) (drop at s)) k) refl
+      where
+        at-off : (b : Bool) → same (take (length k) (drop at s)) k ≡ b → b ≡ false
+        at-off true e = absurd (f (sym there ∙ ap (λ l. getD l (i - 1) 0) (same-eq (take (length k) (drop at s)) k e)))
+        at-off false e = refl
+
+    pub ending-on : getD s (at + (i - 1)) 0 ≡ getD k (i - 1) 0 → Ending s k at (i - 1)
+    ending-on e = record {
+      i-most = omega arith;
+      inside = m .inside;
+      so-far =
+          let l : i - 1 < length k = omega arith in
+          rw (drop-cons (take (length k) (drop at s)) (i - 1) 0 (omega (arith, long s k at (m .inside))), drop-cons k (i - 1) 0 l, there ∙ e, next-is i h, m .so-far)
+          refl;
     }
 
 -- ---- A folder and its `/`

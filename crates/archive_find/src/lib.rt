@@ -60,7 +60,8 @@ fn in_folder(archive: &[u8], at: usize, folder: &[u8]) -> bool
     archive[at + i] == b'/'
 }
 
-// The file that an include of `name` from `folder` looks for. The name is compared before the folder, which the rows near by share.
+// The file that an include of `name` from `folder` looks for. The name is compared before the folder, and from its end on: what
+// stands first is what rows near by share.
 pub fn find(archive: &[u8], folder: &[u8], name: &[u8]) -> Found
     requires { ⌜ laidOut (now archive) ≡ true ⌝ }
     ensures { λ r. ⌜ r ≡ findIn (now (archive .entry)) (pathOf (now (folder .entry)) (now (name .entry))) ⌝ }
@@ -80,12 +81,12 @@ pub fn find(archive: &[u8], folder: &[u8], name: &[u8]) -> Found
             continue 'rows;
         }
         let own = start + before;
-        let mut i = 0;
-        'bytes: while i < name.len() {
+        let mut i = name.len();
+        'bytes: while 0 < i {
+            i -= 1;
             if archive[own + i] != name[i] {
                 continue 'rows;
             }
-            i += 1;
         }
         if !in_folder(archive, start, folder) {
             continue 'rows;

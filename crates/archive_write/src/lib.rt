@@ -5,7 +5,7 @@ ghost use Prim.Native.Nat.{_+_, _-_, _≤_, _<_};
 ghost use lib.ListN.{length, take, drop};
 ghost use lib.Seq.{paste};
 ghost use Rattle.definition.specs.Archive.{bytesOf};
-use scan::copy_in;
+use copies::copy_in;
 
 // Puts a number in two bytes, low byte first.
 pub fn put_word(n: usize, out: &mut [u8], at: usize)

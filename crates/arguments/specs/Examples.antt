@@ -6,7 +6,8 @@ use Prim.Native.Nat.{ℕ}
 use Rattle.definition.specs.Lists.{ascii}
 use Rattle.definition.specs.Evaluation.{definition}
 use Rattle.options.specs.Options.{anything, operand, descriptor, formatOf, takes, isOption, chainOption, optionOf}
-use Rattle.arguments.specs.Planning.{plan, planOf, planFrom, withArgument, withOption, withValue, once, givenFor, withOperand, misunderstood, inChain, settled, isWhole}
+use Rattle.plans.specs.Plans.{plan, once, givenFor, misunderstood, inChain, settled, isWhole}
+use Rattle.arguments.specs.Planning.{planOf, planFrom, withArgument, withOption, withValue, withOperand}
 
 -- text, name, class, --without, --status-fd; a chain's are none
 plainly : ℕ → ℕ → ℕ → ℕ → ℕ → List ℕ

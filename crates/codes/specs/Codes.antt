@@ -1,9 +1,11 @@
 -- Answers as numbers of 64 bits: a status in the low 16 bits, 0 or document 01's number or one of two more, and what goes with 0 above it.
 use mathlib.Core.Bool.{Bool, true, false}
 use Prim.Native.Nat.{ℕ, _+_, _*_, _≤_}
+use lib.IntN.{ℤ}
 use Rattle.definition.specs.Limits.{bodyBytes, mostEntries, mostOpens}
 use Rattle.definition.specs.Reading.{Answer, accepted, refused}
 use Rattle.definition.specs.Lookup.{Reply, given, noValue, refused as refusedBy, Place}
+use Rattle.definition.specs.Value.{Number, number, notANumber}
 use Rattle.comparison.specs.Answering.{Comparison, both, noFile, refusedBy as refusedAs}
 use Rattle.comparison.specs.declared.Compared.{Compared}
 use Rattle.comparison.specs.declared.Compared.the-variants.{Both, NoFile, Refused}
@@ -56,6 +58,21 @@ boolCode (given true) = from16
 boolCode (given false) = 0
 boolCode noValue = noneCode
 boolCode (refusedBy k) = k
+
+-- a call's number, and the lent number afterwards
+pub record Taking : Type 0 where
+  pub code : ℕ
+  pub out : ℤ
+
+abbrev pub taking : ℕ → ℤ → Taking
+taking n z = record { code = n; out = z }
+
+-- the number with 0; 65534 if not a number; only a number changes what is lent
+abbrev pub taken : Reply Number → ℤ → Taking
+taken (given (number z)) lent = taking 0 z
+taken (given notANumber) lent = taking notANumberCode lent
+taken noValue lent = taking noneCode lent
+taken (refusedBy k) lent = taking k lent
 
 -- ---- Comparisons
 

@@ -3,12 +3,13 @@ ghost use mathlib.Core.Path.{_≡_};
 ghost use Rattle.comparison.specs.Answering.{compared};
 ghost use Rattle.lookup.specs.Replies.{replied};
 ghost use Rattle.reader.specs.Said.{said};
-ghost use Rattle.readings.specs.Replies.{truthReplied};
-ghost use Rattle.codes.specs.Codes.{readCode, Few, placeCode, Small, boolCode, SmallBoth, numbers, comparisonNumbers};
+ghost use Rattle.readings.specs.Replies.{truthReplied, valueReplied};
+ghost use Rattle.codes.specs.Codes.{readCode, Few, placeCode, Small, boolCode, taking, taken, SmallBoth, numbers, comparisonNumbers};
 use comparison::Compared;
 use lookup::Lookup;
 use reader::Answer;
 use readings::Truth;
+use readings::Value;
 
 // The parts of an answer above its status, from bit 16 on and from bit 32 on.
 pub const FROM_16: u64 = 65536;
@@ -56,6 +57,21 @@ pub fn bool_code(truth: Truth) -> u64
         }
         Truth::Nothing => NONE,
         Truth::Refused(number) => number as u64,
+    }
+}
+
+// 0 with the number in `out`; a status if the value is not a number or there is none, or the number of the refusal, with `out` as it was.
+pub fn value_code(value: Value, out: &mut i64) -> u64
+    ensures { λ r. ⌜ taking r (now (out .exit)) ≡ taken (valueReplied value) (now (out .entry)) ⌝ }
+{
+    match value {
+        Value::Is(number) => {
+            *out = number;
+            0
+        }
+        Value::NotANumber => NOT_A_NUMBER,
+        Value::Nothing => NONE,
+        Value::Refused(number) => number as u64,
     }
 }
 

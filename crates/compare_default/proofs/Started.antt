@@ -6,7 +6,7 @@ use Rattle.definition.specs.Archive.{struckOff}
 use Rattle.definition.specs.Reading.{Answer, accepted, refused, reading}
 use Rattle.definition.specs.StartUp.{StartUp, firstText, secondText, textsUsed}
 use Rattle.definition.specs.ThirdTerm.{Case}
-use Rattle.startup.specs.Lending.{orEmpty}
+use Rattle.sources.specs.Lending.{orEmpty}
 use Rattle.startup.proofs.Starting.{reads-start}
 use Rattle.compare.specs.Comparing.{Left, afterFirst, comparing, Promise, asked}
 use Rattle.compare.proofs.Comparing.{promised}

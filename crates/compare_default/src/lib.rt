@@ -1,11 +1,11 @@
 // The comparing call of a start-up: one query, asked with a file on the archive and with it struck off.
 ghost use Rattle.definition.specs.StartUp.{textsUsed};
-ghost use Rattle.startup.specs.Lending.{lending, startUp};
+ghost use Rattle.sources.specs.Lending.{lending, startUp};
 ghost use Rattle.compare.specs.Comparing.{asked, leaving, Promise};
 use compare::compare_without;
 use comparison::Compared;
-use startup::first_text;
-use startup::second_text;
+use sources::first_text;
+use sources::second_text;
 
 // Reads what a reader starts with, document 02 (i), with the archive and again with one file struck off (files are counted from 0), and
 // looks the query up in both. `struck` is room for the archive without the file.

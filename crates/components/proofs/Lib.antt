@@ -3,6 +3,7 @@ mod Bindings
 mod Names
 mod Parts
 mod Turns
+mod Verbatim
 mod Counting
 mod Writing
 pub mod Rests

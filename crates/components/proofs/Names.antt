@@ -1,18 +1,20 @@
 -- What `next_component_name` finds. Assumes nothing.
-use mathlib.Core.Bool.{true, false}
+use mathlib.Core.Bool.{Bool, true, false}
 use mathlib.Core.List.{List, [], _∷_}
-use mathlib.Core.Path.{_≡_, refl, ap, _∙_}
-use Prim.Native.Nat.{ℕ, _+_, _-_, _<_}
-use native.Mathlib.Numerals.{one-add}
+use mathlib.Core.Path.{_≡_, refl, sym, ap, _∙_}
+use Prim.Native.Nat.{ℕ, _<_}
 use native.Mathlib.Omega.{arith}
-use lib.ListN.{length, getD, take, drop}
-use borrow.Author.Tests.{eq-eqb, ne-eqb}
-use Rattle.definition.specs.Lists.{takeWhile, dropWhile}
+use lib.Dec.{eqb}
+use lib.ListN.{length, take, drop}
+use borrow.Author.Tests.{eq-eqb, ne-eqb, eqb-true}
+use Rattle.definition.specs.Lists.{if_then_else_, takeWhile, dropWhile}
 use Rattle.definition.specs.Parsing.{nothing}
-use Rattle.definition.specs.Bytes.{question, isName}
+use Rattle.definition.specs.Bytes.{question, isDigit, isName}
 use Rattle.definition.specs.Text.{Binding, componentAt}
-use Rattle.laws.proofs.Lists.{part-rest, take-run, drop-run, length-takeWhile-le}
+use Rattle.laws.proofs.Lists.{not-both, take-run, drop-run, length-takeWhile-le}
+use Rattle.scan.specs.Scanned.{startsWith}
 use Rattle.components.specs.Parts.{componentIf, Begun}
+use Rattle.components.proofs.Bindings.{eqb-sym}
 
 no-component : (t : List ℕ) → ((b : Binding) → componentAt b t ≡ nothing) → Begun t (record { named = false; len = 0 })
 no-component t e = record {
@@ -22,38 +24,50 @@ no-component t e = record {
   inside = omega arith;
 }
 
-pub nothing-there : (t : List ℕ) → length t ≡ 0 → Begun t (record { named = false; len = 0 })
-unfolding componentAt
-nothing-there [] h = no-component [] (λ b. refl)
-nothing-there (c ∷ t) h = absurd (omega arith)
+-- no `?` and no name
+pub no-name : (t : List ℕ) → length (takeWhile isName t) ≡ 0 → startsWith (question ∷ []) t ≡ false → Begun t (record { named = false; len = 0 })
+unfolding componentAt takeWhile startsWith
+no-name [] h e = no-component [] (λ b. refl)
+no-name (c ∷ t) h e = name (isName c) refl h
+  where
+    wild : (x : Bool) → eqb question c ≡ x → (if x then true else false) ≡ false → eqb c question ≡ false
+    wild true f g = absurd (not-both refl g)
+    wild false f g = eqb-sym c question ∙ f
 
-pub no-name : (t : List ℕ) → 0 < length t → (getD t 0 0 ≡ question → ⊥) → isName (getD t 0 0) ≡ false
-    → Begun t (record { named = false; len = 0 })
-unfolding componentAt
-no-name [] h e k = absurd (omega arith)
-no-name (c ∷ t) h e k = no-component (c ∷ t) (λ b. rw (ne-eqb c question e, k) refl)
+    name : (x : Bool) → isName c ≡ x → length (if x then c ∷ takeWhile isName t else []) ≡ 0 → Begun (c ∷ t) (record { named = false; len = 0 })
+    name true f g = absurd (omega arith)
+    name false f g = no-component (c ∷ t) (λ b. rw (wild (eqb question c) refl e, f) refl)
 
-pub wild : (t : List ℕ) → 0 < length t → getD t 0 0 ≡ question → Begun t (record { named = false; len = 1 })
-unfolding componentAt componentIf
-wild [] h e = absurd (omega arith)
-wild (c ∷ t) h e = record {
-  none = λ k. absurd (omega arith);
-  some = λ k b. rw (eq-eqb c question e) refl;
-  bytes = λ k. rw e refl;
-  inside = omega arith;
-}
+pub wild : (t : List ℕ) → startsWith (question ∷ []) t ≡ true → Begun t (record { named = false; len = 1 })
+unfolding componentAt componentIf startsWith
+wild [] e = absurd (not-both e refl)
+wild (c ∷ t) e = at (eqb question c) refl e
+  where
+    at : (x : Bool) → eqb question c ≡ x → (if x then true else false) ≡ true → Begun (c ∷ t) (record { named = false; len = 1 })
+    at false f g = absurd (not-both g refl)
+    at true f g =
+        let is : c ≡ question = sym (eqb-true question c f) in
+        record {
+          none = λ k. absurd (omega arith);
+          some = λ k b. rw (eq-eqb c question is) refl;
+          bytes = λ k. rw is refl;
+          inside = omega arith;
+        }
 
-pub name-there : (t : List ℕ) → 0 < length t → (getD t 0 0 ≡ question → ⊥) → isName (getD t 0 0) ≡ true
-    → (n : ℕ) → n ≡ length (takeWhile isName (take (length t - 1) (drop 1 t))) → Begun t (record { named = true; len = 1 + n })
-unfolding componentAt componentIf
-name-there [] h e k n g = absurd (omega arith)
-name-there (c ∷ t) h e k n g =
-    let m : n ≡ length (takeWhile isName t) = g ∙ ap (λ (l : List ℕ). length (takeWhile isName l)) (part-rest (c ∷ t) 1) in
-    let taken : take n t ≡ takeWhile isName t = ap (λ (i : ℕ). take i t) m ∙ take-run isName t in
-    let left : drop n t ≡ dropWhile isName t = ap (λ (i : ℕ). drop i t) m ∙ drop-run isName t in
-    record {
-      none = λ q. absurd (omega arith);
-      some = λ q b. rw (ne-eqb c question e, k, one-add, ← taken, ← left) refl;
-      bytes = λ q. refl;
-      inside = omega (arith, m, length-takeWhile-le isName t);
-    }
+pub name-there : (t : List ℕ) (n : ℕ) → n ≡ length (takeWhile isName t) → 0 < n → Begun t (record { named = true; len = n })
+unfolding componentAt componentIf takeWhile
+name-there [] n g h = absurd (omega arith)
+name-there (c ∷ t) n g h = at (isName c) refl g
+  where
+    at : (x : Bool) → isName c ≡ x → n ≡ length (if x then c ∷ takeWhile isName t else []) → Begun (c ∷ t) (record { named = true; len = n })
+    at false f k = absurd (omega arith)
+    at true f k =
+        let whole : takeWhile isName (c ∷ t) ≡ c ∷ takeWhile isName t = rw f refl in
+        let taken : take n (c ∷ t) ≡ c ∷ takeWhile isName t = ap (λ (i : ℕ). take i (c ∷ t)) g ∙ take-run isName (c ∷ t) ∙ whole in
+        let left : drop n (c ∷ t) ≡ dropWhile isName t = ap (λ (i : ℕ). drop i (c ∷ t)) g ∙ drop-run isName (c ∷ t) ∙ unfold dropWhile in rw f refl in
+        record {
+          none = λ q. absurd (omega arith);
+          some = λ q b. rw (ne-eqb c question (λ e. not-both f (ap isName e ∙ unfold isName isDigit in refl)), f, taken, left) refl;
+          bytes = λ q. refl;
+          inside = omega (arith, g, length-takeWhile-le isName (c ∷ t));
+        }

@@ -34,6 +34,8 @@ module _ (t : List ℕ) (r : Run) (b : Bound t r) where
     parted =
         let e : r .len + f .len - r .len ≡ f .len = omega arith in
         record {
+          loose = b .loose;
+          bindings = b .len;
           none = λ h. part-split ∙ begun .none (omega arith) (bindingIf (r .loose));
           some = λ h. part-split ∙ begun .some (omega arith) (bindingIf (r .loose)) ∙ rw (drop-drop, e) refl;
           bytes = λ h. rw e (begun .bytes (omega arith));

@@ -6,7 +6,7 @@ use native.Mathlib.Omega.{arith}
 use lib.ListN.{length, set, length-append, length-set}
 use lib.Seq.{paste, paste-zero, length-paste}
 use Rattle.definition.specs.Image.{bindingByte}
-use Rattle.laws.proofs.Lists.{paste-cons}
+use Rattle.laws.proofs.Lists.{paste-one, paste-append, paste-cons}
 use Rattle.components.specs.Parts.{keyFirst, bindingIf, componentText, Parted}
 use Rattle.components.specs.declared.Next.{Next}
 use Rattle.components.proofs.Turns.{past, key-over, key-turn, bytes-length}
@@ -63,3 +63,7 @@ module _ {t d₀ : List ℕ} {at₀ : ℕ} {u d : List ℕ} {at : ℕ} (w : Writ
           fits = omega (arith, part-room, long);
           long = long ∙ w .long;
         }
+
+-- a byte, and what follows it
+pub pasted-cons : (d : List ℕ) (at b : ℕ) (xs : List ℕ) → at + (1 + length xs) ≤ length d → pasted (set d at b) (at + 1) xs ≡ pasted d at (b ∷ xs)
+pasted-cons d at b xs h = ap (λ (l : List ℕ). pasted l (at + 1) xs) (paste-one d at b (omega arith)) ∙ sym (paste-append d at (b ∷ []) xs (omega arith))

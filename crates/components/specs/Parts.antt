@@ -1,13 +1,13 @@
 -- What an answer of the code says of a text.
-use mathlib.Core.Bool.{Bool}
-use mathlib.Core.List.{List}
+use mathlib.Core.Bool.{Bool, _||_}
+use mathlib.Core.List.{List, [], _∷_, _++_}
 use mathlib.Core.Path.{_≡_}
 use Prim.Native.Nat.{ℕ, _-_, _≤_, _<_}
 use lib.Dec.{eqb}
 use lib.ListN.{length, take, drop}
-use Rattle.definition.specs.Lists.{if_then_else_, any, takeWhile}
+use Rattle.definition.specs.Lists.{if_then_else_, any, takeWhile, isEmpty, same}
 use Rattle.definition.specs.Parsing.{nothing, found, many}
-use Rattle.definition.specs.Bytes.{star, isBinding}
+use Rattle.definition.specs.Bytes.{dot, star, isBinding}
 use Rattle.definition.specs.Text.{Binding, tight, loose, Component, wildcard, name, Part, componentAt, partAt, endsInName}
 use Rattle.definition.specs.Image.{componentBytes, keyOf}
 use Rattle.components.specs.declared.Run.{Run}
@@ -44,6 +44,8 @@ partOf t r = record { binding = bindingIf (r .loose); component = componentIf (r
 
 -- the part at the front of t
 pub record Parted (t : List ℕ) (r : Next) : Type 0 where
+  pub loose : r .loose ≡ any (eqb star) (takeWhile isBinding t)
+  pub bindings : r .start ≡ length (takeWhile isBinding t)
   pub none : r .end ≤ r .start → partAt t ≡ nothing
   pub some : r .start < r .end → partAt t ≡ found (partOf t r) (drop (r .end) t)
   pub bytes : r .start < r .end → componentBytes (partOf t r .component) ≡ componentText t r
@@ -56,6 +58,15 @@ partsOf t = many partAt t .items
 abbrev pub keyFirst : List ℕ → List ℕ
 keyFirst t = keyOf (partsOf t)
 
+-- a text as its key would have it, with a binding first: without one a part is tight
+unfoldable pub boundFirst : List ℕ → List ℕ
+boundFirst [] = []
+boundFirst (c ∷ t) = if isBinding c then c ∷ t else dot ∷ c ∷ t
+
+-- is the key the text itself? One binding stands before each part, or none before the first
+unfoldable pub isVerbatim : List ℕ → Bool
+isVerbatim t = isEmpty (partsOf t) || same (keyFirst t ++ many partAt t .rest) (boundFirst t)
+
 -- what the code answers of them
 unfoldable pub componentsAt : List ℕ → Components
 componentsAt t = record {
@@ -63,4 +74,5 @@ componentsAt t = record {
   size = length (keyFirst t);
   named = endsInName (partsOf t);
   end = length t - length (many partAt t .rest);
+  verbatim = isVerbatim t;
 }

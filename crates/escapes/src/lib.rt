@@ -7,7 +7,9 @@ ghost use lib.ListN.{length, take};
 ghost use Rattle.definition.specs.Lists.{takeWhile};
 ghost use Rattle.definition.specs.Bytes.{isOctal};
 ghost use Rattle.definition.specs.Text.{positional};
+ghost use Rattle.byte_classes.specs.Classes.{byteClasses};
 ghost use Rattle.escapes.specs.Pieces.{escapeIn};
+use byte_classes::is_octal_digit;
 
 // What an escape gives. Its number counts bytes of text from the backslash on.
 pub enum Piece {
@@ -38,18 +40,20 @@ fn octal(a: u8, b: u8, c: u8) -> u8
 }
 
 // How many octal digits the text begins with, three at most.
-fn octal_digits(text: &[u8]) -> usize
+fn octal_digits(classes: &[u8; 256], text: &[u8]) -> usize
+    requires { ⌜ now classes ≡ byteClasses ⌝ }
     ensures { λ r. ⌜ r ≡ length (takeWhile isOctal (take 3 (now (text .entry)))) ⌝ }
 {
     let mut n = 0;
-    while n < 3 && n < text.len() && scan::is_octal_digit(text[n]) {
+    while n < 3 && n < text.len() && is_octal_digit(classes, text[n]) {
         n += 1;
     }
     n
 }
 
 // The escape whose backslash stands before `text`. A backslash that stands for itself is the whole piece: the bytes after it are plain.
-pub fn parse_escape(text: &[u8]) -> Piece
+pub fn parse_escape(classes: &[u8; 256], text: &[u8]) -> Piece
+    requires { ⌜ now classes ≡ byteClasses ⌝ }
     ensures { λ r. ⌜ r ≡ escapeIn (now (text .entry)) ⌝ }
 {
     if text.len() == 0 {
@@ -62,7 +66,7 @@ pub fn parse_escape(text: &[u8]) -> Piece
         b'\n' => return Piece::Drop(2),
         _ => {}
     }
-    let n = octal_digits(text);
+    let n = octal_digits(classes, text);
     if n == 0 {
         return Piece::Byte(b'\\', 1);
     }

@@ -2,7 +2,10 @@
 ghost use mathlib.Core.Path.{_≡_};
 ghost use Rattle.definition.specs.Lists.{lower};
 ghost use Rattle.definition.specs.Archive.{isFileName};
+ghost use Rattle.byte_classes.specs.Classes.{byteClasses};
 ghost use Rattle.file_names.specs.Names.{ended, dotted, lettered, next, passes};
+use byte_classes::allowed_in_quark_name;
+use byte_classes::byte_classes;
 use limits::FILE_NAME_BYTES;
 
 // What a name has since its last `/`.
@@ -76,7 +79,8 @@ fn lettered(part: Part) -> Part
 }
 
 // What one more byte makes of a part.
-fn next(part: Part, c: u8) -> Part
+fn next(classes: &[u8; 256], part: Part, c: u8) -> Part
+    requires { ⌜ now classes ≡ byteClasses ⌝ }
     ensures { λ r. ⌜ r ≡ next part c ⌝ }
 {
     if c == b'/' {
@@ -85,7 +89,7 @@ fn next(part: Part, c: u8) -> Part
     if c == b'.' {
         return dotted(part);
     }
-    if scan::allowed_in_quark_name(c) {
+    if allowed_in_quark_name(classes, c) {
         return lettered(part);
     }
     Part::Bad
@@ -111,10 +115,11 @@ pub fn is_file_name(name: &[u8]) -> bool
     if FILE_NAME_BYTES < name.len() {
         return false;
     }
+    let classes = byte_classes();
     let mut part = Part::Empty;
     let mut i = 0;
     while i < name.len() {
-        part = next(part, name[i]);
+        part = next(&classes, part, name[i]);
         i += 1;
     }
     passes(part)

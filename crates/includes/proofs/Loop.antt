@@ -1,4 +1,5 @@
 -- The loop over a text's lines: what was read so far, and what is left. Assumes nothing.
+use mathlib.Core.Bool.{Bool}
 use mathlib.Core.List.{List, [], _∷_}
 use mathlib.Core.Path.{_≡_, refl, sym, _∙_}
 use Prim.Native.Nat.{ℕ, _+_, _-_, _≤_, _<_}
@@ -97,7 +98,7 @@ module _ {d : ℕ} {fs : List File} {folder t : List ℕ} {w₀ : World} {s : To
 
   -- ---- An entry
 
-  module _ {v count size : ℕ} (l : Enters rest (lineAt rest) v count size) where
+  module _ {v count size : ℕ} {verbatim : Bool} (l : Enters rest (lineAt rest) v count size verbatim) where
     entry-line : lineAt rest ≡ found (entry (entryFrom rest v)) (drop 1 (pieces (drop v rest) .rest))
     unfolding resourceOf
     entry-line = l .is

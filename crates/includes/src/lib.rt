@@ -1,9 +1,9 @@
 // Lines and includes: `parse_data_with_base_directory` and `parse_database` of the Rust. They call each other, and the depths left fall.
 ghost use mathlib.Core.Path.{_≡_};
 ghost use mathlib.Core.Bool.{true};
-ghost use mathlib.Core.List.{List};
 ghost use Rattle.definition.specs.Archive.{laidOut, filesOf};
 ghost use Rattle.definition.specs.Including.{Chain, including};
+ghost use Rattle.byte_classes.specs.Classes.{byteClasses};
 ghost use Rattle.image.specs.Running.{world, Room, run, answered};
 ghost use Rattle.includes.specs.Texts.{textEvents};
 use archive_find::Found;
@@ -19,6 +19,7 @@ use parser::parse_entry;
 
 // Reads the file that an include of `name` from `folder` asks for, in the include's place. `depth` depths are left below the text.
 fn include(
+    classes: &[u8; 256],
     name: &[u8],
     folder: &[u8],
     archive: &[u8],
@@ -27,7 +28,7 @@ fn include(
     words: &mut [u16],
     store: &mut [u8],
 ) -> Step
-    requires { ⌜ Room totals (now words) (now store) × (laidOut (now archive) ≡ true) ⌝ }
+    requires { ⌜ Room totals (now words) (now store) × (laidOut (now archive) ≡ true) × (now classes ≡ byteClasses) ⌝ }
     ensures { λ r. ⌜ ((chain : Chain) → answered r (now (words .exit)) (now (store .exit)) ≡ run (world totals (now (words .entry)) (now (store .entry))) (including depth (filesOf (now (archive .entry))) (now (folder .entry)) chain (now (name .entry)))) ⌝ }
 {
     if depth == 0 {
@@ -53,6 +54,7 @@ fn include(
     let end = member.end;
     let below = folder_of(&archive[start..body]);
     parse_database(
+        classes,
         &archive[body..end],
         below,
         archive,
@@ -65,6 +67,7 @@ fn include(
 
 // Reads a text of `folder`, line by line, with `depth` depths left below it.
 pub fn parse_database(
+    classes: &[u8; 256],
     text: &[u8],
     folder: &[u8],
     archive: &[u8],
@@ -73,20 +76,20 @@ pub fn parse_database(
     words: &mut [u16],
     store: &mut [u8],
 ) -> Step
-    requires { ⌜ Room totals (now words) (now store) × (laidOut (now archive) ≡ true) ⌝ }
+    requires { ⌜ Room totals (now words) (now store) × (laidOut (now archive) ≡ true) × (now classes ≡ byteClasses) ⌝ }
     ensures { λ r. ⌜ ((chain : Chain) → answered r (now (words .exit)) (now (store .exit)) ≡ run (world totals (now (words .entry)) (now (store .entry))) (textEvents depth (filesOf (now (archive .entry))) (now (folder .entry)) chain (now (text .entry)))) ⌝ }
 {
     let mut s = totals;
     let mut rest = text;
     while rest.len() > 0 {
-        let line = parse_line(rest);
+        let line = parse_line(classes, rest);
         match line {
             Line::Skip(n) => {
                 rest = &rest[n..];
             }
             Line::Include(start, length, n) => {
                 let name = &rest[start..start + length];
-                let step = include(name, folder, archive, depth, s, words, store);
+                let step = include(classes, name, folder, archive, depth, s, words, store);
                 match step {
                     Step::Go(next) => {
                         s = next;
@@ -97,8 +100,8 @@ pub fn parse_database(
                     }
                 }
             }
-            Line::Entry(value, count, size) => {
-                let put = parse_entry(rest, value, count, size, s, words, store);
+            Line::Entry(from, count, size, verbatim) => {
+                let put = parse_entry(classes, rest, from, count, size, verbatim, s, words, store);
                 match put {
                     Put::Done(n, next) => {
                         s = next;

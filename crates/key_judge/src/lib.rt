@@ -3,10 +3,10 @@ ghost use mathlib.Core.Path.{_≡_};
 ghost use mathlib.Core.Bool.{true};
 ghost use Prim.Native.Nat.{ℕ, _+_, _≤_, _<_};
 ghost use lib.ListN.{length, getD};
-ghost use Rattle.definition.specs.Lists.{if_then_else_};
 ghost use Rattle.definition.specs.Bytes.{isBinding, isName};
 ghost use Rattle.definition.specs.Image.{isKey};
 ghost use Rattle.key_judge.specs.Pairs.{mayFollow, bindingsIn};
+use blocks::bit;
 use limits::MOST_PARTS;
 use scan::next_component;
 
@@ -17,12 +17,6 @@ pub fn is_binding(c: u8) -> bool
         b'.' | b'*' => true,
         _ => false,
     }
-}
-
-fn bit(b: bool) -> u8
-    ensures { λ r. ⌜ r ≡ (if b then 1 else 0) ⌝ }
-{
-    if b { 1 } else { 0 }
 }
 
 // Part by part.

@@ -6,13 +6,12 @@ use mathlib.Core.Path.{_≡_, refl, sym, ap, _∙_}
 use Prim.Native.Nat.{ℕ, _+_, _-_, _≤_, _<_}
 use native.Mathlib.Omega.{arith}
 use lib.ListN.{length, take, drop, getD, length-drop}
-use lib.Seq.{drop-cons}
 use borrow.Author.Tests.{ne-eqb}
 use Rattle.definition.specs.Lists.{if_then_else_, ascii, dropWhile}
 use Rattle.definition.specs.Parsing.{many, after}
 use Rattle.definition.specs.Bytes.{newline, exclamation, hash, isSpace}
 use Rattle.definition.specs.Text.{partAt, endsInName, assigned}
-use Rattle.laws.proofs.Lists.{part-rest, length-part-rest, Suffix, suffix-drop, suffix-run}
+use Rattle.laws.proofs.Lists.{part-rest, length-part-rest, Suffix, suffix-run}
 use Rattle.scan.specs.Scanned.{includeAt}
 use Rattle.scan.specs.declared.Include as scan
 use Rattle.scan.specs.declared.Include.the-variants.{Named}
@@ -83,7 +82,7 @@ module _ (t : List ℕ) (r : Components) (e : r ≡ componentsAt t) where
         at false = refl
 
     pub entry-line : r .named ≡ true → (after (ascii ":") s ≡ some (drop 1 s)) × (1 ≤ length s)
-        → Entry (length t - length s + 1) (r .count) (r .size) ≡ resourceIn t (assigned t)
+        → Entry (length t - length s + 1) (r .count) (r .size) (r .verbatim) ≡ resourceIn t (assigned t)
     unfolding assigned resourceIn componentsAt
     entry-line h n =
         let x : endsInName (partsOf t) ≡ true = sym (ap (λ (x : Components). x .named) e) ∙ h in

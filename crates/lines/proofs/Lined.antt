@@ -3,7 +3,7 @@ use mathlib.Core.Bool.{Bool, true, false}
 use mathlib.Core.List.{List, [], _∷_}
 use mathlib.Core.Option.{Option, some, none}
 use mathlib.Core.Path.{_≡_, refl, sym, ap, _∙_}
-use Prim.Native.Nat.{ℕ, suc, _+_, _-_, _≤_, _<_}
+use Prim.Native.Nat.{ℕ, _+_, _-_, _≤_, _<_}
 use native.Mathlib.Numerals.{one-add}
 use native.Mathlib.Omega.{arith}
 use lib.Dec.{eqb}
@@ -11,16 +11,16 @@ use lib.ListN.{length, take, drop}
 use Rattle.definition.specs.Lists.{if_then_else_, ascii, dropWhile}
 use Rattle.definition.specs.Parsing.{Parse, found, many, after}
 use Rattle.definition.specs.Bytes.{newline, exclamation, hash, isSpace, notNewline}
-use Rattle.definition.specs.Text.{partAt, endsInName, skipped, include, includeOf, directiveOf, assigned, resourceOf, lineEnd, lineAt}
+use Rattle.definition.specs.Text.{Part, partAt, endsInName, skipped, include, includeOf, directiveOf, assigned, resourceOf, lineEnd, lineAt}
 use Rattle.definition.specs.Text as text
 use Rattle.definition.specs.Image.{keyOf}
-use Rattle.laws.proofs.Lists.{Suffix, suffix-run, drop-run, length-takeWhile-le}
+use Rattle.laws.proofs.Lists.{not-both, Suffix, suffix-run, drop-run, length-takeWhile-le}
 use Rattle.scan.specs.Scanned.{includeAt}
 use Rattle.scan.specs.declared.Include as scan
 use Rattle.scan.specs.declared.Include.the-variants.{Named, Other}
 use Rattle.scan.proofs.Beginnings.{after-suffix}
 use Rattle.scan.proofs.Includes.{includedName, IncludeFound, include-found}
-use Rattle.components.specs.Parts.{partsOf}
+use Rattle.components.specs.Parts.{partsOf, isVerbatim}
 use Rattle.components.proofs.Rests.{parts-suffix}
 use Rattle.lines.specs.Places.{lineLength, directiveIn, resourceIn, lineIn}
 use Rattle.lines.specs.declared.Line.{Line}
@@ -37,17 +37,19 @@ pub record Includes (t : List ℕ) (p : Parse text.Line) (a l n : ℕ) : Type 0 
   pub named : a + l ≤ length t
   pub inside : n ≤ length t
 
--- an entry, whose value's text begins at v, with the number of its parts and the length of its key
-pub record Enters (t : List ℕ) (p : Parse text.Line) (v count size : ℕ) : Type 0 where
+-- an entry, whose value's text begins at v, with the number of its parts, the length of its key and whether that is the text itself
+pub record Enters (t : List ℕ) (p : Parse text.Line) (v count size : ℕ) (verbatim : Bool) : Type 0 where
   pub is : p ≡ resourceOf t (some (drop v t))
   pub inside : v ≤ length t
   pub parts : count ≡ length (partsOf t)
   pub key : size ≡ length (keyOf (partsOf t))
+  pub some-key : 0 < size
+  pub is-text : verbatim ≡ isVerbatim t
 
 abbrev pub Lined : List ℕ → Parse text.Line → Line → Type 0
 Lined t p (Skip n) = Skips t p n
 Lined t p (Include a l n) = Includes t p a l n
-Lined t p (Entry v count size) = Enters t p v count size
+Lined t p (Entry v count size verbatim) = Enters t p v count size verbatim
 
 -- ---- Where a line ends
 
@@ -75,21 +77,30 @@ directive-lined c t end h (Named a l) i = record {
   inside = h;
 }
 
+-- parts of which the last is a name have a key
+key-some : (ps : List Part) → endsInName ps ≡ true → 0 < length (keyOf ps)
+unfolding endsInName keyOf
+key-some [] e = absurd (not-both e refl)
+key-some (p ∷ ps) e = omega arith
+
 resource-lined : (t : List ℕ) (o : Option (List ℕ)) → assigned t ≡ o → Lined t (resourceOf t o) (resourceIn t o)
 unfolding resourceIn resourceOf assigned
 resource-lined t none e = record { is = rw (end-is t) refl; inside = end-inside t }
 resource-lined t (some u) e =
-    let s = at (endsInName (partsOf t)) e in
+    let s = at (endsInName (partsOf t)) refl e in
     record {
-      is = ap (λ (v : List ℕ). resourceOf t (some v)) (sym (s .same));
-      inside = omega arith;
+      is = ap (λ (v : List ℕ). resourceOf t (some v)) (sym (s .0 .same));
+      inside = omega (arith, s .0 .most);
       parts = refl;
       key = refl;
+      some-key = key-some (partsOf t) (s .1);
+      is-text = refl;
     }
   where
-    at : (b : Bool) → (if b then after (ascii ":") (dropWhile isSpace (many partAt t .rest)) else none) ≡ some u → Suffix u t
-    at true k = after-suffix (ascii ":") (suffix-run (parts-suffix t) isSpace) u k
-    at false k = absurd (let z : _≡_ {A = ℕ} 0 1 = cc in omega arith)
+    at : (b : Bool) → endsInName (partsOf t) ≡ b → (if b then after (ascii ":") (dropWhile isSpace (many partAt t .rest)) else none) ≡ some u
+        → Suffix u t × (endsInName (partsOf t) ≡ true)
+    at true f k = (after-suffix (ascii ":") (suffix-run (parts-suffix t) isSpace) u k, f)
+    at false f k = absurd (let z : _≡_ {A = ℕ} 0 1 = cc in omega arith)
 
 line-lined : (t : List ℕ) → 0 < length t → Lined t (lineAt t) (lineIn t)
 unfolding lineAt lineIn

@@ -10,7 +10,7 @@ use Rattle.definition.specs.Text.{assigned}
 use Rattle.scan.specs.Scanned.{includeAt}
 use Rattle.scan.specs.declared.Include as scan
 use Rattle.scan.specs.declared.Include.the-variants.{Named, Other}
-use Rattle.components.specs.Parts.{partsOf, keyFirst}
+use Rattle.components.specs.Parts.{partsOf, keyFirst, isVerbatim}
 use Rattle.lines.specs.declared.Line.{Line}
 use Rattle.lines.specs.declared.Line.the-variants.{Skip, Include, Entry}
 
@@ -26,7 +26,7 @@ directiveIn end Other = Skip end
 -- a line that is no comment and no directive; u follows its `:`
 unfoldable pub resourceIn : List ℕ → Option (List ℕ) → Line
 resourceIn t none = Skip (lineLength t)
-resourceIn t (some u) = Entry (length t - length u) (length (partsOf t)) (length (keyFirst t))
+resourceIn t (some u) = Entry (length t - length u) (length (partsOf t)) (length (keyFirst t)) (isVerbatim t)
 
 -- as lineAt, which has the line's bytes
 unfoldable pub lineIn : List ℕ → Line

@@ -4,6 +4,7 @@ ghost use Prim.Native.Nat.{_<_};
 ghost use lib.ListN.{length, getD};
 ghost use Rattle.definition.specs.Bytes.{hash};
 ghost use Rattle.definition.specs.Text.{assigned};
+ghost use Rattle.byte_classes.specs.Classes.{byteClasses};
 ghost use Rattle.lines.specs.Places.{resourceIn, lineIn};
 use components::parse_components;
 use scan::Include;
@@ -18,8 +19,8 @@ pub enum Line {
     Skip(usize),
     // Where the include's name starts, its length, and where the next line starts.
     Include(usize, usize, usize),
-    // Where the value's text starts, the number of parts, and the length of the key.
-    Entry(usize, usize, usize),
+    // Where the value's text starts, the number of parts, the length of the key, and whether the key is the text itself.
+    Entry(usize, usize, usize, bool),
 }
 
 // A line that begins with `#`.
@@ -36,10 +37,11 @@ fn parse_directive(text: &[u8]) -> Line
 }
 
 // A line that is no comment and no directive.
-fn parse_resource(text: &[u8]) -> Line
+fn parse_resource(classes: &[u8; 256], text: &[u8]) -> Line
+    requires { ⌜ now classes ≡ byteClasses ⌝ }
     ensures { λ r. ⌜ r ≡ resourceIn (now (text .entry)) (assigned (now (text .entry))) ⌝ }
 {
-    let parts = parse_components(text);
+    let parts = parse_components(classes, text);
     let end = parts.end;
     if !parts.named {
         return Line::Skip(line_end(text));
@@ -48,12 +50,17 @@ fn parse_resource(text: &[u8]) -> Line
     if !starts_with(rest, b":") {
         return Line::Skip(line_end(text));
     }
-    Line::Entry(text.len() - rest.len() + 1, parts.count, parts.size)
+    Line::Entry(
+        text.len() - rest.len() + 1,
+        parts.count,
+        parts.size,
+        parts.verbatim,
+    )
 }
 
 // The line at the front of a text.
-pub fn parse_line(text: &[u8]) -> Line
-    requires { ⌜ 0 < length (now text) ⌝ }
+pub fn parse_line(classes: &[u8; 256], text: &[u8]) -> Line
+    requires { ⌜ (now classes ≡ byteClasses) × (0 < length (now text)) ⌝ }
     ensures { λ r. ⌜ r ≡ lineIn (now (text .entry)) ⌝ }
 {
     let first = text[0];
@@ -66,5 +73,5 @@ pub fn parse_line(text: &[u8]) -> Line
     if first == b'#' {
         return parse_directive(text);
     }
-    parse_resource(text)
+    parse_resource(classes, text)
 }

@@ -1,4 +1,2 @@
--- Laws of the list program's lines.
-pub mod Lines
-pub mod Rows
+-- Laws of what the list program writes.
 pub mod Printing

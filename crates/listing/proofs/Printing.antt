@@ -6,10 +6,10 @@ use Prim.Native.Nat.{ℕ, zero, suc, _+_, _*_, _≤_, _<_}
 use native.Mathlib.Omega.{arith}
 use lib.ListN.{length, getD, length-append, length-map}
 use Rattle.definition.specs.Lists.{ascii, zeroes, any}
-use Rattle.definition.specs.Limits.{textBytes, contentsWords, bodyBytes, mostEntries, rowWords}
+use Rattle.definition.specs.Limits.{textBytes, contentsWords, bodyBytes, mostEntries}
 use Rattle.definition.specs.Text.{Entry}
 use Rattle.definition.specs.Including.{Entered, opensOf}
-use Rattle.definition.specs.Image.{Row, keyOf, keyAt, keyEnd, rowsIn, rowsFrom, countOf, contentsOf, storeOf, writtenOver, imageContents, imageBodies, tooShort}
+use Rattle.definition.specs.Image.{Row, keyOf, keyAt, keyEnd, rowsIn, countOf, contentsOf, storeOf, writtenOver, imageContents, imageBodies, tooShort}
 use Rattle.definition.specs.Evaluation.{noFiles}
 use Rattle.definition.specs.Reading.{accepted, refused, Outcome, outcome, reading, plain, readEntries, met}
 use borrow.Author.Tests.{lt-ltb}
@@ -17,12 +17,13 @@ use Rattle.laws.proofs.Lists.{slice-at}
 use Rattle.laws.proofs.Image.{rowsAt, length-zeroes, written-long, contents-fit, image-rows, image-count}
 use Rattle.laws.proofs.Limits.{used-store}
 use Rattle.laws.proofs.Reading.{Reads, accepted-reads, reads-outcome}
-use Rattle.image.specs.Rows.{rowStart, rowAt}
+use Rattle.image.specs.Rows.{rowAt}
 use Rattle.image.proofs.Rows.{row-is}
 use Rattle.printing.specs.Putting.{Appends}
 use Rattle.printing.proofs.Pieces.{piece-of, then-piece, piece-counts}
-use Rattle.listing.specs.Listing.{entryLine, entryLines, wordLine, written, printed, rowLines, Listable, listBytes, Lists, RefusesLong}
-use Rattle.listing.proofs.Lines.{entry-most, word-most}
+use Rattle.list_lines.specs.Lines.{entryLine, wordLine, rowLines, Listable}
+use Rattle.list_lines.proofs.Lines.{entry-most}
+use Rattle.listing.specs.Listing.{entryLines, written, printed, listBytes, Lists, RefusesLong}
 
 -- ---- The lines of entries
 

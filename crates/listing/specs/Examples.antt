@@ -1,10 +1,11 @@
 -- What the list program writes for a few texts, document 01's example first, by evaluating the definition.
-use mathlib.Core.List.{List, []}
+use mathlib.Core.List.{[]}
 use mathlib.Core.Path.{_≡_, refl}
 use Rattle.definition.specs.Lists.{ascii}
 use Rattle.definition.specs.Evaluation.{definition}
 use Rattle.printing.specs.Putting.{decimalIn}
-use Rattle.listing.specs.Listing.{entryLine, entryLines, wordLine, written, printed}
+use Rattle.list_lines.specs.Lines.{entryLine, wordLine}
+use Rattle.listing.specs.Listing.{entryLines, written, printed}
 
 table :
     (printed (ascii "a.b: x\n*c: yes\n") ≡ ascii "entries 2\n0 .a.b 1\n1 *c 3\n")

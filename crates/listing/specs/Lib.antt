@@ -1,3 +1,3 @@
--- What the contracts of the list program's lines cite beside the definition.
+-- What the contracts of what the list program writes cite beside the definition.
 pub mod Listing
 pub mod Examples

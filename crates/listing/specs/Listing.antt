@@ -1,30 +1,22 @@
 -- What the list program writes (document 01, "Numbers and examples").
 use mathlib.Core.List.{List, [], _∷_, _++_}
 use mathlib.Core.Path.{_≡_}
-use Prim.Native.Nat.{ℕ, _+_, _≤_, _<_}
+use Prim.Native.Nat.{ℕ, _+_, _<_}
 use lib.ListN.{length}
 use Rattle.definition.specs.Lists.{ascii, zeroes}
 use Rattle.definition.specs.Limits.{textBytes, contentsWords, bodyBytes}
 use Rattle.definition.specs.Text.{Entry}
-use Rattle.definition.specs.Image.{Row, keyOf, keyAt, keyEnd, countOf, rowsIn}
+use Rattle.definition.specs.Image.{keyOf}
 use Rattle.definition.specs.Evaluation.{noFiles}
 use Rattle.definition.specs.Reading.{Answer, accepted, refused, reading, plain, readEntries}
 use Rattle.io.specs.Counts.{Counts}
-use Rattle.image.specs.Rows.{rowStart, rowAt}
-use Rattle.printing.specs.Putting.{Appends, decimal}
-
--- number, key, value length
-unfoldable pub entryLine : ℕ → List ℕ → ℕ → List ℕ
-entryLine i key size = decimal i ++ ascii " " ++ key ++ ascii " " ++ decimal size ++ ascii "\n"
+use Rattle.printing.specs.Putting.{Appends}
+use Rattle.list_lines.specs.Lines.{entryLine, wordLine}
 
 -- a line for each entry, the first with the number i
 unfoldable pub entryLines : ℕ → List Entry → List ℕ
 entryLines i [] = []
 entryLines i (e ∷ es) = entryLine i (keyOf (e .parts)) (length (e .value)) ++ entryLines (i + 1) es
-
--- a word and a number
-unfoldable pub wordLine : List ℕ → ℕ → List ℕ
-wordLine word n = word ++ ascii " " ++ decimal n ++ ascii "\n"
 
 -- what is written for an answer of the reading call, and the entries read
 unfoldable pub written : Answer → List Entry → List ℕ
@@ -34,19 +26,6 @@ written (refused k) es = wordLine (ascii "refused") k
 -- what is written for a main text, read with an archive of no files
 unfoldable pub printed : List ℕ → List ℕ
 printed text = written (reading (text ∷ []) noFiles (zeroes contentsWords) (zeroes bodyBytes) .answer) (plain (readEntries (text ∷ []) noFiles))
-
--- ---- The same of an image
-
--- a line for each row, the first with the number i
-unfoldable pub rowLines : ℕ → List Row → List ℕ → List ℕ
-rowLines i [] bodies = []
-rowLines i (r ∷ rs) bodies = entryLine i (keyAt bodies r) (r .valueLength) ++ rowLines (i + 1) rs bodies
-
--- the rows and their keys lie in the buffers, and `out` has room for their lines
-pub record Listable (contents bodies out : List ℕ) (at : ℕ) : Type 0 where
-  pub rows-within : rowStart (countOf contents) ≤ length contents
-  pub keys-within : (i : ℕ) → i < countOf contents → keyEnd (rowAt contents i) ≤ length bodies
-  pub room : at + length (rowLines 0 (rowsIn contents) bodies) ≤ length out
 
 -- no text is written in more
 abbrev pub listBytes : ℕ

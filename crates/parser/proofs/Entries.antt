@@ -1,4 +1,5 @@
 -- An entry, stored. Assumes nothing.
+use mathlib.Core.Bool.{Bool}
 use mathlib.Core.List.{List, [], _∷_, _++_, flatten, append-assoc}
 use mathlib.Core.Path.{_≡_, refl, sym, ap, _∙_}
 use Prim.Native.Nat.{ℕ, _+_, _-_, _≤_, _<_}
@@ -106,7 +107,7 @@ module _ (t : List ℕ) (v : ℕ) (inside : v ≤ length t) (u : List ℕ) (is :
 
 -- ---- The answers of parse_entry
 
-module _ {t : List ℕ} {v count size : ℕ} {s : Totals} {c b : List ℕ} (a : Asked t v count size s c b) where
+module _ {t : List ℕ} {v count size : ℕ} {verbatim : Bool} {s : Totals} {c b : List ℕ} (a : Asked t v count size verbatim s c b) where
   pub many-parts : mostParts < count → put (world s c b) (entryFrom t v) ≡ stopped 5 c b
   many-parts h = put-parts s c b (entryFrom t v) (omega (arith, a .parts))
 
@@ -120,8 +121,8 @@ module _ {t : List ℕ} {v count size : ℕ} {s : Totals} {c b : List ℕ} (a : 
         put-full s c b (entryFrom t v) (omega (arith, a .parts)) less (omega arith) ∙ ap (stopped 7 c) (cut-none s c b (entryFrom t v) long)
 
 -- the entry keeps the limits so far, its key is written, and u is the value's text
-pub record Keyed (t : List ℕ) (v count size : ℕ) (s : Totals) (c b b₁ u : List ℕ) : Type 0 where
-  pub asked : Asked t v count size s c b
+pub record Keyed (t : List ℕ) (v count size : ℕ) (verbatim : Bool) (s : Totals) (c b b₁ u : List ℕ) : Type 0 where
+  pub asked : Asked t v count size verbatim s c b
   pub few : count ≤ mostParts
   pub less : s .entries < mostEntries
   pub fits : size ≤ length b - s .used
@@ -129,7 +130,7 @@ pub record Keyed (t : List ℕ) (v count size : ℕ) (s : Totals) (c b b₁ u : 
   pub long : length b₁ ≡ length b
   pub is : u ≡ afterBlanks (take (length t - v) (drop v t))
 
-module _ {t : List ℕ} {v count size : ℕ} {s : Totals} {c b b₁ u : List ℕ} (k : Keyed t v count size s c b b₁ u) where
+module _ {t : List ℕ} {v count size : ℕ} {verbatim : Bool} {s : Totals} {c b b₁ u : List ℕ} (k : Keyed t v count size verbatim s c b b₁ u) where
   abbrev e : Entry
   e = entryFrom t v
 

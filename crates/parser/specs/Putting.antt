@@ -1,13 +1,14 @@
 -- What the code's answer on an entry says.
+use mathlib.Core.Bool.{Bool}
 use mathlib.Core.List.{List, flatten}
 use mathlib.Core.Path.{_≡_}
-use Prim.Native.Nat.{ℕ, _-_, _≤_}
+use Prim.Native.Nat.{ℕ, _-_, _≤_, _<_}
 use lib.ListN.{length, drop}
 use Rattle.definition.specs.Text.{Entry, pieces}
 use Rattle.definition.specs.Image.{keyOf}
 use Rattle.image.specs.Running.{World, world, Room, went, stopped, put}
 use Rattle.image.specs.declared.Totals.{Totals}
-use Rattle.components.specs.Parts.{partsOf}
+use Rattle.components.specs.Parts.{partsOf, isVerbatim}
 use Rattle.parser.specs.declared.Put.{Put}
 use Rattle.parser.specs.declared.Put.the-variants.{Done, Stop}
 
@@ -15,11 +16,14 @@ use Rattle.parser.specs.declared.Put.the-variants.{Done, Stop}
 abbrev pub entryFrom : List ℕ → ℕ → Entry
 entryFrom t v = record { parts = partsOf t; value = flatten (pieces (drop v t) .items) }
 
--- what storing the entry of t asks: its parts and the length of its key are counted, and there is room for the totals
-pub record Asked (t : List ℕ) (v count size : ℕ) (s : Totals) (words bytes : List ℕ) : Type 0 where
+-- what storing the entry of t asks: its parts and the length of its key are counted, it is known whether the key is the text itself, and
+-- there is room for the totals
+pub record Asked (t : List ℕ) (v count size : ℕ) (verbatim : Bool) (s : Totals) (words bytes : List ℕ) : Type 0 where
   pub inside : v ≤ length t
   pub parts : count ≡ length (partsOf t)
   pub key : size ≡ length (keyOf (partsOf t))
+  pub some-key : 0 < size
+  pub is-text : verbatim ≡ isVerbatim t
   pub room : Room s words bytes
 
 -- where the line after it begins

@@ -1,4 +1,6 @@
 // Entries: the Rust's `parse_entry`, and the row that it makes.
+ghost use mathlib.Core.Path.{_≡_};
+ghost use Rattle.byte_classes.specs.Classes.{byteClasses};
 ghost use Rattle.image.specs.Running.{world};
 ghost use Rattle.parser.specs.Putting.{Asked, Putting};
 use components::write_key;
@@ -19,15 +21,17 @@ pub enum Put {
 
 // Stores the entry of a line, whose value's text starts at `value`.
 pub fn parse_entry(
+    classes: &[u8; 256],
     text: &[u8],
     value: usize,
     count: usize,
     size: usize,
+    verbatim: bool,
     totals: Totals,
     words: &mut [u16],
     store: &mut [u8],
 ) -> Put
-    requires { ⌜ Asked (now text) value count size totals (now words) (now store) ⌝ }
+    requires { ⌜ (now classes ≡ byteClasses) × Asked (now text) value count size verbatim totals (now words) (now store) ⌝ }
     ensures { λ r. ⌜ Putting (now (text .entry)) value (world totals (now (words .entry)) (now (store .entry))) (now (words .exit)) (now (store .exit)) r ⌝ }
 {
     let opens = totals.opens;
@@ -42,10 +46,10 @@ pub fn parse_entry(
     if size > store.len() - used {
         return Put::Stop(7);
     }
-    write_key(text, store, used);
+    write_key(classes, text, size, verbatim, store, used);
     let at = used + size;
-    let rest = skip_blanks(&text[value..]);
-    let decoded = parse_value(rest, store, at);
+    let rest = skip_blanks(classes, &text[value..]);
+    let decoded = parse_value(classes, rest, store, at);
     let Stored::Done(end, taken) = decoded else {
         return Put::Stop(7);
     };

@@ -2,7 +2,7 @@
 ghost use Prim.Native.Nat.{_+_, _≤_};
 ghost use lib.ListN.{length};
 ghost use Rattle.printing.specs.Putting.{Appends, decimal};
-use scan::copy_in;
+use copies::copy_in;
 
 // Puts `bytes` at `at`, and answers the place after them.
 pub fn put(bytes: &[u8], out: &mut [u8], at: usize) -> usize

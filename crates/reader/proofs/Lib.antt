@@ -1,3 +1,2 @@
 -- Laws of the reading call.
-pub mod Texts
 pub mod Finishing

@@ -4,21 +4,18 @@ ghost use mathlib.Core.Bool.{true};
 ghost use mathlib.Core.List.{[], _∷_, map};
 ghost use lib.ListN.{length};
 ghost use Rattle.definition.specs.Limits.{contentsWords, bodyBytes};
-ghost use Rattle.definition.specs.Lists.{any};
 ghost use Rattle.definition.specs.Archive.{laidOut};
-ghost use Rattle.definition.specs.Reading.{outcome, met, tooLong, reading};
-ghost use Rattle.image.specs.Running.{world, begun, run, answered, finished};
+ghost use Rattle.definition.specs.Reading.{outcome, reading};
+ghost use Rattle.image.specs.Running.{answered, finished};
 ghost use Rattle.reader.specs.Said.{said, Ready, leftBy};
 use archive::is_archive;
 use image::Step;
-use image::Totals;
 use image::close_image;
 use image::empty_image;
-use includes::parse_database;
 use limits::BODY_BYTES;
 use limits::CONTENTS_WORDS;
-use limits::DEEPEST;
-use limits::TEXT_BYTES;
+use texts::is_long;
+use texts::parse_texts;
 
 // What the reading call answers: the entries and the opens, or the number that refuses the reading.
 pub enum Answer {
@@ -41,48 +38,6 @@ fn finish(step: Step, words: &mut [u16], store: &mut [u8]) -> Answer
             Answer::Accepted(totals.entries, totals.opens)
         }
     }
-}
-
-// Is a text longer than a text may be?
-fn is_long(texts: &[&[u8]]) -> bool
-    ensures { λ r. ⌜ r ≡ any tooLong (map now (now (texts .entry))) ⌝ }
-{
-    let mut i = 0;
-    while i < texts.len() {
-        let text = texts[i];
-        if text.len() > TEXT_BYTES {
-            return true;
-        }
-        i += 1;
-    }
-    false
-}
-
-// Reads the texts one after another, each in the empty folder.
-fn parse_texts(texts: &[&[u8]], archive: &[u8], words: &mut [u16], store: &mut [u8]) -> Step
-    requires { ⌜ (length (now words) ≡ contentsWords) × (length (now store) ≡ bodyBytes) × (laidOut (now archive) ≡ true) ⌝ }
-    ensures { λ r. ⌜ answered r (now (words .exit)) (now (store .exit)) ≡ run (world begun (now (words .entry)) (now (store .entry))) (met (map now (now (texts .entry))) (now (archive .entry))) ⌝ }
-{
-    let mut s = Totals {
-        opens: 0,
-        entries: 0,
-        used: 0,
-    };
-    let mut i = 0;
-    while i < texts.len() {
-        let text = texts[i];
-        let step = parse_database(text, &text[..0], archive, DEEPEST, s, words, store);
-        match step {
-            Step::Go(next) => {
-                s = next;
-                i += 1;
-            }
-            Step::Stop(k) => {
-                return Step::Stop(k);
-            }
-        }
-    }
-    Step::Go(s)
 }
 
 // Reads into buffers that are just as long as an image.

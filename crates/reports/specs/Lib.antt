@@ -1,3 +1,2 @@
 -- What the contracts of getres's reports cite beside the definition.
-pub mod Showing
 pub mod Telling

@@ -8,7 +8,7 @@ use Rattle.definition.specs.Limits.{bodyBytes}
 use Rattle.io.specs.Counts.{Counts}
 use Rattle.printing.specs.Putting.{Appends}
 use Rattle.refusals.specs.Refusals.{refusalOf}
-use Rattle.reports.specs.Showing.{Shown, value, noValue, refusedBy, lineOf, sameShown}
+use Rattle.showing.specs.Showing.{Shown, value, noValue, refusedBy, lineOf, sameShown}
 use Rattle.reports.specs.declared.Report.{Report}
 
 -- the bytes, the status, and whether they go to standard error

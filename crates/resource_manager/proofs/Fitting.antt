@@ -2,11 +2,10 @@
 use mathlib.Core.List.{List}
 use mathlib.Core.Path.{_≡_, refl, ap, _∙_}
 use Prim.Native.Nat.{ℕ}
-use lib.IntN.{ℤ}
 use Rattle.definition.specs.Reading.{Outcome, outcome, reading}
 use Rattle.laws.proofs.Reading.{accepted-small}
-use Rattle.definition.specs.Lookup.{Reply, getBytes}
-use Rattle.definition.specs.Value.{Number, getString}
+use Rattle.definition.specs.Lookup.{getBytes}
+use Rattle.definition.specs.Value.{getString}
 use Rattle.definition.specs.ThirdTerm.{Case, withFile, withoutFile}
 use Rattle.comparison.specs.declared.Compared.{Compared}
 use Rattle.comparison.specs.declared.Compared.the-variants.{Both, NoFile, Refused as RefusedCall}
@@ -20,11 +19,9 @@ use Rattle.lookup.proofs.Looking.{found-placed}
 use Rattle.reader.specs.declared.Answer.{Answer}
 use Rattle.reader.specs.declared.Answer.the-variants.{Accepted, Refused as RefusedReading}
 use Rattle.reader.specs.Said.{said}
-use Rattle.readings.specs.Replies.{valueReplied}
-use Rattle.readings.specs.declared.Value.{Value}
 use Rattle.readings.proofs.Readings.{string-found}
 use Rattle.codes.specs.Codes.{readCode, Few, Small, Numbers, comparisonNumbers, SmallBoth}
-use Rattle.resource_manager.specs.Boundary.{crossed, crossing, taken, compares, carried, Crosses}
+use Rattle.resource_manager.specs.Boundary.{crossed, crossing, compares, carried, Crosses}
 
 -- ---- Readings and lookups, once the answer is told
 
@@ -35,9 +32,6 @@ module _ (texts : List (List ℕ)) (archive contents bodies c b : List ℕ) wher
 
 pub read-crosses : (r : Answer) (n : ℕ) (c b : List ℕ) (o : Outcome) → outcome (said r) c b ≡ o → n ≡ readCode (said r) → crossing n c b ≡ crossed o
 read-crosses r n c b o e f = rw (← e, f) refl
-
-pub value-as : (lent : ℤ) (r s : Value) (x : Reply Number) → valueReplied r ≡ x → r ≡ s → taken (valueReplied s) lent ≡ taken x lent
-value-as lent r s x e f = rw (← e, f) refl
 
 module _ (contents bodies name class : List ℕ) where
   pub bytes-small : (r : Lookup) → replied r ≡ getBytes contents bodies name class → Small r

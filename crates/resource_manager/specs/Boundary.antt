@@ -3,15 +3,12 @@ use mathlib.Core.Bool.{Bool, not}
 use mathlib.Core.List.{List}
 use mathlib.Core.Path.{_≡_}
 use Prim.Native.Nat.{ℕ, _≤_}
-use lib.IntN.{ℤ}
 use lib.Dec.{eqb}
 use lib.ListN.{length}
 use Rattle.definition.specs.Reading.{Outcome}
-use Rattle.definition.specs.Lookup.{Reply, given, noValue, refused as refusedBy}
-use Rattle.definition.specs.Value.{Number, number, notANumber}
 use Rattle.definition.specs.ThirdTerm.{Case, withFile, withoutFile, lookup, Given, ThirdTerm}
 use Rattle.compare.specs.Comparing.{Left, bothRead, comparing}
-use Rattle.codes.specs.Codes.{noneCode, notANumberCode, readCode, placeCode, Numbers, numbers, comparisonNumbers}
+use Rattle.codes.specs.Codes.{readCode, placeCode, Numbers, numbers, comparisonNumbers}
 
 -- a flag is no if it is 0, else yes
 abbrev pub yes : ℕ → Bool
@@ -30,23 +27,6 @@ crossing n c b = record { code = n; contents = c; bodies = b }
 
 abbrev pub crossed : Outcome → Crossing
 crossed o = crossing (readCode (o .answer)) (o .contents) (o .bodies)
-
--- ---- Lookups
-
--- a call's number, and the lent number afterwards
-pub record Taking : Type 0 where
-  pub code : ℕ
-  pub out : ℤ
-
-abbrev pub taking : ℕ → ℤ → Taking
-taking n z = record { code = n; out = z }
-
--- the number with 0; 65534 if not a number; only a number changes what is lent
-abbrev pub taken : Reply Number → ℤ → Taking
-taken (given (number z)) lent = taking 0 z
-taken (given notANumber) lent = taking notANumberCode lent
-taken noValue lent = taking noneCode lent
-taken (refusedBy k) lent = taking k lent
 
 -- ---- The comparing call
 

@@ -1,7 +1,7 @@
 // The comparing calls.
 ghost use mathlib.Core.List.{[], _∷_};
 ghost use Rattle.definition.specs.StartUp.{textsUsed};
-ghost use Rattle.startup.specs.Lending.{lending, startUp};
+ghost use Rattle.sources.specs.Lending.{lending, startUp};
 ghost use Rattle.compare.specs.Comparing.{asked};
 ghost use Rattle.codes.specs.Codes.{numbers};
 ghost use Rattle.resource_manager.specs.Boundary.{yes, compares, Crosses};

@@ -8,16 +8,14 @@ ghost use Rattle.definition.specs.StartUp.{starting};
 ghost use Rattle.definition.specs.Lookup.{getBytes};
 ghost use Rattle.definition.specs.Value as definition;
 ghost use Rattle.definition.specs.Value.{getString, getBool, getValue};
-ghost use Rattle.startup.specs.Lending.{lending, startUp};
-ghost use Rattle.codes.specs.Codes.{placeCode, boolCode};
-ghost use Rattle.resource_manager.specs.Boundary.{yes, crossed, crossing, taking, taken};
+ghost use Rattle.sources.specs.Lending.{lending, startUp};
+ghost use Rattle.codes.specs.Codes.{placeCode, boolCode, taking, taken};
+ghost use Rattle.resource_manager.specs.Boundary.{yes, crossed, crossing};
 ghost use Rattle.readings.specs.Showing.{shownAt};
-use codes::NONE;
-use codes::NOT_A_NUMBER;
 use codes::bool_code;
 use codes::place_code;
 use codes::read_code;
-use readings::Value;
+use codes::value_code;
 
 // Document 01's reading call. The low 16 bits are 0, or the number of the refusal and that alone; entries stand in bits 16 to 31
 // and opens in bits 32 to 47.
@@ -146,13 +144,5 @@ pub extern "C" fn resource_manager_get_value(
     ensures { λ r. ⌜ taking r (now (out .exit)) ≡ taken (getValue (now (contents .entry)) (now (bodies .entry)) (now (name .entry)) (now (class .entry))) (now (out .entry)) ⌝ }
 {
     let value = readings::get_value(contents, bodies, name, class);
-    match value {
-        Value::Is(number) => {
-            *out = number;
-            0
-        }
-        Value::NotANumber => NOT_A_NUMBER,
-        Value::Nothing => NONE,
-        Value::Refused(number) => number as u64,
-    }
+    value_code(value, out)
 }

@@ -1,12 +1,11 @@
 -- What a byte is, from what it is compared with. Assumes nothing.
 use mathlib.Core.Bool.{Bool, true, false, _||_, or-false}
-use mathlib.Core.Logic.{_⊎_, inl, inr, ⊎-elim}
 use mathlib.Core.Path.{_≡_, refl, _∙_}
 use Prim.Native.Nat.{ℕ, _≤_, _<_}
 use native.Mathlib.Omega.{arith}
 use lib.Dec.{eqb, leb}
 use borrow.Author.Tests.{le-leb, ne-eqb}
-use Rattle.definition.specs.Bytes.{within, isDigit, isOctal, isName, isBlank}
+use Rattle.definition.specs.Bytes.{within, isDigit, isName}
 use Rattle.laws.proofs.Lists.{in-range, below-range, above-range}
 
 module _ (a b c : ℕ) where
@@ -14,18 +13,6 @@ module _ (a b c : ℕ) where
   from-range h = rw (le-leb a c h) refl
 
 module _ (c : ℕ) where
-  pub octal : 48 ≤ c → c < 56 → isOctal c ≡ true
-  unfolding isOctal
-  octal h k = in-range 48 55 c h (omega arith)
-
-  pub octal-below : c < 48 → isOctal c ≡ false
-  unfolding isOctal
-  octal-below h = below-range 48 55 c h
-
-  pub octal-above : 56 ≤ c → isOctal c ≡ false
-  unfolding isOctal
-  octal-above h = above-range 48 55 c (omega arith)
-
   -- a name's byte, by each test of it
   by-tests : {u l d m n : Bool} → within 65 90 c ≡ u → within 97 122 c ≡ l → within 48 57 c ≡ d → eqb c 95 ≡ m → eqb c 45 ≡ n
       → isName c ≡ (u || l || d || m || n)
@@ -57,11 +44,3 @@ module _ (c : ℕ) where
   pub name-minus : c < 48 → isName c ≡ eqb c 45
   name-minus h =
       by-tests (below-range 65 90 c (omega arith)) (below-range 97 122 c (omega arith)) (below-range 48 57 c h) (ne-eqb c 95 (λ e. omega arith)) refl
-
-  pub blank : (c ≡ 9) ⊎ (c ≡ 32) → isBlank c ≡ true
-  unfolding isBlank
-  blank h = ⊎-elim (λ e. rw e refl) (λ e. rw e refl) h
-
-  pub no-blank : ((c ≡ 9) ⊎ (c ≡ 32) → ⊥) → isBlank c ≡ false
-  unfolding isBlank
-  no-blank h = rw (ne-eqb c 32 (λ e. h (inr e)), ne-eqb c 9 (λ e. h (inl e))) refl

@@ -1,12 +1,13 @@
 -- A loop that counts the bytes at the front of a text that pass a test, and the text after them. Assumes nothing.
-use mathlib.Core.Bool.{Bool, true, false}
+use mathlib.Core.Bool.{Bool, true, false, _||_, not}
 use mathlib.Core.List.{List, [], _∷_}
-use mathlib.Core.Path.{_≡_, refl, _∙_}
-use Prim.Native.Nat.{ℕ, _+_, _-_, _≤_, _<_}
+use mathlib.Core.Path.{_≡_, refl, ap, _∙_}
+use Prim.Native.Nat.{ℕ, zero, suc, _+_, _-_, _≤_, _<_}
 use native.Mathlib.Omega.{arith}
-use lib.ListN.{length, getD, take, drop}
-use Rattle.definition.specs.Lists.{takeWhile, dropWhile}
-use Rattle.laws.proofs.Lists.{part-rest, drop-run, length-takeWhile-le, run-more, run-stop, run-end}
+use lib.ListN.{length, getD, take, drop, length-drop}
+use lib.Seq.{drop-drop}
+use Rattle.definition.specs.Lists.{any, takeWhile, dropWhile}
+use Rattle.laws.proofs.Lists.{not-both, part-rest, drop-run, length-takeWhile-le, run-more, run-stop, run-end}
 
 -- the first i pass, and those that are left make up the rest of the run
 pub record Passed (p : ℕ → Bool) (t : List ℕ) (i : ℕ) : Type 0 where
@@ -34,6 +35,27 @@ module _ (p : ℕ → Bool) (t : List ℕ) where
 
     pub run-rest : take (length t - n) (drop n t) ≡ dropWhile p t
     run-rest = part-rest t n ∙ rw e (drop-run p t)
+
+-- a block with nothing that ends the run
+module _ (p q : ℕ → Bool) (opposite : (c : ℕ) → p c ≡ not (q c)) where
+  run-block : (k : ℕ) (t : List ℕ) → k ≤ length t → any q (take k t) ≡ false → length (takeWhile p t) ≡ k + length (takeWhile p (drop k t))
+  unfolding any takeWhile
+  run-block zero t h e = omega arith
+  run-block (suc k) [] h e = absurd (omega arith)
+  run-block (suc k) (c ∷ t) h e = at (q c) refl e (run-block k t (omega arith))
+    where
+      at : (x : Bool) → q c ≡ x → (x || any q (take k t)) ≡ false
+          → (any q (take k t) ≡ false → length (takeWhile p t) ≡ k + length (takeWhile p (drop k t)))
+          → length (takeWhile p (c ∷ t)) ≡ suc k + length (takeWhile p (drop k t))
+      at true f g ih = absurd (not-both refl g)
+      at false f g ih =
+          let passes : p c ≡ true = opposite c ∙ ap not f in
+          rw passes (omega (arith, ih g))
+
+  pub passed-block : {t : List ℕ} {i : ℕ} → Passed p t i → (k : ℕ) → i + k ≤ length t → any q (take k (drop i t)) ≡ false → Passed p t (i + k)
+  passed-block {t} {i} d k h e =
+      let more = run-block k (drop i t) (omega (arith, length-drop i t)) e in
+      record { inside = h; same = omega (arith, d .same, rw drop-drop at more) }
 
 -- two tests that agree
 module _ (p q : ℕ → Bool) (same : (c : ℕ) → p c ≡ q c) where

@@ -1,11 +1,16 @@
 -- The bytes that a scanner's loop tests. Assumes nothing.
-use mathlib.Core.Bool.{Bool, true, false, not}
+use mathlib.Core.Bool.{Bool, true, false, _||_, not}
 use mathlib.Core.Path.{_≡_, refl, sym, ap}
 use Prim.Native.Nat.{ℕ}
 use lib.Dec.{eqb}
 use borrow.Author.Tests.{eq-eqb, ne-eqb, eqb-true, eqb-false}
 use Rattle.definition.specs.Bytes.{newline, quote, space, isSpace, notNewline}
 use Rattle.definition.specs.Text.{inQuotes}
+use Rattle.blocks.specs.Either.{either}
+
+or-same : (b : Bool) → (b || b) ≡ b
+or-same true = refl
+or-same false = refl
 
 module _ (c : ℕ) where
   pub line-on : (c ≡ newline → ⊥) → notNewline c ≡ true
@@ -15,6 +20,10 @@ module _ (c : ℕ) where
   pub line-over : c ≡ newline → notNewline c ≡ false
   unfolding notNewline
   line-over e = ap not (eq-eqb c newline e)
+
+  pub line-block : notNewline c ≡ not (either newline newline c)
+  unfolding notNewline either
+  line-block = ap not (sym (or-same (eqb c newline)))
 
   pub quoted : (c ≡ quote → ⊥) → (c ≡ newline → ⊥) → inQuotes c ≡ true
   quoted p q = rw (ne-eqb c quote p, line-on q) refl

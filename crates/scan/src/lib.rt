@@ -1,13 +1,15 @@
-// Bytes, runs of bytes and include directives: the common helpers and skippers of the Rust's parser; and copying.
+// Runs of bytes and include directives: the common helpers and skippers of the Rust's parser.
 ghost use mathlib.Core.Path.{_≡_};
 ghost use Prim.Native.Nat.{_+_, _≤_};
 ghost use lib.Dec.{eqb};
-ghost use lib.ListN.{length};
-ghost use lib.Seq.{paste};
+ghost use lib.ListN.{length, drop};
 ghost use Rattle.definition.specs.Lists.{takeWhile, dropWhile};
-ghost use Rattle.definition.specs.Bytes.{isOctal, isName, isBlank, isSpace, notNewline};
+ghost use Rattle.definition.specs.Bytes.{isName, isSpace, notNewline};
 ghost use Rattle.definition.specs.Text.{inQuotes};
+ghost use Rattle.byte_classes.specs.Classes.{byteClasses};
 ghost use Rattle.scan.specs.Scanned.{startsWith, includeAt};
+use blocks::BLOCK;
+use blocks::block_has;
 
 // What follows a `#`: the start and the length of an include's name, or no include.
 pub enum Include {
@@ -15,48 +17,25 @@ pub enum Include {
     Other,
 }
 
-pub fn is_octal_digit(c: u8) -> bool
-    ensures { λ r. ⌜ r ≡ isOctal c ⌝ }
+// Whole blocks with no newline at the front of a text: how many bytes.
+fn line_blocks(text: &[u8]) -> usize
+    ensures { λ r. ⌜ (r ≤ length (now (text .entry))) × (length (takeWhile notNewline (now (text .entry))) ≡ r + length (takeWhile notNewline (drop r (now (text .entry))))) ⌝ }
 {
-    match c {
-        b'0'..=b'7' => true,
-        _ => false,
-    }
-}
-
-// The commonest bytes are tested first.
-pub fn allowed_in_quark_name(c: u8) -> bool
-    ensures { λ r. ⌜ r ≡ isName c ⌝ }
-{
-    if c >= b'a' {
-        return c <= b'z';
-    }
-    if c >= b'A' {
-        if c <= b'Z' {
-            return true;
+    let mut i: usize = 0;
+    while BLOCK <= text.len() - i {
+        if block_has(text, i, b'\n', b'\n') {
+            return i;
         }
-        return c == b'_';
+        i += BLOCK;
     }
-    if c >= b'0' {
-        return c <= b'9';
-    }
-    c == b'-'
-}
-
-pub fn is_blank(c: u8) -> bool
-    ensures { λ r. ⌜ r ≡ isBlank c ⌝ }
-{
-    match c {
-        b' ' | b'\t' => true,
-        _ => false,
-    }
+    i
 }
 
 // Where the line's newline stands, or the text ends.
 pub fn line_end(text: &[u8]) -> usize
     ensures { λ r. ⌜ r ≡ length (takeWhile notNewline (now (text .entry))) ⌝ }
 {
-    let mut i = 0;
+    let mut i = line_blocks(text);
     while i < text.len() {
         if text[i] == b'\n' {
             return i;
@@ -94,13 +73,47 @@ pub fn skip_spaces(text: &[u8]) -> &[u8]
     skip_byte(text, b' ')
 }
 
-// How many bytes of a name stand first.
+// A name byte by its ranges, the commonest bytes first.
+fn allowed_in_quark_name(c: u8) -> bool
+    ensures { λ r. ⌜ r ≡ isName c ⌝ }
+{
+    if c >= b'a' {
+        return c <= b'z';
+    }
+    if c >= b'A' {
+        if c <= b'Z' {
+            return true;
+        }
+        return c == b'_';
+    }
+    if c >= b'0' {
+        return c <= b'9';
+    }
+    c == b'-'
+}
+
+// How many bytes of a name stand first, in a query or a key: making the table would cost more than it saves.
 pub fn next_component(text: &[u8]) -> usize
     ensures { λ r. ⌜ r ≡ length (takeWhile isName (now (text .entry))) ⌝ }
 {
     let mut i = 0;
     while i < text.len() {
         if !allowed_in_quark_name(text[i]) {
+            return i;
+        }
+        i += 1;
+    }
+    i
+}
+
+// The same in a text that is read, by the table.
+pub fn next_component_by(classes: &[u8; 256], text: &[u8]) -> usize
+    requires { ⌜ now classes ≡ byteClasses ⌝ }
+    ensures { λ r. ⌜ r ≡ length (takeWhile isName (now (text .entry))) ⌝ }
+{
+    let mut i = 0;
+    while i < text.len() {
+        if !byte_classes::allowed_in_quark_name(classes, text[i]) {
             return i;
         }
         i += 1;
@@ -161,16 +174,4 @@ pub fn parse_include(text: &[u8]) -> Include
         return Include::Other;
     }
     Include::Named(text.len() - name.len(), n)
-}
-
-// Copies `source` into `store` from `at` on.
-pub fn copy_in(source: &[u8], store: &mut [u8], at: usize)
-    requires { ⌜ at + length (now source) ≤ length (now store) ⌝ }
-    ensures { λ _. ⌜ now (store .exit) ≡ paste (now (store .entry)) at (now (source .entry)) (length (now (source .entry))) ⌝ }
-{
-    let mut i = 0;
-    while i < source.len() {
-        store[at + i] = source[i];
-        i += 1;
-    }
 }

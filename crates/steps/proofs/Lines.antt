@@ -7,10 +7,10 @@ use native.Mathlib.Omega.{arith}
 use lib.ListN.{length}
 use Rattle.printing.specs.Putting.{Appends}
 use Rattle.printing.proofs.Pieces.{then-piece, piece-counts}
-use Rattle.startup.specs.declared.FirstSource.{FirstSource}
-use Rattle.startup.specs.declared.FirstSource.the-variants.{Property, Xresources, Xdefaults}
-use Rattle.startup.specs.declared.SecondSource.{SecondSource}
-use Rattle.startup.specs.Lending.{firstSource, secondSource}
+use Rattle.sources.specs.declared.FirstSource.{FirstSource}
+use Rattle.sources.specs.declared.FirstSource.the-variants.{Property, Xresources, Xdefaults}
+use Rattle.sources.specs.declared.SecondSource.{SecondSource}
+use Rattle.sources.specs.Lending.{firstSource, secondSource}
 use Rattle.steps.specs.Steps.{firstLine, secondLine, stepsOf, Steps}
 
 pub first-most : (source : FirstSource) (xdefaults : Bool) → length (firstLine source xdefaults) ≤ 100

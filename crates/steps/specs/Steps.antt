@@ -5,11 +5,11 @@ use Prim.Native.Nat.{ℕ}
 use Rattle.definition.specs.Lists.{ascii}
 use Rattle.io.specs.Counts.{Counts}
 use Rattle.printing.specs.Putting.{Appends}
-use Rattle.startup.specs.declared.FirstSource.{FirstSource}
-use Rattle.startup.specs.declared.FirstSource.the-variants.{Property, Xresources, Xdefaults}
-use Rattle.startup.specs.declared.SecondSource.{SecondSource}
-use Rattle.startup.specs.declared.SecondSource.the-variants.{Xenvironment, Host}
-use Rattle.startup.specs.Lending.{firstSource, secondSource}
+use Rattle.sources.specs.declared.FirstSource.{FirstSource}
+use Rattle.sources.specs.declared.FirstSource.the-variants.{Property, Xresources, Xdefaults}
+use Rattle.sources.specs.declared.SecondSource.{SecondSource}
+use Rattle.sources.specs.declared.SecondSource.the-variants.{Xenvironment, Host}
+use Rattle.sources.specs.Lending.{firstSource, secondSource}
 
 -- the text, and why it is that one; or that there is none, and why. Could .Xdefaults be read?
 unfoldable pub firstLine : FirstSource → Bool → List ℕ

@@ -4,10 +4,10 @@ ghost use lib.ListN.{length};
 ghost use Rattle.printing.specs.Putting.{Appends};
 ghost use Rattle.steps.specs.Steps.{firstLine, secondLine, stepsOf, stepsBytes, Steps};
 use printing::put;
-use startup::FirstSource;
-use startup::SecondSource;
-use startup::first_source;
-use startup::second_source;
+use sources::FirstSource;
+use sources::SecondSource;
+use sources::first_source;
+use sources::second_source;
 
 // Room for both lines.
 pub const STEPS_BYTES: usize = 200;

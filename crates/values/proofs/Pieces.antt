@@ -1,4 +1,4 @@
--- Pieces of a value: what a plain byte and the code's answer on an escape give of it. Assumes nothing.
+-- Pieces of a value: what plain bytes and the code's answer on an escape give of it. Assumes nothing.
 use mathlib.Core.Bool.{true, _||_}
 use mathlib.Core.List.{List, [], _∷_, _++_, flatten}
 use mathlib.Core.Path.{_≡_, refl, sym, ap, _∙_}
@@ -6,15 +6,18 @@ use Prim.Native.Nat.{ℕ, suc, _+_, _%_, _≤_, _<_}
 use native.Mathlib.Numerals.{one-add}
 use native.Mathlib.Omega.{arith}
 use lib.Dec.{eqb}
-use lib.ListN.{length, take, drop, getD, length-drop, take-append-drop}
+use lib.ListN.{length, take, drop, getD, length-take, take-append-drop}
+use lib.Seq.{take-take}
 use borrow.Author.Tests.{ne-eqb, eqb-true}
-use Rattle.definition.specs.Lists.{all}
+use Rattle.definition.specs.Lists.{all, takeWhile}
 use Rattle.definition.specs.Parsing.{found, Parsed}
 use Rattle.definition.specs.Bytes.{newline, backslash, letter-n, isBlank, isOctal}
 use Rattle.definition.specs.Text.{positional, lineEnds, octalOf, escapeAt, pieceAt}
-use Rattle.laws.proofs.Lists.{and-true, all-takeWhile}
+use Rattle.laws.proofs.Lists.{and-true, not-both, all-takeWhile, all-getD, getD-all, take-run, length-takeWhile-le}
 use Rattle.laws.proofs.Parsing.{many-more}
 use Rattle.laws.proofs.Keys.{piece-shrinks, if-either}
+use Rattle.copies.specs.Plain.{isPlain}
+use Rattle.copies.proofs.Copying.{plain-byte, newline-ends, backslash-ends}
 use Rattle.escapes.specs.declared.Piece.{Piece}
 use Rattle.escapes.specs.declared.Piece.the-variants.{Byte, Drop}
 use Rattle.escapes.specs.Pieces.{digits, octalIn, escapeIn}
@@ -25,61 +28,70 @@ use Rattle.values.specs.Decoded.{decodedAt, restAt}
 pub record Yields (t ys : List ℕ) (n : ℕ) : Type 0 where
   pub value : decodedAt t ≡ ys ++ decodedAt (drop n t)
   pub rest : restAt t ≡ restAt (drop n t)
-  pub some : 1 ≤ n
   pub inside : n ≤ length t
 
 -- p stands at the front of t
 abbrev pub IsPiece : List ℕ → Piece → Type 0
-IsPiece t (Byte b n) = Yields t (b ∷ []) n
-IsPiece t (Drop n) = Yields t [] n
+IsPiece t (Byte b n) = Yields t (b ∷ []) n × (1 ≤ n)
+IsPiece t (Drop n) = Yields t [] n × (1 ≤ n)
 
 -- a piece of the definition
 piece-yields : (t ys : List ℕ) (n : ℕ) → pieceAt t ≡ found ys (drop n t) → n ≤ length t → Yields t ys n
 unfolding flatten
 piece-yields t ys n e h =
     let m = many-more pieceAt piece-shrinks t ys (drop n t) e in
-    record {
-      value = ap (λ (r : Parsed (List ℕ)). flatten (r .items)) m;
-      rest = ap (λ (r : Parsed (List ℕ)). r .rest) m;
-      some = omega (arith, length-drop n t, piece-shrinks t ys (drop n t) e);
-      inside = h;
-    }
+    record { value = ap (λ (r : Parsed (List ℕ)). flatten (r .items)) m; rest = ap (λ (r : Parsed (List ℕ)). r .rest) m; inside = h }
 
-pub piece-plain : (t : List ℕ) → 0 < length t → (getD t 0 0 ≡ newline → ⊥) → (getD t 0 0 ≡ backslash → ⊥) → Yields t (getD t 0 0 ∷ []) 1
+-- ---- Plain bytes stand for themselves
+
+pub plain-yields : (c : ℕ) (t : List ℕ) → isPlain c ≡ true → Yields (c ∷ t) (c ∷ []) 1
 unfolding pieceAt
-piece-plain [] h e f = absurd (omega arith)
-piece-plain (c ∷ t) h e f = piece-yields (c ∷ t) (c ∷ []) 1 (rw (ne-eqb c newline e, ne-eqb c backslash f) refl) h
+plain-yields c t h =
+    let e = ne-eqb c newline (λ e. not-both h (newline-ends c e)) in
+    let f = ne-eqb c backslash (λ f. not-both h (backslash-ends c f)) in
+    piece-yields (c ∷ t) (c ∷ []) 1 (rw (e, f) refl) (omega arith)
 
--- octal digits are plain
-digits-plain : (ds u : List ℕ) → all isOctal ds ≡ true → (decodedAt (ds ++ u) ≡ ds ++ decodedAt u) × (restAt (ds ++ u) ≡ restAt u)
+all-plain : (cs u : List ℕ) → all isPlain cs ≡ true → (decodedAt (cs ++ u) ≡ cs ++ decodedAt u) × (restAt (cs ++ u) ≡ restAt u)
 unfolding all
-digits-plain [] u h = (refl, refl)
-digits-plain (d ∷ ds) u h =
-    let a = and-true (isOctal d) (all isOctal ds) h in
-    let r = octal-range d (a .0) in
-    let g = piece-plain (d ∷ ds ++ u) (omega arith) (λ e. omega arith) (λ e. omega arith) in
-    let ih = digits-plain ds u (a .1) in
-    (g .value ∙ ap (λ (l : List ℕ). d ∷ l) (ih .0), g .rest ∙ ih .1)
+all-plain [] u h = (refl, refl)
+all-plain (c ∷ cs) u h =
+    let a = and-true (isPlain c) (all isPlain cs) h in
+    let g = plain-yields c (cs ++ u) (a .0) in
+    let ih = all-plain cs u (a .1) in
+    (g .value ∙ ap (λ (l : List ℕ). c ∷ l) (ih .0), g .rest ∙ ih .1)
+
+-- all that t begins with
+beginning-yields : (t : List ℕ) (n : ℕ) → n ≤ length t → all isPlain (take n t) ≡ true → Yields t (take n t) n
+beginning-yields t n h e =
+    let p = all-plain (take n t) (drop n t) e in
+    let s = take-append-drop n t in
+    record { value = rw s at (p .0); rest = rw s at (p .1); inside = h }
+
+-- those at the front of the first m bytes
+pub run-yields : (t : List ℕ) (m n : ℕ) → n ≡ length (takeWhile isPlain (take m t)) → Yields t (takeWhile isPlain (take m t)) n
+run-yields t m n e =
+    let k = length-takeWhile-le isPlain (take m t) in
+    let l = length-take m t in
+    let s : take n t ≡ takeWhile isPlain (take m t) = sym (take-take n m t (omega arith)) ∙ rw e (take-run isPlain (take m t)) in
+    rw s at (beginning-yields t n (omega arith) (rw s (all-takeWhile isPlain (take m t))))
 
 -- ---- Escapes: t follows the backslash
 
-escape-yields : (t ys : List ℕ) (n : ℕ) → escapeAt t ≡ found ys (drop n t) → n ≤ length t → Yields (backslash ∷ t) ys (1 + n)
+escape-yields : (t ys : List ℕ) (n : ℕ) → escapeAt t ≡ found ys (drop n t) → n ≤ length t → Yields (backslash ∷ t) ys (1 + n) × (1 ≤ 1 + n)
 unfolding pieceAt
-escape-yields t ys n e h = rw one-add (piece-yields (backslash ∷ t) ys (suc n) e (omega arith))
+escape-yields t ys n e h = (rw one-add (piece-yields (backslash ∷ t) ys (suc n) e (omega arith)), omega arith)
 
 -- the backslash stands for itself, and so do the digits
-kept-piece : (t : List ℕ) → escapeAt t ≡ found (backslash ∷ digits t) (drop (length (digits t)) t) → Yields (backslash ∷ t) (backslash ∷ []) 1
+kept-piece : (t : List ℕ) → escapeAt t ≡ found (backslash ∷ digits t) (drop (length (digits t)) t) → Yields (backslash ∷ t) (backslash ∷ []) 1 × (1 ≤ 1)
 kept-piece t e =
     let n = length (digits t) in
-    let g = escape-yields t (backslash ∷ digits t) n e (digits-inside t) in
-    let p = digits-plain (digits t) (drop n t) (all-takeWhile isOctal (take 3 t)) in
-    let s : digits t ++ drop n t ≡ t = ap (λ (l : List ℕ). l ++ drop n t) (digits-take t) ∙ take-append-drop n t in
-    record {
-      value = rw one-add at (g .value) ∙ ap (λ (l : List ℕ). backslash ∷ l) (sym (rw s at (p .0)));
-      rest = rw one-add at (g .rest) ∙ sym (rw s at (p .1));
-      some = omega arith;
-      inside = omega arith;
-    }
+    let g = escape-yields t (backslash ∷ digits t) n e (digits-inside t) .0 in
+    let digit : (i : ℕ) → i < n → isPlain (getD (digits t) i 0) ≡ true =
+    λ i h. let r = octal-range (getD (digits t) i 0) (all-getD isOctal (digits t) i 0 (all-takeWhile isOctal (take 3 t)) h) in plain-byte (getD (digits t) i 0) (λ e. omega arith) (λ e. omega arith) in
+    let s = digits-take t in
+    let p = rw (← s) at (beginning-yields t n (digits-inside t) (rw (← s) (getD-all isPlain (digits t) 0 digit))) in
+    let value = rw one-add at (g .value) ∙ ap (λ (l : List ℕ). backslash ∷ l) (sym (p .value)) in
+    (record { value = value; rest = rw one-add at (g .rest) ∙ sym (p .rest); inside = omega arith }, omega arith)
 
 octal-piece : (t : List ℕ) → escapeAt t ≡ octalOf (digits t) (drop (length (digits t)) t)
     → IsPiece (backslash ∷ t) (octalIn (digits t) (drop (length (digits t)) t))

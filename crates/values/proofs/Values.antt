@@ -1,15 +1,15 @@
 -- What a caller of `parse_value` reads off its answer. Assumes nothing.
 use mathlib.Core.Bool.{Bool, true, false, _||_}
 use mathlib.Core.List.{List, [], _∷_}
-use mathlib.Core.Path.{_≡_, refl, sym, ap, _∙_}
-use Prim.Native.Nat.{ℕ, suc, _+_, _-_, _≤_, _<_, min}
+use mathlib.Core.Path.{_≡_, refl, _∙_}
+use Prim.Native.Nat.{ℕ, _+_, _-_, _≤_, _<_}
 use native.Mathlib.Nat.{min-eq-left}
 use native.Mathlib.Omega.{arith}
 use lib.Dec.{eqb, leb}
-use lib.ListN.{length, take, drop}
+use lib.ListN.{length, drop}
 use lib.Seq.{paste}
 use borrow.Author.Tests.{leb-true, leb-false}
-use Rattle.definition.specs.Lists.{if_then_else_, takeWhile}
+use Rattle.definition.specs.Lists.{if_then_else_}
 use Rattle.definition.specs.Parsing.{Parse, nothing, found}
 use Rattle.definition.specs.Bytes.{newline, backslash, letter-n, isBlank, isOctal}
 use Rattle.definition.specs.Text.{lineEnds, octalOf, escapeAt, pieceAt}
@@ -18,7 +18,6 @@ use Rattle.laws.proofs.Keys.{if-either}
 use Rattle.scan.proofs.Suffixes.{LeavesRest, suffix-cons, many-suffix}
 use Rattle.escapes.specs.Pieces.{digits}
 use Rattle.escapes.proofs.Escapes.{digits-inside}
-use Rattle.values.specs.declared.Stored.{Stored}
 use Rattle.values.specs.declared.Stored.the-variants.{Done, Full}
 use Rattle.values.specs.Decoded.{decodedAt, restAt, storedAt, Decoded}
 

@@ -1,9 +1,12 @@
 // The value of an entry: the part of the Rust's `parse_entry` after the `:`.
 ghost use mathlib.Core.Path.{_≡_};
-ghost use Prim.Native.Nat.{_+_, _≤_};
+ghost use Prim.Native.Nat.{_+_, _≤_, min};
 ghost use lib.ListN.{length};
 ghost use Rattle.definition.specs.Text.{afterBlanks};
+ghost use Rattle.byte_classes.specs.Classes.{byteClasses};
 ghost use Rattle.values.specs.Decoded.{blanksAt, Decoded};
+use byte_classes::is_blank;
+use copies::copy_plain;
 use escapes::Piece;
 use escapes::parse_escape;
 
@@ -15,14 +18,22 @@ pub enum Stored {
     Full,
 }
 
+// The smaller of two numbers.
+fn smaller(a: usize, b: usize) -> usize
+    ensures { λ r. ⌜ r ≡ min a b ⌝ }
+{
+    if a < b { a } else { b }
+}
+
 // How many bytes of blanks and backslash-newline pairs stand first.
-fn blanks(text: &[u8]) -> usize
+fn blanks(classes: &[u8; 256], text: &[u8]) -> usize
+    requires { ⌜ now classes ≡ byteClasses ⌝ }
     ensures { λ r. ⌜ r ≡ blanksAt (now (text .entry)) ⌝ }
 {
     let mut i = 0;
     while i < text.len() {
         let c = text[i];
-        if scan::is_blank(c) {
+        if is_blank(classes, c) {
             i += 1;
             continue;
         }
@@ -35,36 +46,38 @@ fn blanks(text: &[u8]) -> usize
 }
 
 // The text after a `:` without the blanks and backslash-newline pairs at its front.
-pub fn skip_blanks(text: &[u8]) -> &[u8]
+pub fn skip_blanks<'a>(classes: &[u8; 256], text: &'a [u8]) -> &'a [u8]
+    requires { ⌜ now classes ≡ byteClasses ⌝ }
     ensures { λ r. ⌜ (now r ≡ afterBlanks (now (text .entry))) × (r .ptr ≡ (text .entry .ptr .0, blanksAt (now (text .entry)) + text .entry .ptr .1)) ⌝ }
 {
-    let n = blanks(text);
+    let n = blanks(classes, text);
     &text[n..]
 }
 
 // Decodes the value at the front of a text, blanks skipped, into the store from `at` on, as far as there is room.
-pub fn parse_value(text: &[u8], store: &mut [u8], at: usize) -> Stored
-    requires { ⌜ at ≤ length (now store) ⌝ }
+pub fn parse_value(classes: &[u8; 256], text: &[u8], store: &mut [u8], at: usize) -> Stored
+    requires { ⌜ (now classes ≡ byteClasses) × (at ≤ length (now store)) ⌝ }
     ensures { λ r. ⌜ Decoded (now (text .entry)) (now (store .entry)) at (now (store .exit)) r ⌝ }
 {
     let mut end = at;
     let mut i = 0;
-    while i < text.len() {
-        let b = text[i];
-        if b == b'\n' {
+    loop {
+        // most bytes are plain: as many as stand here and have room
+        let most = smaller(text.len() - i, store.len() - end);
+        let n = copy_plain(&text[i..i + most], store, end);
+        end += n;
+        i += n;
+        if i >= text.len() {
             return Stored::Done(end, i);
         }
-        // Most bytes are plain: they are stored here, with no call.
-        if b != b'\\' {
-            if end >= store.len() {
-                return Stored::Full;
-            }
-            store[end] = b;
-            end += 1;
-            i += 1;
-            continue;
+        let c = text[i];
+        if c == b'\n' {
+            return Stored::Done(end, i);
         }
-        let piece = parse_escape(&text[i + 1..]);
+        if c != b'\\' {
+            return Stored::Full;
+        }
+        let piece = parse_escape(classes, &text[i + 1..]);
         match piece {
             Piece::Byte(given, n) => {
                 if end >= store.len() {
@@ -77,5 +90,4 @@ pub fn parse_value(text: &[u8], store: &mut [u8], at: usize) -> Stored
             Piece::Drop(n) => i += n,
         }
     }
-    Stored::Done(end, i)
 }

@@ -205,6 +205,24 @@ pub fn time_all(room: &str) {
         let cells = reading.row(time_with_freeing, 0.0);
         table::row(&format!("{what}, then freed"), cells[0], &cells[1..]);
     }
+    println!("\nThe floor of every reading of the port, both buffers zeroed by the C library: {:.0} ns.", floor(clock));
+}
+
+/// The best time of setting both of the port's buffers to zero.
+fn floor(clock: f64) -> f64 {
+    let (mut contents, mut bodies) = (vec![0u16; CONTENTS_WORDS], vec![0u8; BODIES_BYTES]);
+    let zero = move |calls: u32| {
+        let mut sum = Duration::ZERO;
+        for _ in 0..calls {
+            sum += timed(|| {
+                black_box(&mut contents).fill(0);
+                black_box(&mut bodies).fill(0);
+            })
+            .1;
+        }
+        sum
+    };
+    best(&mut [Box::new(zero) as Timed])[0] - clock
 }
 
 impl Reading {

@@ -1,22 +1,21 @@
--- `archive_find::find` meets its contract. The invariants: the file is among those from j on, if any; from byte i on the row's name compares as a whole. Assumes nothing.
+-- `archive_find::find` meets its contract. The invariants: the file is among those from j on, if any; from byte i on the row's name is the one that is looked for. Assumes nothing.
 use mathlib.Core.Path.{sym, _∙_}
 use Prim.Native.Nat.{_+_, _-_}
 use native.Mathlib.Omega.{arith}
-use lib.ListN.{length}
 use borrow.Author.Tests.{not-true, not-false}
 use borrow.Author.Needs.{needs}
 use Rattle.definition.specs.Archive.{pathOf}
 use Rattle.archive.proofs.Walk.{laid-fits, fits-room}
-use Rattle.archive_find.proofs.Folders.{Agreeing, agreeing-first, agreeing-off, agreeing-on, agreeing-all, stem-long}
+use Rattle.archive_find.proofs.Folders.{Ending, ending-first, ending-off, ending-on, ending-all, stem-long}
 use Rattle.archive_find.proofs.Finding.{row-length, row-other, row-elsewhere, row-found, Searching, searching-first, searching-none, searching-next, searching-found, file-in}
 use Rattle.archive_find.proofs.find.Statement.{statement}
 use Rattle.archive_find.proofs.find.Tie as tie
 
 abbrev Inv-bytes : tie.InvT-bytes
-Inv-bytes archive folder name count before long found at j member start own i₀ i = Agreeing archive name own i
+Inv-bytes archive folder name count before long found at j member start own i₀ i = Ending archive name own i
 
 abbrev μ-bytes : tie.MeasureT-bytes
-μ-bytes archive folder name count before long found at j member start own i₀ i = length name - i
+μ-bytes archive folder name count before long found at j member start own i₀ i = i
 
 abbrev Inv-rows : tie.InvT-rows
 Inv-rows archive folder name count before long found₀ at₀ j₀ found at j = Searching archive (pathOf folder name) count found at j
@@ -69,7 +68,7 @@ bytes-holds c =
     let member-at-here = c .before .before in
     let m = member-at-here .member-at .result in
     let if1-here = c in
-    agreeing-first (start-here .args .archive .now) (start-here .args .name .now) (m .start + stem-len-here .stem-len .result) (omega (arith, file-in (rows-here .rows .inv) (rows-test-here .rows-test .taken) (member-at-here .member-at .ensures), if1-here .if1 .left))
+    ending-first (start-here .args .archive .now) (start-here .args .name .now) (m .start + stem-len-here .stem-len .result) (omega (arith, file-in (rows-here .rows .inv) (rows-test-here .rows-test .taken) (member-at-here .member-at .ensures), if1-here .if1 .left))
 
 rows-again-2 : tie.Need-rows-again-2 Inv-bytes μ-bytes Inv-rows μ-rows
 rows-again-2 c =
@@ -81,17 +80,15 @@ rows-again-2 c =
     let m = member-at-here .member-at .result in
     let if1-here = c .before .before .before .before .before in
     let bytes-here = c .before .before .before .before in
-    let bytes-test-here = c .before .before .before in
     let if2-here = c in
     searching-next (rows-here .rows .inv) (rows-test-here .rows-test .taken) (member-at-here .member-at .ensures)
-    (row-other (start-here .args .archive .now) (start-here .args .folder .now) (start-here .args .name .now) (m .start) (m .body - m .start) (stem-len-here .stem-len .result) (stem-len-here .stem-len .ensures) (omega (arith, file-in (rows-here .rows .inv) (rows-test-here .rows-test .taken) (member-at-here .member-at .ensures))) (if1-here .if1 .left) (agreeing-off (bytes-here .bytes .inv) (bytes-test-here .bytes-test .taken) (if2-here .if2 .taken)))
+    (row-other (start-here .args .archive .now) (start-here .args .folder .now) (start-here .args .name .now) (m .start) (m .body - m .start) (stem-len-here .stem-len .result) (stem-len-here .stem-len .ensures) (omega (arith, file-in (rows-here .rows .inv) (rows-test-here .rows-test .taken) (member-at-here .member-at .ensures))) (if1-here .if1 .left) (ending-off (bytes-here .bytes .inv) (omega arith) (if2-here .if2 .taken)))
 
 bytes-again : tie.Need-bytes-again Inv-bytes μ-bytes Inv-rows μ-rows
 bytes-again c =
     let bytes-here = c .before .before .before .before in
-    let bytes-test-here = c .before .before .before in
     let if2-here = c in
-    agreeing-on (bytes-here .bytes .inv) (bytes-test-here .bytes-test .taken) (if2-here .if2 .left)
+    ending-on (bytes-here .bytes .inv) (omega arith) (if2-here .if2 .left)
 
 in-folder-requires : tie.Need-in-folder-requires Inv-bytes μ-bytes Inv-rows μ-rows
 in-folder-requires c κs =
@@ -136,7 +133,7 @@ returns-2 c =
     let in-folder-here = c .before in
     let if3-here = c in
     searching-found (rows-here .rows .inv) (rows-test-here .rows-test .taken) (member-at-here .member-at .ensures)
-    (row-found (start-here .args .archive .now) (start-here .args .folder .now) (start-here .args .name .now) (m .start) (m .body - m .start) (stem-len-here .stem-len .result) (stem-len-here .stem-len .ensures) (omega (arith, file-in (rows-here .rows .inv) (rows-test-here .rows-test .taken) (member-at-here .member-at .ensures))) (if1-here .if1 .left) (agreeing-all (bytes-here .bytes .inv) (bytes-test-here .bytes-test .left)) (sym (in-folder-here .in-folder .ensures) ∙ not-false _ (if3-here .if3 .left)))
+    (row-found (start-here .args .archive .now) (start-here .args .folder .now) (start-here .args .name .now) (m .start) (m .body - m .start) (stem-len-here .stem-len .result) (stem-len-here .stem-len .ensures) (omega (arith, file-in (rows-here .rows .inv) (rows-test-here .rows-test .taken) (member-at-here .member-at .ensures))) (if1-here .if1 .left) (ending-all (bytes-here .bytes .inv) (bytes-test-here .bytes-test .left)) (sym (in-folder-here .in-folder .ensures) ∙ not-false _ (if3-here .if3 .left)))
 
 pub find-spec : {M : Type 1} → statement M
 find-spec =
@@ -149,5 +146,5 @@ find-spec =
     (λ c κs. search needs) rows-holds member-at-requires (λ c. search needs)
     (λ c. omega (arith, file-in (c .before .before .before .rows .inv) (c .before .before .rows-test .taken) (c .before .member-at .ensures)))
     (λ c. search needs) rows-again add-own bytes-holds (λ c. search needs) (λ c. search needs) (λ c. search needs)
-    (λ c. search needs) rows-again-2 (λ c. search needs) (λ c. search needs) bytes-again in-folder-requires
+    (λ c. search needs) (λ c. search needs) rows-again-2 (λ c. search needs) bytes-again in-folder-requires
     (λ c. search needs) rows-again-3 returns returns-2)

@@ -2,7 +2,7 @@
 use mathlib.Core.Path.{sym, _∙_}
 use Prim.Native.Nat.{_-_, _≤_}
 use native.Mathlib.Omega.{arith}
-use lib.ListN.{length, take}
+use lib.ListN.{take}
 use borrow.Author.Tests.{ltb-true, ltb-false}
 use borrow.Author.Needs.{needs}
 use Rattle.definition.specs.Bytes.{isOctal}
@@ -12,10 +12,10 @@ use Rattle.escapes.proofs.octal_digits.Statement.{statement}
 use Rattle.escapes.proofs.octal_digits.Tie as tie
 
 abbrev Inv-loop : tie.InvT-loop
-Inv-loop text n₀ n = (n ≤ 3) × Passed isOctal (take 3 text) n
+Inv-loop classes text n₀ n = (n ≤ 3) × Passed isOctal (take 3 text) n
 
 abbrev μ-loop : tie.MeasureT-loop
-μ-loop text n₀ n = 3 - n
+μ-loop classes text n₀ n = 3 - n
 
 loop-again : tie.Need-loop-again Inv-loop μ-loop
 loop-again c =

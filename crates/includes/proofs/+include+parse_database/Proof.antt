@@ -40,23 +40,23 @@ use Rattle.parser.proofs.parse_entry.Reads as parse-entry-reads
 use Rattle.includes.proofs.+include+parse_database.{statement}
 use Rattle.includes.proofs.+include+parse_database.Tie.{close}
 
-abbrev μ-include : Measures 5 include-kinds.ps ℕ
-μ-include κs a = 2 * a .1 .1 .1 .0
+abbrev μ-include : Measures 6 include-kinds.ps ℕ
+μ-include κs a = 2 * a .1 .1 .1 .1 .0
 
-abbrev μ-parse-database : Measures 5 parse-database-kinds.ps ℕ
-μ-parse-database κs a = 2 * a .1 .1 .1 .0 + 1
+abbrev μ-parse-database : Measures 6 parse-database-kinds.ps ℕ
+μ-parse-database κs a = 2 * a .1 .1 .1 .1 .0 + 1
 
-abbrev include-at : ℕ → In 5 include-kinds.ps
-include-at t = and 5 include-kinds.ps (is 5 include-kinds.ps μ-include t) include.Pre
+abbrev include-at : ℕ → In 6 include-kinds.ps
+include-at t = and 6 include-kinds.ps (is 6 include-kinds.ps μ-include t) include.Pre
 
-abbrev include-below : ℕ → In 5 include-kinds.ps
-include-below t = and 5 include-kinds.ps (falls 5 include-kinds.ps _<_ μ-include t) include.Pre
+abbrev include-below : ℕ → In 6 include-kinds.ps
+include-below t = and 6 include-kinds.ps (falls 6 include-kinds.ps _<_ μ-include t) include.Pre
 
-abbrev parse-database-at : ℕ → In 5 parse-database-kinds.ps
-parse-database-at t = and 5 parse-database-kinds.ps (is 5 parse-database-kinds.ps μ-parse-database t) parse-database.Pre
+abbrev parse-database-at : ℕ → In 6 parse-database-kinds.ps
+parse-database-at t = and 6 parse-database-kinds.ps (is 6 parse-database-kinds.ps μ-parse-database t) parse-database.Pre
 
-abbrev parse-database-below : ℕ → In 5 parse-database-kinds.ps
-parse-database-below t = and 5 parse-database-kinds.ps (falls 5 parse-database-kinds.ps _<_ μ-parse-database t) parse-database.Pre
+abbrev parse-database-below : ℕ → In 6 parse-database-kinds.ps
+parse-database-below t = and 6 parse-database-kinds.ps (falls 6 parse-database-kinds.ps _<_ μ-parse-database t) parse-database.Pre
 
 abbrev include-calls : ℕ → include-lts.Claims
 include-calls t = (find-reads.Asked, find-reads.Learnt, folder-of-reads.Asked, folder-of-reads.Learnt, parse-database-below t, parse-database.Post)
@@ -65,10 +65,10 @@ abbrev parse-database-calls : ℕ → parse-database-lts.Claims
 parse-database-calls t = (parse-line-reads.Asked, parse-line-reads.Learnt, include-below t, include.Post, parse-entry-reads.Asked, parse-entry-reads.Learnt)
 
 abbrev Inv-loop : parse-database-lts.InvT-loop
-Inv-loop text folder archive depth words₀ store₀ s₀ rest₀ words store s rest = Reading depth (filesOf archive) folder text (world s₀ words₀ store₀) s words store rest
+Inv-loop classes text folder archive depth words₀ store₀ s₀ rest₀ words store s rest = Reading depth (filesOf archive) folder text (world s₀ words₀ store₀) s words store rest
 
 abbrev μ-loop : parse-database-lts.MeasureT-loop
-μ-loop text folder archive depth words₀ store₀ s₀ rest₀ words store s rest = length rest
+μ-loop classes text folder archive depth words₀ store₀ s₀ rest₀ words store s rest = length rest
 
 module _ (t : ℕ) where
   -- ---- An include
@@ -100,7 +100,7 @@ module _ (t : ℕ) where
       let here = c .before .before .before .before .before in
       let find-here = here .before .before .before .before in
       let start-here = find-here .before .before .before .before .before .before .before in
-      (omega (arith, start-here .pre .0, find-here .before .if1 .left), (room-on (sought find-here) (here .before .before .found .given .1) (here .if2 .left), start-here .pre .1 .1))
+      (omega (arith, start-here .pre .0, find-here .before .if1 .left), (room-on (sought find-here) (here .before .before .found .given .1) (here .if2 .left), start-here .pre .1 .1, start-here .pre .1 .2))
 
   include-returns-4 : include-lts.Need-returns-4 (include-calls t) (include-at t) include.Post
   include-returns-4 c =
@@ -126,7 +126,7 @@ module _ (t : ℕ) where
   entered : (c : parse-database-lts.After-known-told5 (parse-database-calls t) (parse-database-at t) parse-database.Post Inv-loop μ-loop) → (
       let rest = c .before .before .before .before .before .loop .rest .now in
       let given = c .before .line3 .given .0 in
-      Enters rest (lineAt rest) (given .0) (given .1 .0) (given .1 .1 .0)
+      Enters rest (lineAt rest) (given .0) (given .1 .0) (given .1 .1 .0) (given .1 .1 .1 .0)
       )
   entered c = rw (c .before .line3 .given .1) at (lined _ (c .before .before .before .before .loop-test .taken) (c .before .before .before .parse-line .ensures))
 
@@ -137,20 +137,20 @@ module _ (t : ℕ) where
       let loop = line-here .before .before .before .before .before .loop in
       let call = call-here .parse-entry in
       Puts (loop .rest .now) (line-here .before .line3 .given .0 .0) (world (loop .s) (loop .words) (loop .store))
-      (call .last .1 .1 .1 .1 .1 .0) (call .last .1 .1 .1 .1 .1 .1 .0) (c .before .put .given .0 .0) (c .before .put .given .0 .1 .0)
+      (call .last .1 .1 .1 .1 .1 .1 .1 .0) (call .last .1 .1 .1 .1 .1 .1 .1 .1 .0) (c .before .put .given .0 .0) (c .before .put .given .0 .1 .0)
       )
   put c = rw (c .before .put .given .1) at (c .before .before .before .before .before .before .before .parse-entry .ensures)
 
   parse-database-add-name : parse-database-lts.Need-add-name (parse-database-calls t) (parse-database-at t) parse-database.Post Inv-loop μ-loop
   parse-database-add-name c =
       let loop-here = c .before .before .before .before .before in
-      omega (arith, named c .named, loop-here .loop .inv .rest-most, loop-here .before .before .before .before .before .before .good .0 .0)
+      omega (arith, named c .named, loop-here .loop .inv .rest-most, loop-here .before .before .before .before .before .before .good .1 .0 .0)
 
   parse-database-include-requires : parse-database-lts.Need-include-requires (parse-database-calls t) (parse-database-at t) parse-database.Post Inv-loop μ-loop
   parse-database-include-requires c κs =
       let loop-here = c .before .before .before .before .before .before .before .before in
       let start-here = loop-here .before .before .before .before .before .before in
-      (omega (arith, start-here .pre .0), (loop-here .loop .inv .room, start-here .pre .1 .1))
+      (omega (arith, start-here .pre .0), (loop-here .loop .inv .room, start-here .pre .1 .1, start-here .pre .1 .2))
 
   parse-database-sub-rest-2 : parse-database-lts.Need-sub-rest-2 (parse-database-calls t) (parse-database-at t) parse-database.Post Inv-loop μ-loop
   parse-database-sub-rest-2 c =
@@ -172,20 +172,20 @@ module _ (t : ℕ) where
   parse-database-loop-again-2 c =
       let call-here = c .before .before .before .before .before .before .before .before in
       let line-here = call-here .before .before .before .before in
-      let kept = call-here .include .kept .1 .1 .1 .1 .1 in
+      let kept = call-here .include .kept .1 .1 .1 .1 .1 .1 in
       reading-include (line-here .before .before .before .before .before .loop .inv) (named line-here) _ _ _ (rw (c .before .before .step .given .1) at (call-here .include .ensures)) (kept .0) (kept .1 .0)
 
   parse-database-same-length : parse-database-lts.Need-same-length (parse-database-calls t) (parse-database-at t) parse-database.Post Inv-loop μ-loop
   parse-database-same-length c =
       let call-here = c .before .before .before .before .before .before .before in
       let line-here = call-here .before .before .before .before in
-      call-here .include .kept .1 .1 .1 .1 .1 .0 ∙ line-here .before .before .before .before .before .loop .inv .words-same
+      call-here .include .kept .1 .1 .1 .1 .1 .1 .0 ∙ line-here .before .before .before .before .before .loop .inv .words-same
 
   parse-database-same-length-2 : parse-database-lts.Need-same-length-2 (parse-database-calls t) (parse-database-at t) parse-database.Post Inv-loop μ-loop
   parse-database-same-length-2 c =
       let call-here = c .before .before .before .before .before .before .before in
       let line-here = call-here .before .before .before .before in
-      call-here .include .kept .1 .1 .1 .1 .1 .1 .0 ∙ line-here .before .before .before .before .before .loop .inv .bytes-same
+      call-here .include .kept .1 .1 .1 .1 .1 .1 .1 .0 ∙ line-here .before .before .before .before .before .loop .inv .bytes-same
 
   parse-database-returns : parse-database-lts.Need-returns (parse-database-calls t) (parse-database-at t) parse-database.Post Inv-loop μ-loop
   parse-database-returns c =
@@ -195,8 +195,10 @@ module _ (t : ℕ) where
 
   parse-database-parse-entry-requires : parse-database-lts.Need-parse-entry-requires (parse-database-calls t) (parse-database-at t) parse-database.Post Inv-loop μ-loop
   parse-database-parse-entry-requires c κs =
-      let l = entered (c .before .before) in
-      record { inside = l .inside; parts = l .parts; key = l .key; room = c .before .before .before .before .before .before .before .loop .inv .room }
+      let l = entered (c .before .before) in (
+        c .before .before .before .before .before .before .before .before .before .before .before .before .before .pre .1 .2,
+        record { inside = l .inside; parts = l .parts; key = l .key; some-key = l .some-key; is-text = l .is-text; room = c .before .before .before .before .before .before .before .loop .inv .room },
+      )
 
   parse-database-sub-rest-3 : parse-database-lts.Need-sub-rest-3 (parse-database-calls t) (parse-database-at t) parse-database.Post Inv-loop μ-loop
   parse-database-sub-rest-3 c =
@@ -220,20 +222,20 @@ module _ (t : ℕ) where
   parse-database-loop-again-3 c =
       let call-here = c .before .before .before .before .before .before .before .before in
       let line-here = call-here .before .before .before in
-      let kept = call-here .parse-entry .kept .1 .1 .1 .1 .1 in
+      let kept = call-here .parse-entry .kept .1 .1 .1 .1 .1 .1 .1 in
       reading-entry (line-here .before .before .before .before .before .loop .inv) (entered line-here) (put (c .before)) (kept .0) (kept .1 .0)
 
   parse-database-same-length-3 : parse-database-lts.Need-same-length-3 (parse-database-calls t) (parse-database-at t) parse-database.Post Inv-loop μ-loop
   parse-database-same-length-3 c =
       let call-here = c .before .before .before .before .before .before .before in
       let line-here = call-here .before .before .before in
-      call-here .parse-entry .kept .1 .1 .1 .1 .1 .0 ∙ line-here .before .before .before .before .before .loop .inv .words-same
+      call-here .parse-entry .kept .1 .1 .1 .1 .1 .1 .1 .0 ∙ line-here .before .before .before .before .before .loop .inv .words-same
 
   parse-database-same-length-4 : parse-database-lts.Need-same-length-4 (parse-database-calls t) (parse-database-at t) parse-database.Post Inv-loop μ-loop
   parse-database-same-length-4 c =
       let call-here = c .before .before .before .before .before .before .before in
       let line-here = call-here .before .before .before in
-      call-here .parse-entry .kept .1 .1 .1 .1 .1 .1 .0 ∙ line-here .before .before .before .before .before .loop .inv .bytes-same
+      call-here .parse-entry .kept .1 .1 .1 .1 .1 .1 .1 .1 .0 ∙ line-here .before .before .before .before .before .loop .inv .bytes-same
 
   parse-database-returns-2 : parse-database-lts.Need-returns-2 (parse-database-calls t) (parse-database-at t) parse-database.Post Inv-loop μ-loop
   parse-database-returns-2 c =
@@ -253,7 +255,7 @@ pub +include+parse-database-spec : {M : Type 1} → statement M
     (λ c. let s = stands t (c .before .before) in omega (arith, s .body-in, s .end-in)) (λ c. search needs) (include-parse-database-requires t)
     (λ c. search needs) (λ c. search needs) (include-returns-4 t))
     λ t. parse-database-lts.spec (parse-database-calls t) (parse-database-at t) parse-database.Post Inv-loop μ-loop
-    (λ c. reading-first _ _ _ (c .before .before .before .before .before .pre .1 .0)) (λ c κs. search needs) (λ c. search needs)
+    (λ c. reading-first _ _ _ (c .before .before .before .before .before .pre .1 .0)) (λ c κs. (c .before .before .before .before .before .before .before .pre .1 .2, c .loop-test .taken)) (λ c. search needs)
     (λ c. skipped t c .inside) (λ c. skipped t c .inside) (λ c. search needs)
     (λ c. skip-less (c .before .before .before .before .before .before .loop .inv) (skipped t (c .before)))
     (λ c. reading-skip (c .before .before .before .before .before .before .loop .inv) (skipped t (c .before))) (λ c. search needs)

@@ -24,8 +24,8 @@ returns-2 c =
     (no-colon _ (parts .result) (parts .ensures) _ (skip-spaces-here .skip-spaces .ensures .0)
     (starts-no (ascii ":") _ (starts .result) (starts .ensures) (not-true _ (c .before .if2 .taken))))
 
-sub-t17 : tie.Need-sub-t17
-sub-t17 c =
+sub-t18 : tie.Need-sub-t18
+sub-t18 c =
     let skip-spaces-here = c .before .before .before in
     let parts = skip-spaces-here .before .before .before .before .parse-components in
     colon-at _ (parts .result) (parts .ensures) _ (skip-spaces-here .skip-spaces .ensures .0) .most
@@ -44,4 +44,4 @@ parse-resource-spec =
     tie.close
     (tie.spec
     (λ c κs. search needs) (λ c κs. search needs) returns inside inside (λ c. search needs) (λ c κs. search needs)
-    (λ c. search needs) (λ c κs. search needs) (λ c κs. search needs) returns-2 sub-t17 (λ c. search needs) returns-3)
+    (λ c. search needs) (λ c κs. search needs) (λ c κs. search needs) returns-2 sub-t18 (λ c. search needs) returns-3)

@@ -3,7 +3,7 @@ use native.Mathlib.Omega.{arith}
 use borrow.Author.Needs.{needs}
 use Rattle.definition.specs.Lists.{ascii, zeroes}
 use Rattle.printing.proofs.Pieces.{piece-long}
-use Rattle.listing.proofs.Lines.{word-most}
+use Rattle.list_lines.proofs.Lines.{word-most}
 use Rattle.listing.proofs.Printing.{listable, accepted-lists, refused-lists}
 use Rattle.listing.proofs.list.Statement.{statement}
 use Rattle.listing.proofs.list.Tie as tie

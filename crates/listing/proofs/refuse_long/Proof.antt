@@ -2,7 +2,7 @@
 use native.Mathlib.Omega.{arith}
 use borrow.Author.Needs.{needs}
 use Rattle.definition.specs.Lists.{ascii}
-use Rattle.listing.proofs.Lines.{word-most}
+use Rattle.list_lines.proofs.Lines.{word-most}
 use Rattle.listing.proofs.Printing.{refuses-long}
 use Rattle.listing.proofs.refuse_long.Statement.{statement}
 use Rattle.listing.proofs.refuse_long.Tie as tie

@@ -10,20 +10,20 @@ use Rattle.parser.proofs.parse_entry.Tie as tie
 -- once the value's text is found, the key is written
 keyed : (c : tie.After-parse-value) → (
     let a = c .before .before .before .before .before .before .before .before .before .before .before .before .before .before .args in
-    Keyed (a .text .now) (a .value) (a .count) (a .size) (a .totals) (a .words .now) (a .store .now)
-    (c .before .before .before .before .before .before .write-key .last .1 .0) (c .before .before .skip-blanks .result .now)
+    Keyed (a .text .now) (a .value) (a .count) (a .size) (a .verbatim) (a .totals) (a .words .now) (a .store .now)
+    (c .before .before .before .before .before .before .write-key .last .1 .1 .1 .1 .0) (c .before .before .skip-blanks .result .now)
     )
 keyed c =
     let start-here = c .before .before .before .before .before .before .before .before .before .before .before .before .before .before in
     let limits-here = c .before .before .before .before .before .before .before .before in
     let w = c .before .before .before .before .before .before .write-key in
     record {
-      asked = start-here .pre;
+      asked = start-here .pre .1;
       few = limits-here .before .before .if1 .left;
       less = limits-here .before .if2 .left;
       fits = limits-here .if3 .left;
       written = w .ensures;
-      long = w .kept .1 .0;
+      long = w .kept .1 .1 .1 .1 .0;
       is = c .before .before .skip-blanks .ensures .0;
     }
 
@@ -31,8 +31,8 @@ keyed c =
 stored : (c : tie.After-known-told) → (
     let value-here = c .before .before .before .before .before in
     let a = value-here .before .before .before .before .before .before .before .before .before .before .before .before .before .before .args in
-    Fits (value-here .before .before .skip-blanks .result .now) (value-here .before .before .before .before .before .before .write-key .last .1 .0) (a .totals .used + a .size)
-    (value-here .parse-value .last .1 .0) (c .before .decoded .given .0 .0) (c .before .decoded .given .0 .1 .0)
+    Fits (value-here .before .before .skip-blanks .result .now) (value-here .before .before .before .before .before .before .write-key .last .1 .1 .1 .1 .0) (a .totals .used + a .size)
+    (value-here .parse-value .last .1 .1 .0) (c .before .decoded .given .0 .0) (c .before .decoded .given .0 .1 .0)
     )
 stored c = decoded-fits (rw (c .before .decoded .given .1) at (c .before .before .before .before .before .parse-value .ensures))
 
@@ -60,7 +60,7 @@ add-passed-2 : tie.Need-add-passed-2
 add-passed-2 c =
     let done-here = c .before .before .before .before in
     let k = keyed (done-here .before .before .before .before .before) in
-    omega (arith, done-here .before .before .before .before .before .before .before .before .before .before .before .before .before .before .before .before .before .before .before .good .0 .0, passed-inside k (stored done-here))
+    omega (arith, done-here .before .before .before .before .before .before .before .before .before .before .before .before .before .before .before .before .before .before .before .good .1 .0 .0, passed-inside k (stored done-here))
 
 returns-5 : tie.Need-returns-5
 returns-5 c =
@@ -74,10 +74,10 @@ returns-6 c =
 
 pub parse-entry-spec : {M : Type 1} → statement M
 parse-entry-spec = tie.close (tie.spec
-    (λ c. many-parts (c .before .before .before .before .pre) (c .if1 .taken))
-    (λ c. many-entries (c .before .before .before .before .before .pre) (c .before .if1 .left) (c .if2 .taken))
+    (λ c. many-parts (c .before .before .before .before .pre .1) (c .if1 .taken))
+    (λ c. many-entries (c .before .before .before .before .before .pre .1) (c .before .if1 .left) (c .if2 .taken))
     (λ c. search needs)
-    (λ c. long-key (c .before .before .before .before .before .before .pre) (c .before .before .if1 .left) (c .before .if2 .left) (c .if3 .taken))
+    (λ c. long-key (c .before .before .before .before .before .before .pre .1) (c .before .before .if1 .left) (c .before .if2 .left) (c .if3 .taken))
     (λ c κs. search needs)
     (λ c. search needs)
     (λ c. search needs)

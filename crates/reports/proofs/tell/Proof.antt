@@ -1,7 +1,8 @@
 -- `reports::tell` meets its contract. Assumes nothing.
 use native.Mathlib.Omega.{arith}
 use Rattle.printing.proofs.Pieces.{piece-long}
-use Rattle.reports.proofs.Telling.{part-long, told-value, told-none, told-refused}
+use Rattle.showing.proofs.Lines.{part-long}
+use Rattle.reports.proofs.Telling.{told-value, told-none, told-refused}
 use borrow.Author.Needs.{needs}
 use Rattle.reports.proofs.tell.Statement.{statement}
 use Rattle.reports.proofs.tell.Tie as tie

@@ -3,7 +3,8 @@ use mathlib.Core.Path.{sym, _∙_}
 use native.Mathlib.Omega.{arith}
 use Rattle.definition.specs.Lists.{ascii}
 use Rattle.printing.proofs.Pieces.{piece-long}
-use Rattle.reports.proofs.Telling.{line-most, both-equal, both-different}
+use Rattle.showing.proofs.Lines.{line-most}
+use Rattle.reports.proofs.Telling.{both-equal, both-different}
 use borrow.Author.Needs.{needs}
 use Rattle.reports.proofs.tell_both.Statement.{statement}
 use Rattle.reports.proofs.tell_both.Tie as tie

@@ -1,3 +1,4 @@
+-- `scan::allowed_in_quark_name` meets its contract. Assumes nothing.
 use mathlib.Core.Path.{sym}
 use Rattle.scan.proofs.Bytes.{name-lower, name-upper, name-mark, name-digit, name-minus}
 use Rattle.scan.proofs.allowed_in_quark_name.Statement.{statement}

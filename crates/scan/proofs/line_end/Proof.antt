@@ -4,7 +4,7 @@ use lib.ListN.{length}
 use borrow.Author.Needs.{needs}
 use Rattle.definition.specs.Bytes.{notNewline}
 use Rattle.scan.proofs.Texts.{line-on, line-over}
-use Rattle.scan.proofs.Runs.{Passed, passed-none, passed-more, passed-stop, passed-end}
+use Rattle.scan.proofs.Runs.{Passed, passed-more, passed-stop, passed-end}
 use Rattle.scan.proofs.line_end.Statement.{statement}
 use Rattle.scan.proofs.line_end.Tie as tie
 
@@ -28,5 +28,5 @@ pub line-end-spec : {M : Type 1} → statement M
 line-end-spec =
     tie.close
     (tie.spec
-    Inv-loop μ-loop (λ c. passed-none notNewline _) (λ c. search needs) returns (λ c. search needs) (λ c. search needs) loop-again
+    Inv-loop μ-loop (λ c κs. search needs) (λ c. record { inside = c .line-blocks .ensures .0; same = c .line-blocks .ensures .1 }) (λ c. search needs) returns (λ c. search needs) (λ c. search needs) loop-again
     (λ c. passed-end notNewline _ (c .before .loop .inv) (c .loop-test .left)))

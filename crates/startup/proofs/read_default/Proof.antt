@@ -1,7 +1,7 @@
 -- `startup::read_default` meets its contract. Assumes nothing.
 use mathlib.Core.Path.{_∙_}
 use borrow.Author.Needs.{needs}
-use Rattle.startup.specs.Lending.{lending, startUp}
+use Rattle.sources.specs.Lending.{lending, startUp}
 use Rattle.startup.proofs.Starting.{reads-start}
 use Rattle.startup.proofs.read_default.Statement.{statement}
 use Rattle.startup.proofs.read_default.Tie as tie

@@ -13,10 +13,10 @@ use Rattle.values.proofs.blanks.Statement.{statement}
 use Rattle.values.proofs.blanks.Tie as tie
 
 abbrev Inv-loop : tie.InvT-loop
-Inv-loop text i₀ i = Dropping text i
+Inv-loop classes text i₀ i = Dropping text i
 
 abbrev μ-loop : tie.MeasureT-loop
-μ-loop text i₀ i = length text - i
+μ-loop classes text i₀ i = length text - i
 
 loop-again : tie.Need-loop-again Inv-loop μ-loop
 loop-again c =

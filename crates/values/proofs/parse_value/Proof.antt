@@ -1,87 +1,80 @@
--- `values::parse_value` meets its contract. The invariant is `Decoding`. Assumes nothing.
+-- `values::parse_value` meets its contract. The invariant is `Decoding`, and it holds behind each run too. Assumes nothing.
 use mathlib.Core.List.{List, [], _∷_}
-use Prim.Native.Nat.{ℕ, _-_}
+use Prim.Native.Nat.{ℕ, _+_, _-_, _≤_}
 use native.Mathlib.Omega.{arith}
-use lib.ListN.{length, getD, drop}
+use lib.ListN.{length, drop}
 use borrow.Author.Needs.{needs}
 use Rattle.values.proofs.Pieces.{Yields, IsPiece, answer-piece}
-use Rattle.values.proofs.Decoding.{over, ended, plain, escaped, Decoding, decoding-first, decoded, piece-fits, byte-more, full, drop-more}
+use Rattle.values.proofs.Decoding.{over, ended, escaped, Decoding, decoding-first, decoded, piece-fits, byte-more, full, drop-more, run-more, run-full}
 use Rattle.values.proofs.parse_value.Statement.{statement}
 use Rattle.values.proofs.parse_value.Tie as tie
 
 abbrev Inv-loop : tie.InvT-loop
-Inv-loop text store₀ at end₀ i₀ store end i = Decoding text store₀ at store end i
+Inv-loop classes text store₀ at end₀ i₀ store end i = Decoding text store₀ at store end i
 
 abbrev μ-loop : tie.MeasureT-loop
-μ-loop text store₀ at end₀ i₀ store end i = length text - i
+μ-loop classes text store₀ at end₀ i₀ store end i = length text - i
 
--- the text that is left where the loop stands
-abbrev left : tie.At-loop Inv-loop μ-loop → List ℕ
-left c = drop (c .loop .i) (c .before .before .before .args .text .now)
+-- the loop's turn, from where a run is copied
+abbrev turn : tie.After-slice-known2 Inv-loop μ-loop → tie.At-loop Inv-loop μ-loop
+turn c = c .before .before .before .before .before .before
 
--- the loop's turn, from what stands behind a test
-abbrev turn : tie.Else1 Inv-loop μ-loop → tie.At-loop Inv-loop μ-loop
-turn c = c .before .before .before
+abbrev text : tie.After-slice-known2 Inv-loop μ-loop → List ℕ
+text c = turn c .before .before .before .args .text .now
 
-plain-in : (c : tie.Then2 Inv-loop μ-loop)
-    → Yields (left (turn (c .before))) (getD (turn (c .before) .before .before .before .args .text .now) (turn (c .before) .loop .i) 0 ∷ []) 1
-plain-in c = plain _ _ (c .before .before .before .loop-test .taken) (c .before .if1 .left) (c .if2 .taken)
+abbrev behind : tie.After-slice-known2 Inv-loop μ-loop → ℕ
+behind c = turn c .loop .i + c .before .before .copy-plain .result
 
-piece-in : (c : tie.After-parse-escape Inv-loop μ-loop) → IsPiece (left (turn (c .before .before .before))) (c .parse-escape .result)
-piece-in c =
-    let if2-here = c .before .before in
-    rw (escaped _ _ (if2-here .before .before .before .loop-test .taken) (if2-here .if2 .left)) at (answer-piece _ (c .parse-escape .ensures))
+run : (c : tie.After-slice-known2 Inv-loop μ-loop)
+    → let start-here = turn c .before .before .before in
+    Decoding (text c) (start-here .args .store .now) (start-here .args .at) (c .before .before .copy-plain .last .1 .0) (turn c .loop .end + c .before .before .copy-plain .result) (behind c)
+run c =
+    let copied = c .before .before .copy-plain .ensures in
+    run-more (turn c .loop .inv) _ _ (c .before .before .before .before .before .smaller .ensures) (copied .0) (copied .1)
+
+-- where the run is, from what a piece is found to be
+abbrev run-of : tie.After-parse-escape-arg Inv-loop μ-loop → tie.After-slice-known2 Inv-loop μ-loop
+run-of c = c .before .before .before .before .before
+
+piece-in : (c : tie.After-parse-escape Inv-loop μ-loop)
+    → let run-here = run-of (c .before) in IsPiece (drop (behind run-here) (text run-here)) (c .parse-escape .result)
+piece-in c = rw (escaped _ _ (c .before .before .before .before .before .if1 .left) (c .before .before .if3 .left)) at (answer-piece _ (c .parse-escape .ensures))
 
 byte-in : (c : tie.After-known-told Inv-loop μ-loop)
-    → Yields (left (turn (c .before .before .before .before .before .before))) (c .before .piece .given .0 .0 ∷ []) (c .before .piece .given .0 .1 .0)
+    → let run-here = run-of (c .before .before .before .before) in
+    Yields (drop (behind run-here) (text run-here)) (c .before .piece .given .0 .0 ∷ []) (c .before .piece .given .0 .1 .0) × (1 ≤ c .before .piece .given .0 .1 .0)
 byte-in c = rw (c .before .piece .given .1) at (piece-in (c .before .before .before))
 
 drop-in : (c : tie.After-known-told2 Inv-loop μ-loop)
-    → Yields (left (turn (c .before .before .before .before .before .before))) [] (c .before .piece2 .given .0 .0)
+    → let run-here = run-of (c .before .before .before .before) in
+    Yields (drop (behind run-here) (text run-here)) [] (c .before .piece2 .given .0 .0) × (1 ≤ c .before .piece2 .given .0 .0)
 drop-in c = rw (c .before .piece2 .given .1) at (piece-in (c .before .before .before))
-
-loop-holds : tie.Need-loop-holds Inv-loop μ-loop
-loop-holds c =
-    let start-here = c .before .before in
-    decoding-first (start-here .args .text .now) (start-here .args .store .now) (start-here .args .at) (start-here .pre)
-
-returns : tie.Need-returns Inv-loop μ-loop
-returns c =
-    let loop-here = c .before .before .before in
-    decoded (loop-here .loop .inv) (ended _ _ (c .before .before .loop-test .taken) (c .if1 .taken))
 
 returns-3 : tie.Need-returns-3 Inv-loop μ-loop
 returns-3 c =
-    let loop-here = turn (c .before .before .before .before .before .before .before) in
-    full (loop-here .loop .inv) (byte-in (c .before)) (c .if4 .taken)
+    let run-here = c .before .before .before .before in
+    let copied = run-here .before .before .copy-plain .ensures in
+    run-full (turn run-here .loop .inv) _ _ (run-here .before .before .before .before .before .smaller .ensures) (copied .0) (copied .1) (c .before .before .before .if1 .left) (c .before .if2 .left) (c .if3 .taken)
 
 add-i-2 : tie.Need-add-i-2 Inv-loop μ-loop
 add-i-2 c =
-    let loop-here = turn (c .before .before .before .before .before .before .before) in
-    omega (arith, piece-fits (loop-here .loop .inv) (byte-in (c .before)), loop-here .before .before .before .good .0 .0)
+    let run-here = run-of (c .before .before .before .before .before) in
+    omega (arith, piece-fits (run run-here) (byte-in (c .before) .0), turn run-here .before .before .before .good .1 .0 .0)
 
-loop-less-2 : tie.Need-loop-less-2 Inv-loop μ-loop
-loop-less-2 c =
-    let loop-here = turn (c .before .before .before .before .before .before .before) in
-    omega (arith, byte-in (c .before) .some, piece-fits (loop-here .loop .inv) (byte-in (c .before)))
-
-loop-again-2 : tie.Need-loop-again-2 Inv-loop μ-loop
-loop-again-2 c =
-    let loop-here = turn (c .before .before .before .before .before .before .before) in
-    byte-more (loop-here .loop .inv) (byte-in (c .before)) (c .if4 .left)
+loop-less : tie.Need-loop-less Inv-loop μ-loop
+loop-less c =
+    let run-here = run-of (c .before .before .before .before .before) in
+    omega (arith, piece-fits (run run-here) (byte-in (c .before) .0), byte-in (c .before) .1)
 
 add-i-3 : tie.Need-add-i-3 Inv-loop μ-loop
 add-i-3 c =
-    let loop-here = turn (c .before .before .before .before .before .before) in
-    omega (arith, piece-fits (loop-here .loop .inv) (drop-in c), loop-here .before .before .before .good .0 .0)
+    let run-here = run-of (c .before .before .before .before) in
+    omega (arith, piece-fits (run run-here) (drop-in c .0), turn run-here .before .before .before .good .1 .0 .0)
 
-loop-less-3 : tie.Need-loop-less-3 Inv-loop μ-loop
-loop-less-3 c =
-    let loop-here = turn (c .before .before .before .before .before .before) in
-    omega (arith, drop-in c .some, piece-fits (loop-here .loop .inv) (drop-in c))
-
-loop-again-3 : tie.Need-loop-again-3 Inv-loop μ-loop
-loop-again-3 c = drop-more (turn (c .before .before .before .before .before .before) .loop .inv) (drop-in c)
+loop-less-2 : tie.Need-loop-less-2 Inv-loop μ-loop
+loop-less-2 c =
+    let run-here = run-of (c .before .before .before .before) in
+    omega (arith, piece-fits (run run-here) (drop-in c .0), drop-in c .1)
 
 pub parse-value-spec : {M : Type 1} → statement M
 parse-value-spec =
@@ -89,33 +82,38 @@ parse-value-spec =
     (tie.spec
     Inv-loop
     μ-loop
-    loop-holds
-    (λ c. omega arith)
-    (λ c. c .before .before .before .loop .inv .kept)
-    returns
-    (λ c. turn (c .before .before) .loop .inv .kept)
-    (λ c. full (turn (c .before .before) .loop .inv) (plain-in (c .before)) (c .if3 .taken))
-    (λ c. omega arith)
-    (λ c. omega arith)
-    (λ c. omega arith)
-    (λ c. omega arith)
-    (λ c. byte-more (turn (c .before .before) .loop .inv) (plain-in (c .before)) (c .if3 .left))
-    (λ c. omega arith)
-    (λ c. omega arith)
+    (λ c. decoding-first _ _ _ (c .before .before .pre .1))
+    (λ c. c .loop .inv .in-text)
+    (λ c. c .loop .inv .in-store)
+    (λ c κs. search needs)
+    (λ c. search needs)
+    (λ c. search needs)
+    (λ c. search needs)
+    (λ c. search needs)
+    (λ c κs. search needs)
+    (λ c. omega (arith, run c .in-store, run c .kept, turn c .before .before .before .good .1 .1 .0 .0))
+    (λ c. omega (arith, run c .in-text, turn c .before .before .before .good .1 .0 .0))
+    (λ c. run (c .before) .kept)
+    (λ c. decoded (run (c .before)) (over _ _ (c .if1 .taken)))
+    (λ c. search needs)
+    (λ c. run (c .before .before .before) .kept)
+    (λ c. decoded (run (c .before .before .before)) (ended _ _ (c .before .before .if1 .left) (c .if2 .taken)))
+    (λ c. run (c .before .before .before .before) .kept)
+    returns-3
+    (λ c. search needs)
+    (λ c. search needs)
     (λ c. search needs)
     (λ c. search needs)
     (λ c κs. search needs)
     (λ c. search needs)
-    (λ c. turn (c .before .before .before .before .before .before .before) .loop .inv .kept)
-    returns-3
-    (λ c. omega arith)
-    (λ c. omega arith)
+    (λ c. run (run-of (c .before .before .before .before .before)) .kept)
+    (λ c. full (run (run-of (c .before .before .before .before .before))) (byte-in (c .before) .0) (c .if4 .taken))
+    (λ c. search needs)
+    (λ c. search needs)
     add-i-2
-    loop-less-2
-    loop-again-2
+    loop-less
+    (λ c. byte-more (run (run-of (c .before .before .before .before .before))) (byte-in (c .before) .0) (c .if4 .left))
     (λ c. search needs)
     add-i-3
-    loop-less-3
-    loop-again-3
-    (λ c. c .before .loop .inv .kept)
-    (λ c. decoded (c .before .loop .inv) (over _ _ (c .loop-test .left))))
+    loop-less-2
+    (λ c. drop-more (run (run-of (c .before .before .before .before))) (drop-in c .0)))

@@ -1,0 +1,2 @@
+-- Laws that the proofs of the blocks and of their users cite.
+pub mod Blocks

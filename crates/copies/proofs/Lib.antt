@@ -1,0 +1,2 @@
+-- Laws that the proofs of the copies and of their users cite.
+pub mod Copying

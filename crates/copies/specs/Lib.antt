@@ -1,0 +1,2 @@
+-- What the contracts of the copies cite beside the definition.
+pub mod Plain

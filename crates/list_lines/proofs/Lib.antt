@@ -1,0 +1,3 @@
+-- Laws of the list program's lines.
+pub mod Lines
+pub mod Rows

@@ -1,0 +1,2 @@
+-- What the contracts of the list program's lines cite beside the definition.
+pub mod Lines

@@ -1,0 +1,2 @@
+-- What the contracts of a plan cite.
+pub mod Plans

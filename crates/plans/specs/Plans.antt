@@ -1,0 +1,59 @@
+-- A plan: what is given for what, and what the next argument is for.
+use mathlib.Core.Bool.{Bool, true, false, _&&_, _||_, not}
+use mathlib.Core.List.{List}
+use Prim.Native.Nat.{ℕ}
+use lib.Dec.{eqb, ltb}
+use lib.ListN.{getD, set, replicate}
+use Rattle.definition.specs.Lists.{if_then_else_}
+use Rattle.options.specs.Options.{text, name, class, anything, operand}
+use Rattle.plans.specs.declared.Plan.{Plan}
+
+-- the numbers of the arguments given for each thing, 0 for none; the first that is not understood; what is next; is help asked for, and a chain?
+abbrev pub plan : List ℕ → ℕ → ℕ → Bool → Bool → Plan
+plan given wrong next help chain = record { given = given; wrong = wrong; next = next; help = help; chain = chain }
+
+abbrev pub nothingAsked : Plan
+nothingAsked = plan (replicate 11 0) 0 anything false false
+
+-- the plan with one field more
+module _ (p : Plan) where
+  abbrev pub toGiven : List ℕ → Plan
+  toGiven given = plan given (p .wrong) (p .next) (p .help) (p .chain)
+
+  abbrev pub toWrong : ℕ → Plan
+  toWrong i = plan (p .given) i (p .next) (p .help) (p .chain)
+
+  abbrev pub toNext : ℕ → Plan
+  toNext n = plan (p .given) (p .wrong) n (p .help) (p .chain)
+
+  abbrev pub toHelp : Plan
+  toHelp = plan (p .given) (p .wrong) (p .next) true (p .chain)
+
+  abbrev pub toChain : Plan
+  toChain = plan (p .given) (p .wrong) (p .next) (p .help) true
+
+-- the argument that was given for something
+unfoldable pub givenFor : Plan → ℕ → ℕ
+givenFor p what = if ltb what 11 then getD (p .given) what 0 else 0
+
+-- the first argument that is not understood counts
+unfoldable pub misunderstood : Plan → ℕ → Plan
+misunderstood p i = if eqb (p .wrong) 0 then toWrong p i else p
+
+-- a second one is not understood
+unfoldable pub once : Plan → ℕ → ℕ → Plan
+once p what i = if eqb (getD (p .given) what 0) 0 then toGiven p (set (p .given) what i) else misunderstood p i
+
+-- in a chain the first operand is the name and the second the class
+unfoldable pub inChain : List ℕ → List ℕ
+inChain given = set (set (set given text 0) name (getD given text 0)) class (getD given name 0)
+
+unfoldable pub settled : Plan → Plan
+settled p =
+    if p .chain
+    then (if eqb (getD (p .given) class 0) 0 then toGiven p (inChain (p .given)) else misunderstood (toGiven p (inChain (p .given))) (getD (p .given) class 0))
+    else p
+
+-- the name is there, and no option lacks its value
+unfoldable pub isWhole : Plan → Bool
+isWhole p = not (eqb (givenFor p name) 0) && (eqb (p .next) anything || eqb (p .next) operand)

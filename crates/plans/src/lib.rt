@@ -1,0 +1,96 @@
+// What getres is to do, as its arguments say it: a plan.
+ghost use mathlib.Core.Path.{_≡_};
+ghost use Prim.Native.Nat.{_<_};
+ghost use Rattle.plans.specs.Plans.{nothingAsked, givenFor, misunderstood, once, settled, isWhole};
+use options::ANY;
+use options::CLASS;
+use options::NAME;
+use options::OPERAND;
+use options::TEXT;
+
+// Arguments by their numbers, of which 0, the program's own name, says that there is none. `given` has those that the options name,
+// from TEXT to HOST; `wrong` is the first that is not understood; `next` is what the next one is for; `help` and `chain`, a start-up
+// chain, are asked for or not.
+pub struct Plan {
+    pub given: [usize; 11],
+    pub wrong: usize,
+    pub next: usize,
+    pub help: bool,
+    pub chain: bool,
+}
+
+pub fn nothing_asked() -> Plan
+    ensures { λ r. ⌜ r ≡ nothingAsked ⌝ }
+{
+    Plan {
+        given: [0; 11],
+        wrong: 0,
+        next: ANY,
+        help: false,
+        chain: false,
+    }
+}
+
+// The argument that was given for something.
+pub fn given(plan: Plan, what: usize) -> usize
+    ensures { λ r. ⌜ r ≡ givenFor plan what ⌝ }
+{
+    if what < 11 {
+        return plan.given[what];
+    }
+    0
+}
+
+pub fn misunderstood(plan: Plan, i: usize) -> Plan
+    ensures { λ r. ⌜ r ≡ misunderstood plan i ⌝ }
+{
+    let mut more = plan;
+    if plan.wrong == 0 {
+        more.wrong = i;
+        return more;
+    }
+    plan
+}
+
+// Argument `i`, given for something. A second one is not understood.
+pub fn once(plan: Plan, what: usize, i: usize) -> Plan
+    requires { ⌜ what < 11 ⌝ }
+    ensures { λ r. ⌜ r ≡ once plan what i ⌝ }
+{
+    if plan.given[what] == 0 {
+        let mut more = plan;
+        more.given[what] = i;
+        return more;
+    }
+    misunderstood(plan, i)
+}
+
+// The plan once all arguments are taken: a chain has no text among its operands, and one that is over is not understood.
+pub fn settled(plan: Plan) -> Plan
+    ensures { λ r. ⌜ r ≡ settled plan ⌝ }
+{
+    if plan.chain {
+        let mut more = plan;
+        more.given[TEXT] = 0;
+        more.given[NAME] = plan.given[TEXT];
+        more.given[CLASS] = plan.given[NAME];
+        if plan.given[CLASS] == 0 {
+            return more;
+        }
+        return misunderstood(more, plan.given[CLASS]);
+    }
+    plan
+}
+
+// Is the name there, and does no option lack its value?
+pub fn is_whole(plan: Plan) -> bool
+    ensures { λ r. ⌜ r ≡ isWhole plan ⌝ }
+{
+    if given(plan, NAME) == 0 {
+        return false;
+    }
+    if plan.next == ANY {
+        return true;
+    }
+    plan.next == OPERAND
+}

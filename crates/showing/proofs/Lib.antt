@@ -1,0 +1,2 @@
+-- Laws of an answer's line.
+pub mod Lines

@@ -1,0 +1,2 @@
+-- What the contracts of an answer's line cite beside the definition.
+pub mod Showing

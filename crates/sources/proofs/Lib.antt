@@ -1,0 +1,2 @@
+-- Laws of the choice of texts.
+pub mod Choosing

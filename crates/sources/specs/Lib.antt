@@ -1,0 +1,2 @@
+-- What the contracts of a start-up and of its texts cite beside the definition.
+pub mod Lending

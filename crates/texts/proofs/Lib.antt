@@ -1,0 +1,2 @@
+-- Laws of the texts of a reading.
+pub mod Texts
