@@ -71,6 +71,11 @@ static inline enum resource_manager_status resource_manager_status_of(uint64_t a
  * after. A name is parts joined by single '/', of A-Z a-z 0-9 '_' '-' '.', and no part is "." or "..". Names rise
  * strictly by bytes. The shelf of no files is two zero bytes.
  *
+ * An include is looked for below the folder of its own file (what stands before the last '/' of the file's name; none
+ * for a main text). Of folder and name joined, parts "." are dropped, and ".." removes the part before it, whatever that
+ * is. What goes above the root, has an empty part, ends in "." or "..", or has more than 96 bytes then, finds nothing,
+ * and adds nothing.
+ *
  * Accepted: status OK, with the entries and the opens in the answer, and unused words and bytes of the image zeroed.
  * Refused: status 1 to 7. 1 to 3 change neither buffer; 4 to 7 leave the image of no entries.
  */

@@ -7,8 +7,12 @@ use std::fmt;
 
 /// The files that a text may include, each under its name. They stand in for a directory: no file is opened in a reading.
 ///
-/// A name is parts joined by single `/`. A part is one or more of A–Z a–z 0–9 `_` `-` `.`, and neither `.` nor `..`. An
-/// include in a file is looked for beside that file, as in a directory.
+/// A name is parts joined by single `/`. A part is one or more of A–Z a–z 0–9 `_` `-` `.`, and neither `.` nor `..`.
+///
+/// An include in a file is looked for beside that file, as in a directory. In its name `.` parts are dropped, and `..`
+/// removes the part before it, folder and name taken together. What a directory would need on the way need not be there:
+/// `no-such-folder/../pack` is `pack`. An include that goes above the archive's root, has an empty part (and so begins or
+/// ends with `/`, or is empty), or ends in `.` or `..`, finds nothing, and adds nothing.
 ///
 /// The archive is always laid out as a reading takes it, a layout that [`as_bytes`](Self::as_bytes) shows and that the
 /// product's documents call a shelf.
@@ -17,12 +21,14 @@ use std::fmt;
 /// use resource_manager::{Archive, ArchiveErrorKind, Database};
 ///
 /// let mut archive = Archive::new();
-/// archive.insert("pack/settings", b"#include \"fonts\"")?;
+/// archive.insert("pack/settings", b"#include \"./fonts\"\n#include \"../common\"")?;
 /// archive.insert("pack/fonts", b"reader.font.size: 14")?;
+/// archive.insert("common", b"reader.font.face: serif")?;
 /// assert_eq!(archive.insert("../etc/passwd", b"").unwrap_err().kind(), ArchiveErrorKind::BadName);
 ///
 /// let database = Database::new_from_data_with_archive(b"#include \"pack/settings\"", &archive)?;
 /// assert_eq!(database.get_string("reader.font.size", ""), Some("14"));
+/// assert_eq!(database.get_string("reader.font.face", ""), Some("serif"));
 /// # Ok::<(), Box<dyn std::error::Error>>(())
 /// ```
 #[derive(Clone, PartialEq, Eq)]

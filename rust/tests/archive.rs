@@ -97,3 +97,26 @@ fn words_of_a_refusal() {
     let error = Archive::new().insert("a b", b"").unwrap_err();
     assert_eq!(error.to_string(), "file \"a b\": a name that is not parts of A-Z a-z 0-9 _ - . joined by /");
 }
+
+/// The value of `a` in a main text that includes `name`, with a file `d/p` that includes `include`.
+fn included(name: &str, include: &str) -> Option<String> {
+    let mut archive = Archive::new();
+    for (file, body) in [("d/e/q", "a:3"), ("d/q", "a:2"), ("q", "a:1")] {
+        archive.insert(file, body.as_bytes()).unwrap();
+    }
+    archive.insert("d/p", format!("#include \"{include}\"").as_bytes()).unwrap();
+    let text = format!("#include \"{name}\"");
+    let database = Database::new_from_data_with_archive(text.as_bytes(), &archive).unwrap();
+    database.get_string("a", "").map(String::from)
+}
+
+#[test]
+fn dots_in_the_name_of_an_include() {
+    for (include, value) in [("q", "2"), ("./q", "2"), ("../q", "1"), ("e/q", "3"), ("e/../q", "2"), ("x/../../d/./e/q", "3")] {
+        assert_eq!(included("d/p", include).as_deref(), Some(value), "{include}");
+        assert_eq!(included("./x/../d/p", include).as_deref(), Some(value), "{include}");
+    }
+    for include in ["../../q", "../../d/q", "", "/q", ".//q", "q/", ".", "..", "q/.", "q/..", "e/q/.."] {
+        assert_eq!(included("d/p", include), None, "{include}");
+    }
+}

@@ -402,6 +402,17 @@ static void depth(void)
     expect("the deepest include", read_it(), accepted(RESOURCE_MANAGER_DEPTH, RESOURCE_MANAGER_DEPTH));
 }
 
+/* The path of an include is on the stack too. */
+static void dots(void)
+{
+    struct file file = {"d/p", "#include \"../d/./p\"\na:1"};
+    set_text("", 0, "#include \"./x/../d/p\"");
+    set_shelf(&file, 1);
+    expect("the deepest include by dots", read_it(), accepted(RESOURCE_MANAGER_DEPTH, RESOURCE_MANAGER_DEPTH));
+    set_text("", 0, "#include \"../d/p\"");
+    expect("an include above the root", read_it(), accepted(0, 0));
+}
+
 static void entry_parts(void)
 {
     set_shelf(NULL, 0);
@@ -733,6 +744,7 @@ static void readings(void)
     shelf_names();
     opens();
     depth();
+    dots();
     entry_parts();
     entries();
     store();

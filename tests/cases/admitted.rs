@@ -1,5 +1,5 @@
-//! Which readings and lookups document 01 admits to the run beside the Rust, and which of them the Rust
-//! can hold. Of chains those are admitted that do not name their own files, which stand beside the archive's.
+//! Which readings and lookups document 01 admits to the run beside the Rust, with document 02 (iii)'s names, and
+//! which of them the Rust can hold. Of chains those are admitted that do not name their own files, which stand beside the archive's.
 
 use crate::chains::names_own_file;
 use model::archive::judge;
@@ -16,7 +16,7 @@ const MOST_ALIGNMENTS: u64 = 20_000;
 /// Why a case is left out of the run.
 pub type LeftOut = String;
 
-/// The model's reading of a source that document 01 admits to the run.
+/// The model's reading of a source that the documents admit to the run.
 pub fn admitted_reading(source: &Source) -> Result<Reading, LeftOut> {
     let refused = |refusal: Refusal| format!("readings refused by {}", refusal.number());
     let texts = source.texts();
@@ -31,10 +31,10 @@ pub fn admitted_reading(source: &Source) -> Result<Reading, LeftOut> {
         return Err("archives with a file that is also a folder".to_string());
     }
     let reading = read(&texts, &archive).map_err(refused)?;
-    if reading.met_odd_name {
-        return Err("includes of names not built like an archive's".to_string());
+    match reading.outside {
+        Some(why) => Err(why.to_string()),
+        None => Ok(reading),
     }
-    Ok(reading)
 }
 
 /// Whether document 01 admits a query to the run, and the Rust can hold its alignments with the keys.

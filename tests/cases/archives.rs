@@ -1,5 +1,6 @@
 //! Random archives whose files include each other, and texts that include them.
 
+use crate::dotted::way;
 use crate::draw::Draw;
 use crate::texts;
 use model::archive::{folder, lay_out, File};
@@ -13,30 +14,46 @@ const NAMES: [&[u8]; 16] = [
 /// Draws a text of at most so many lines for a query.
 pub(crate) type Write = fn(&mut Draw, usize, &Query) -> Vec<u8>;
 
-/// A main text with an archive, and a query with which many of their entries align.
-pub fn source(draw: &mut Draw) -> (Source, Query) {
-    source_of(draw, texts::text)
+/// Draws a name for an include of one of these files from a folder.
+pub(crate) type Name = fn(&mut Draw, &[Vec<u8>], &[u8]) -> Vec<u8>;
+
+/// How lines and includes are drawn.
+#[derive(Clone, Copy)]
+pub(crate) struct Style {
+    pub write: Write,
+    pub name: Name,
 }
+
+/// Lines of every kind, and names of which some have dots.
+pub(crate) const USUAL: Style = Style { write: texts::text, name: include_name };
 
 /// The same with few values, so that entries often carry the same bytes.
-pub fn source_of_few_values(draw: &mut Draw) -> (Source, Query) {
-    source_of(draw, texts::text_of_few_values)
+pub(crate) const OF_FEW_VALUES: Style = Style { write: texts::text_of_few_values, name: include_name };
+
+/// A main text with an archive, and a query with which many of their entries align.
+pub fn source(draw: &mut Draw) -> (Source, Query) {
+    source_of(draw, USUAL)
 }
 
-fn source_of(draw: &mut Draw, write: Write) -> (Source, Query) {
+/// The same with few values.
+pub fn source_of_few_values(draw: &mut Draw) -> (Source, Query) {
+    source_of(draw, OF_FEW_VALUES)
+}
+
+pub(crate) fn source_of(draw: &mut Draw, style: Style) -> (Source, Query) {
     let query = texts::query(draw);
     let names = names(draw);
-    let mut text = write(draw, 2, &query);
+    let mut text = (style.write)(draw, 2, &query);
     for _ in 0..draw.between(1, 3) {
-        put_include(draw, &mut text, &names, b"");
-        text.extend(write(draw, 2, &query));
+        put_include(draw, &mut text, &names, b"", style.name);
+        text.extend((style.write)(draw, 2, &query));
     }
-    (Source::text(text, archive(draw, &names, &query, write)), query)
+    (Source::text(text, archive(draw, &names, &query, style)), query)
 }
 
 /// An archive of files with these names that include each other.
-pub(crate) fn archive(draw: &mut Draw, names: &[Vec<u8>], query: &Query, write: Write) -> Vec<u8> {
-    let file = |name: &Vec<u8>| File { name: name.clone(), body: body(draw, names, name, query, write) };
+pub(crate) fn archive(draw: &mut Draw, names: &[Vec<u8>], query: &Query, style: Style) -> Vec<u8> {
+    let file = |name: &Vec<u8>| File { name: name.clone(), body: body(draw, names, name, query, style) };
     lay_out(&names.iter().map(file).collect::<Vec<File>>())
 }
 
@@ -62,24 +79,24 @@ fn long_name(draw: &mut Draw, length: usize) -> Vec<u8> {
     name
 }
 
-fn body(draw: &mut Draw, names: &[Vec<u8>], name: &[u8], query: &Query, write: Write) -> Vec<u8> {
+fn body(draw: &mut Draw, names: &[Vec<u8>], name: &[u8], query: &Query, style: Style) -> Vec<u8> {
     // Mostly files after this one, so that not every archive goes round in circles.
     let later = names.iter().position(|of| of == name).map_or(0, |at| at + 1);
     let names = if draw.one_in(4) { names } else { &names[later..] };
-    let mut body = write(draw, 2, query);
+    let mut body = (style.write)(draw, 2, query);
     for _ in 0..[0, 1, 1, 2][draw.below(4)] {
-        put_include(draw, &mut body, names, folder(name));
-        body.extend(write(draw, 1, query));
+        put_include(draw, &mut body, names, folder(name), style.name);
+        body.extend((style.write)(draw, 1, query));
     }
     body
 }
 
 /// Puts an include on a line of its own; seldom one that misses being an include.
-pub(crate) fn put_include(draw: &mut Draw, text: &mut Vec<u8>, names: &[Vec<u8>], folder: &[u8]) {
+pub(crate) fn put_include(draw: &mut Draw, text: &mut Vec<u8>, names: &[Vec<u8>], folder: &[u8], name: Name) {
     if !text.is_empty() && !text.ends_with(b"\n") {
         text.push(b'\n');
     }
-    let name = include_name(draw, names, folder);
+    let name = name(draw, names, folder);
     let spaces = |draw: &mut Draw| draw.pick(&[b"".as_slice(), b" ", b" ", b"  "]).to_vec();
     let mut line =
         [b"#".to_vec(), spaces(draw), b"include".to_vec(), spaces(draw), b"\"".to_vec(), name, b"\"".to_vec()].concat();
@@ -97,8 +114,8 @@ pub(crate) fn put_include(draw: &mut Draw, text: &mut Vec<u8>, names: &[Vec<u8>]
     text.push(b'\n');
 }
 
-/// Mostly a name that is found from the folder.
-fn include_name(draw: &mut Draw, names: &[Vec<u8>], folder: &[u8]) -> Vec<u8> {
+/// Mostly a name that is found from the folder, in one of three by dots.
+pub(crate) fn include_name(draw: &mut Draw, names: &[Vec<u8>], folder: &[u8]) -> Vec<u8> {
     let from_folder = |name: &Vec<u8>| match folder {
         [] => Some(name.clone()),
         _ => name.strip_prefix(folder)?.strip_prefix(b"/").map(<[u8]>::to_vec),
@@ -110,6 +127,10 @@ fn include_name(draw: &mut Draw, names: &[Vec<u8>], folder: &[u8]) -> Vec<u8> {
         2 => vec![b'x'; draw.between(254, 300)],
         3 => draw.pick(&[b"./p".as_slice(), b"../p", b"d//p", b"d/", b"/p", b"d/../p", b"p\x00", b"\xff", b"p q"]).to_vec(),
         4..=15 => NAMES[draw.below(NAMES.len())].to_vec(),
+        16..=44 if !names.is_empty() => {
+            let file = draw.below(names.len());
+            way(draw, folder, &names[file])
+        }
         _ if found.is_empty() => NAMES[draw.below(NAMES.len())].to_vec(),
         _ => found[draw.below(found.len())].clone(),
     }

@@ -1,7 +1,8 @@
 //! Chains of a start-up: every combination of texts that could be read and could not, with random texts
 //! and archives, and those near the limits.
 
-use crate::archives::{self, put_include, Write};
+use crate::archives::{self, put_include, Style, OF_FEW_VALUES, USUAL};
+use crate::dotted::{DOTTED, DOTTED_OF_FEW_VALUES};
 use crate::draw::Draw;
 use crate::named_chains::{at_limits, named};
 use crate::readings::{Extent, See, Seen};
@@ -126,11 +127,11 @@ const UNFINISHED: [&[u8]; 14] = [
 ];
 
 /// A text that includes some of the files; one in three ends in an unfinished line.
-fn text(draw: &mut Draw, names: &[Vec<u8>], query: &Query, write: Write) -> Vec<u8> {
-    let mut text = write(draw, 2, query);
+fn text(draw: &mut Draw, names: &[Vec<u8>], query: &Query, style: Style) -> Vec<u8> {
+    let mut text = (style.write)(draw, 2, query);
     for _ in 0..draw.below(3) {
-        put_include(draw, &mut text, names, b"");
-        text.extend(write(draw, 2, query));
+        put_include(draw, &mut text, names, b"", style.name);
+        text.extend((style.write)(draw, 2, query));
     }
     if draw.one_in(3) {
         if !text.is_empty() && !text.ends_with(b"\n") {
@@ -146,14 +147,14 @@ fn text(draw: &mut Draw, names: &[Vec<u8>], query: &Query, write: Write) -> Vec<
 
 /// A chain of this combination with an archive, and a query with which many of their entries align.
 pub fn chain(draw: &mut Draw, combination: Combination) -> (Source, Query) {
-    chain_of(draw, combination, texts::text)
+    chain_of(draw, combination, USUAL)
 }
 
-fn chain_of(draw: &mut Draw, combination: Combination, write: Write) -> (Source, Query) {
+fn chain_of(draw: &mut Draw, combination: Combination, style: Style) -> (Source, Query) {
     let query = texts::query(draw);
     let names = archives::names(draw);
-    let start_up = combination.start_up(|| text(draw, &names, &query, write));
-    (Source::chain(start_up, archives::archive(draw, &names, &query, write)), query)
+    let start_up = combination.start_up(|| text(draw, &names, &query, style));
+    (Source::chain(start_up, archives::archive(draw, &names, &query, style)), query)
 }
 
 /// Calls `see` with every combination in turn, so many rounds, and as often with one of those that have a text in both steps.
@@ -190,8 +191,13 @@ fn crowded_chain(draw: &mut Draw) -> Source {
 }
 
 /// Families of readings of chains.
-pub const FAMILIES: [(&str, readings::Family); 4] =
-    [("chains-by-name", by_name), ("chain-limits", limits), ("chains", random), ("chains-near-limits", near_the_limits)];
+pub const FAMILIES: [(&str, readings::Family); 5] = [
+    ("chains-by-name", by_name),
+    ("chain-limits", limits),
+    ("chains", random),
+    ("dotted-chains", with_dots),
+    ("chains-near-limits", near_the_limits),
+];
 
 fn by_name(_: Extent, see: See) -> Seen {
     named().iter().try_for_each(|named| see(&named.source))
@@ -205,12 +211,21 @@ fn random(extent: Extent, see: See) -> Seen {
     in_turn(extent, "chains", 10, |draw, combination| see(&chain(draw, combination).0))
 }
 
+/// Chains whose includes all have dots.
+fn with_dots(extent: Extent, see: See) -> Seen {
+    extent.draw("chains with dots", 600, |draw| {
+        let combination = Combination::nth(draw.below(Combination::COUNT));
+        see(&chain_of(draw, combination, DOTTED).0)
+    })
+}
+
 fn near_the_limits(extent: Extent, see: See) -> Seen {
     extent.draw("chains near the limits", 1_000, |draw| see(&crowded_chain(draw)))
 }
 
 /// Families of chains for the third term.
-pub const STRIKES: [(&str, struck::Family); 2] = [("chains", random_struck), ("chains-of-few-values", few_values_struck)];
+pub const STRIKES: [(&str, struck::Family); 3] =
+    [("chains", random_struck), ("chains-of-few-values", few_values_struck), ("dotted-chains", struck_with_dots)];
 
 fn random_struck(extent: Extent, strike: Strike) -> Seen {
     in_turn(extent, "third term of chains", 1, |draw, combination| {
@@ -222,7 +237,15 @@ fn random_struck(extent: Extent, strike: Strike) -> Seen {
 /// Entries that often carry the same bytes.
 fn few_values_struck(extent: Extent, strike: Strike) -> Seen {
     in_turn(extent, "third term of chains with few values", 1, |draw, combination| {
-        let (source, query) = chain_of(draw, combination, texts::text_of_few_values);
+        let (source, query) = chain_of(draw, combination, OF_FEW_VALUES);
+        each_file(&source, &and_another(draw, query), strike)
+    })
+}
+
+fn struck_with_dots(extent: Extent, strike: Strike) -> Seen {
+    extent.draw("third term of chains with dots", 600, |draw| {
+        let combination = Combination::nth(draw.below(Combination::COUNT));
+        let (source, query) = chain_of(draw, combination, DOTTED_OF_FEW_VALUES);
         each_file(&source, &and_another(draw, query), strike)
     })
 }

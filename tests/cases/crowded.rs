@@ -1,7 +1,9 @@
 //! Random sources near the limits of a reading, about as many within them as past them.
 
+use crate::dotted::way;
 use crate::draw::Draw;
 use crate::texts;
+use model::archive::folder;
 use model::limits::{BODIES_BYTES, ENTRIES, OPENS, TEXT_BYTES};
 use records::Source;
 
@@ -23,6 +25,15 @@ fn near(draw: &mut Draw, limit: usize) -> usize {
 
 fn include(name: &[u8]) -> Vec<u8> {
     [b"#include \"", name, b"\"\n"].concat()
+}
+
+/// An include of a file from another, in one of three by a name with dots.
+fn include_from(draw: &mut Draw, from: &[u8], file: &[u8]) -> Vec<u8> {
+    let from = folder(from);
+    if draw.one_in(3) {
+        return include(&way(draw, from, file));
+    }
+    include(if from.is_empty() { file } else { &file[from.len() + 1..] })
 }
 
 /// Lines in an order of their own.
@@ -49,7 +60,7 @@ fn many_entries(draw: &mut Draw) -> Source {
     let in_file = draw.between(1, 100);
     let includes = draw.below(total / in_file + 1);
     let mut lines: Vec<Vec<u8>> = (0..total - includes * in_file).map(|_| short_line(draw)).collect();
-    lines.extend(vec![include(b"p"); includes]);
+    lines.extend((0..includes).map(|_| include_from(draw, b"", b"p")));
     for _ in 0..draw.below(20) {
         lines.push(idle_line(draw));
     }
@@ -114,26 +125,28 @@ fn many_opens(draw: &mut Draw) -> Source {
 /// Files in a ring, read until the depths end, with entries and a leaf on the way.
 fn deep(draw: &mut Draw) -> Source {
     let count = draw.between(1, 63);
-    let folder = draw.pick(&[b"".as_slice(), b"d/", b"d/e/"]).to_vec();
-    let mut files = vec![([&folder, b"leaf".as_slice()].concat(), short_line(draw))];
+    let folder = draw.pick(&[b"".as_slice(), b"d/", b"d/e/"]);
+    let leaf = [folder, b"leaf"].concat();
+    let name = |n: usize| [folder, format!("f{n}").as_bytes()].concat();
+    let mut files = vec![(leaf.clone(), short_line(draw))];
     for n in 0..count {
         let mut body = Vec::new();
         if draw.one_in(2) {
             body.extend(short_line(draw));
         }
         if draw.one_in(3) {
-            body.extend(include(b"leaf"));
+            body.extend(include_from(draw, &leaf, &leaf));
         }
-        body.extend(include(format!("f{}", (n + 1) % count).as_bytes()));
+        body.extend(include_from(draw, &leaf, &name((n + 1) % count)));
         if draw.one_in(2) {
             body.extend(short_line(draw));
         }
         if draw.one_in(3) {
-            body.extend(include(b"leaf"));
+            body.extend(include_from(draw, &leaf, &leaf));
         }
-        files.push(([&folder, format!("f{n}").as_bytes()].concat(), body));
+        files.push((name(n), body));
     }
-    let mut text = include(&[&folder, b"f0".as_slice()].concat());
+    let mut text = include_from(draw, b"", &name(0));
     text.extend(short_line(draw));
     let files: Vec<(&[u8], &[u8])> = files.iter().map(|(name, body)| (&name[..], &body[..])).collect();
     Source::with(&text, &files)

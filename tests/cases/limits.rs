@@ -255,7 +255,7 @@ fn folders() -> Vec<Edge> {
         edge(
             "names that a file system would resolve",
             Source::with(b"#include \"./p\"\n#include \"d/../p\"\n#include \"/p\"\n#include \"p/\"", &[(b"p", b"a:")]),
-            Ok((0, 0)),
+            Ok((2, 2)),
         ),
         edge("a name that is not UTF-8", Source::with(b"#include \"\xff\"\na:1", &[(b"p", b"b:")]), Ok((1, 0))),
         edge("an empty file", Source::with(&include(b"p"), &[(b"p", b"")]), Ok((0, 1))),

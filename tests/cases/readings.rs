@@ -1,12 +1,11 @@
 //! Families of readings: all short texts and archives, random ones, and those at the limits.
 
-use crate::crowded;
 use crate::damage::{damage_text, damaged};
 use crate::draw::Draw;
 use crate::limits::{edges, Edge};
 use crate::named::{named, small};
 use crate::words::{each_word, words};
-use crate::{archives, realistic, texts};
+use crate::{archives, crowded, dotted, realistic, texts};
 use model::archive::{judge, lay_out, File};
 use records::Source;
 
@@ -33,13 +32,17 @@ pub type See<'a> = &'a mut dyn FnMut(&Source) -> Seen;
 
 pub type Family = fn(Extent, See) -> Seen;
 
-pub const FAMILIES: [(&str, Family); 16] = [
+pub const FAMILIES: [(&str, Family); 20] = [
     ("texts", every_text),
     ("values", every_value),
     ("keys", every_key),
     ("bytes", every_pair_of_bytes),
     ("include-lines", every_include_line),
     ("include-names", every_include_name),
+    ("dotted-by-name", dotted::by_name),
+    ("dotted-names", dotted::every_name),
+    ("admitted-dotted-names", dotted::every_admitted_name),
+    ("dotted-ways", dotted::random_ways),
     ("archive-bytes", every_short_archive),
     ("archive-names", every_short_name),
     ("archive-damage", every_damage),
@@ -187,6 +190,7 @@ pub fn at_limits() -> Vec<Edge> {
     let mut edges = edges();
     edges.push(edge("64 files in a ring", ring(), Ok((100, 100))));
     edges.push(edge("64 files in a chain", chain(), Ok((64, 64))));
+    edges.extend(dotted::edges());
     edges
 }
 

@@ -3,7 +3,7 @@
 use crate::draw::Draw;
 use records::{Query, Source};
 
-const LINES: [&str; 46] = [
+const LINES: [&str; 47] = [
     "! Terminal settings",
     "!",
     "",
@@ -50,12 +50,16 @@ const LINES: [&str; 46] = [
     "no colon on this line",
     "#define BLACK #000000",
     "#include \"colours/dark\"",
+    "#include \"./packs/common\"",
 ];
 
 const BODIES: [(&str, &str); 4] = [
     ("colours/dark", "*background: #002b36\n*foreground: #839496\n#include \"cursor\"\n"),
     ("colours/cursor", "! Beside dark\nXTerm*cursorColor: #93a1a1\n*cursorBlink: on"),
-    ("packs/dictionary", "Reader.dict.search.range: chapter\n*dict*font: 14\n#include \"common\"\n"),
+    (
+        "packs/dictionary",
+        "Reader.dict.search.range: chapter\n*dict*font: 14\n#include \"./common\"\n#include \"../colours/cursor\"\n",
+    ),
     ("packs/common", "*search.wrap: true\n*range: book\n"),
 ];
 

@@ -3,7 +3,7 @@
 use crate::draw::Draw;
 use crate::readings::{Extent, Seen};
 use crate::texts;
-use crate::{archives, crowded, realistic};
+use crate::{archives, crowded, dotted, realistic};
 use model::archive::judge;
 use records::{Query, Source};
 
@@ -12,8 +12,13 @@ pub type Strike<'a> = &'a mut dyn FnMut(&Source, usize, &[Query]) -> Seen;
 
 pub type Family = fn(Extent, Strike) -> Seen;
 
-pub const FAMILIES: [(&str, Family); 4] =
-    [("archives", random), ("few-values", few_values), ("realistic", like_real_files), ("near-limits", near_the_limits)];
+pub const FAMILIES: [(&str, Family); 5] = [
+    ("archives", random),
+    ("few-values", few_values),
+    ("dotted", dotted::random_struck),
+    ("realistic", like_real_files),
+    ("near-limits", near_the_limits),
+];
 
 /// Strikes off each file of a source.
 pub(crate) fn each_file(source: &Source, queries: &[Query], strike: Strike) -> Seen {

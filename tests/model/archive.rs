@@ -34,7 +34,7 @@ pub fn is_built_like_a_name(name: &[u8]) -> bool {
     name.split(|&b| b == b'/').all(is_name_part)
 }
 
-fn is_name_part(part: &[u8]) -> bool {
+pub fn is_name_part(part: &[u8]) -> bool {
     !part.is_empty() && part != b"." && part != b".." && part.iter().all(|&b| is_part_byte(b))
 }
 
@@ -48,14 +48,6 @@ pub fn folder(name: &[u8]) -> &[u8] {
         Some(slash) => &name[..slash],
         None => &[],
     }
-}
-
-/// What an include of `name` from `folder` looks for.
-pub fn target(folder: &[u8], name: &[u8]) -> Vec<u8> {
-    if folder.is_empty() {
-        return name.to_vec();
-    }
-    [folder, b"/", name].concat()
 }
 
 /// The files, or none if the bytes are not laid out as an archive.

@@ -1,8 +1,8 @@
-//! The settings core as document 01 and request (i) of document 02 lay it down, written for reading
+//! The settings core as document 01 and requests (i) and (iii) of document 02 lay it down, written for reading
 //! and not for speed.
 //!
 //! It is a second reference beside the Rust: it has the limits, the refusals and the image, which
-//! the Rust lacks, and it says which cases document 01 admits to the run beside the Rust. No line
+//! the Rust lacks, and it says which cases the documents admit to the run beside the Rust. No line
 //! of it comes from the Rust.
 
 pub mod archive;
@@ -11,6 +11,7 @@ pub mod limits;
 pub mod line;
 pub mod lookup;
 pub mod matching;
+pub mod paths;
 pub mod query;
 pub mod reading;
 pub mod startup;

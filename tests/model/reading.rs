@@ -1,9 +1,11 @@
 //! The definition of reading: the entries of some texts with an archive, each with its chain of
 //! includes, and the opens; or the first of refusals 4 to 7 in text order. A main text is a list of one.
 
-use crate::archive::{folder, is_built_like_a_name, target, Archive};
+use crate::archive::{folder, Archive};
 use crate::limits::{Refusal, BODIES_BYTES, DEPTH, ENTRIES, KEY_PARTS, OPENS};
 use crate::line::{take_line, write_key, Line, Part};
+use crate::paths::{follow, join, target, Outside};
+use std::collections::BTreeSet;
 use std::rc::Rc;
 
 #[derive(Clone, Debug)]
@@ -24,14 +26,15 @@ impl Entry {
 pub struct Reading {
     pub entries: Vec<Entry>,
     pub opens: usize,
-    /// Whether an include was met whose name is not built like an archive's. Such a name may mean
-    /// something else to a file system. (The empty name cannot: it names a directory.)
-    pub met_odd_name: bool,
+    /// The folders that includes by dots mention: the Rust finds its way by them only where they are made beforehand.
+    pub folders: BTreeSet<Vec<u8>>,
+    /// Why the reading stays out of the run beside the Rust, by the first include that keeps it out.
+    pub outside: Option<Outside>,
 }
 
 /// Each text is read at depth 0 with the empty folder, and ends at its own end.
 pub fn read(texts: &[&[u8]], archive: &Archive) -> Result<Reading, Refusal> {
-    let mut reader = Reader { archive, store: 0, chain: Vec::new(), reading: Reading::default() };
+    let mut reader = Reader { archive, store: 0, chain: Vec::new(), ways: Vec::new(), reading: Reading::default() };
     texts.iter().try_for_each(|text| reader.read_text(text, b""))?;
     Ok(reader.reading)
 }
@@ -42,6 +45,8 @@ struct Reader<'a> {
     store: usize,
     /// The files being read, outermost first: as many as the depth.
     chain: Vec<Rc<[u8]>>,
+    /// The folder of each of these as the Rust has it: of the way by which the file was reached, with nothing reduced.
+    ways: Vec<Vec<u8>>,
     reading: Reading,
 }
 
@@ -61,9 +66,14 @@ impl Reader<'_> {
     }
 
     fn include(&mut self, from: &[u8], name: &[u8]) -> Result<(), Refusal> {
-        self.reading.met_odd_name |= !name.is_empty() && !is_built_like_a_name(name);
         let archive = self.archive;
-        let Some(file) = archive.find(&target(from, name)) else { return Ok(()) };
+        let way = self.ways.last().map_or(b"".as_slice(), |way| way);
+        // The empty name asks nothing of the Rust: it names a directory, which nobody can read.
+        if !name.is_empty() && self.reading.outside.is_none() {
+            self.reading.outside = follow(way, from, name, archive, &mut self.reading.folders).err();
+        }
+        let way = join(way, name);
+        let Some(file) = target(from, name).and_then(|path| archive.find(&path)) else { return Ok(()) };
         if self.chain.len() == DEPTH {
             return Ok(());
         }
@@ -72,7 +82,9 @@ impl Reader<'_> {
         }
         self.reading.opens += 1;
         self.chain.push(file.name[..].into());
+        self.ways.push(folder(&way).to_vec());
         self.read_text(&file.body, folder(&file.name))?;
+        self.ways.pop();
         self.chain.pop();
         Ok(())
     }

@@ -1,10 +1,12 @@
-//! Tests of the model by itself: document 01's examples and limits and those of the start-up chain, written out by hand.
+//! Tests of the model by itself: document 01's examples and limits, those of the start-up chain and of names with dots, written
+//! out by hand.
 //!
 //!     model_tests NAME    runs one test
 //!     model_tests list    lists the tests
 
 use cases::archives;
 use cases::chains::{every_combination, Combination};
+use cases::dotted;
 use cases::draw::Draw;
 use cases::limits::{edges, Edge};
 use cases::named_chains::{at_limits, named};
@@ -12,10 +14,12 @@ use cases::words::{keys, queries};
 use model::archive::{judge, lay_out, strike};
 use model::image::{self, Accepted};
 use model::limits::{BODIES_BYTES, CONTENTS_WORDS};
-use model::line::{read_key, Part};
+use model::line::{read_key, write_key, Part};
 use model::lookup::{get_bool, get_bytes, get_value, show, Number};
 use model::matching::{all_rows, beats_the_rest, highest_row, positions, winner};
+use model::paths::{follow, target, Outside};
 use model::query::split;
+use model::reading;
 use model::startup::StartUp;
 use records::Source;
 use std::collections::BTreeSet;
@@ -23,10 +27,13 @@ use std::process::ExitCode;
 
 type Test = fn() -> Result<String, String>;
 
-const TESTS: [(&str, Test); 11] = [
+const TESTS: [(&str, Test); 14] = [
     ("examples", examples),
     ("booleans", booleans),
     ("limits", limits),
+    ("dotted-names", dotted_names),
+    ("admitted-names", admitted_names),
+    ("slips", dotted::each_slip_shows),
     ("start-ups", start_ups),
     ("chain-limits", chain_limits),
     ("combinations", combinations),
@@ -216,6 +223,91 @@ fn limits() -> Result<String, String> {
 
 fn chain_limits() -> Result<String, String> {
     at(&at_limits())
+}
+
+/// The sentences of document 02 (iii): what a name looks for from a folder, and that the file of that name is the one that is
+/// found, with that name on its chain of includes.
+fn dotted_names() -> Result<String, String> {
+    let paths = dotted::paths();
+    for path in &paths {
+        let label = format!("{}: {}", path.label, path.name[..path.name.len().min(100)].escape_ascii());
+        same(&label, target(&path.folder, &path.name), path.target.clone())?;
+        let source = path.source();
+        let archive = judge(&source.archive).ok_or("no archive")?;
+        let reading = reading::read(&source.texts(), &archive).map_err(|refusal| format!("refused {}", refusal.number()))?;
+        let found: Vec<&reading::Entry> = reading.entries.iter().filter(|entry| write_key(&entry.key) == b".p").collect();
+        same(&label, found.iter().map(|entry| entry.value.clone()).collect(), Vec::from_iter(path.target.clone()))?;
+        let last = found.first().and_then(|entry| entry.chain.last()).map(|name| name.to_vec());
+        same(&label, last, path.target.clone())?;
+    }
+    at(&dotted::edges())?;
+    Ok(format!("{} paths", paths.len()))
+}
+
+/// Which names with dots the run beside the Rust admits, and which folders it makes for them.
+fn admitted_names() -> Result<String, String> {
+    use Outside::{AboveTheRoot, EmptyPart, LongPart, LongPath, OddPart, ThroughAFile};
+    let archive = judge(&Source::with(b"", &[(b"d/p", b""), (b"f", b"")]).archive).ok_or("no archive")?;
+    let part = |length| [vec![b'x'; length], b"/../f".to_vec()].concat();
+    let path = |length: usize| [b"./".repeat((length - 1) / 2), vec![b'f'; 2 - length % 2]].concat();
+    let long = String::from_utf8(vec![b'x'; 255]).map_err(|error| error.to_string())?;
+    let cases: Vec<(Vec<u8>, Result<Vec<&str>, Outside>)> = vec![
+        (b"./f".to_vec(), Ok(vec![])),
+        (b"d/../f".to_vec(), Ok(vec!["d"])),
+        (b"x/y/../../f".to_vec(), Ok(vec!["x", "x/y"])),
+        (b"x/../y/z/./../f".to_vec(), Ok(vec!["x", "y", "y/z"])),
+        (b"./x/f".to_vec(), Ok(vec!["x"])),
+        // A last part of dots, which names a folder, is admitted: nobody can read one.
+        (b".".to_vec(), Ok(vec![])),
+        (b"d/..".to_vec(), Ok(vec!["d"])),
+        (b"x/.".to_vec(), Ok(vec!["x"])),
+        (b".../../f".to_vec(), Ok(vec!["..."])),
+        (part(255), Ok(vec![&long])),
+        (part(256), Err(LongPart)),
+        (path(4_000), Ok(vec![])),
+        (path(4_001), Err(LongPath)),
+        (b"../f".to_vec(), Err(AboveTheRoot)),
+        (b"d/../../f".to_vec(), Err(AboveTheRoot)),
+        (b"..".to_vec(), Err(AboveTheRoot)),
+        (b"./d//f".to_vec(), Err(EmptyPart)),
+        (b"d//p".to_vec(), Err(EmptyPart)),
+        (b"/f".to_vec(), Err(EmptyPart)),
+        (b"f/".to_vec(), Err(EmptyPart)),
+        (b"f/../d/p".to_vec(), Err(ThroughAFile)),
+        (b"d/p/x/../../f".to_vec(), Err(ThroughAFile)),
+        (b"f/.".to_vec(), Err(ThroughAFile)),
+        (b"a b/../f".to_vec(), Err(OddPart)),
+        (b"./f\xff".to_vec(), Err(OddPart)),
+        // As document 01 admits them, with no folder made: of any length, and through a file.
+        (vec![b'x'; 300], Ok(vec![])),
+        (b"x/".repeat(3_000)[..5_999].to_vec(), Ok(vec![])),
+        (b"f/f".to_vec(), Ok(vec![])),
+    ];
+    for (name, expected) in &cases {
+        let mut folders = BTreeSet::new();
+        let outside = follow(b"", b"", name, &archive, &mut folders);
+        let expected = expected.clone().map(|folders| folders.iter().map(|folder| folder.as_bytes().to_vec()).collect());
+        same(&name[..name.len().min(100)].escape_ascii().to_string(), outside.map(|()| folders), expected)?;
+    }
+    the_way_counts()?;
+    Ok(format!("{} names", cases.len()))
+}
+
+/// The Rust goes from a file on by the way that led it there, so that is what counts, along a chain of includes.
+fn the_way_counts() -> Result<(), String> {
+    let read = |text: &[u8], files: &[(&[u8], &[u8])]| {
+        let source = Source::with(text, files);
+        let archive = judge(&source.archive).expect("a good archive");
+        reading::read(&source.texts(), &archive).expect("a reading within limits")
+    };
+    let include = |name: &[u8]| [b"#include \"", name, b"\"\n"].concat();
+    let way = |times: usize| [b"./".repeat(times), b"d/p".to_vec()].concat();
+    let long = |times: usize| read(&include(&way(times)), &[(b"d/p", b"#include \"qq\""), (b"d/qq", b"a:1")]);
+    same("a way of 4,000 bytes", (long(1_998).outside, long(1_998).opens), (None, 2))?;
+    same("a way of 4,002 bytes", (long(1_999).outside, long(1_999).opens), (Some(Outside::LongPath), 2))?;
+    let reading = read(b"#include \"x/../d/p\"", &[(b"d/p", b"#include \"e/../q\""), (b"d/q", b"")]);
+    let folders: Vec<&[u8]> = reading.folders.iter().map(|folder| &folder[..]).collect();
+    same("folders of a chain", folders, vec![&b"d"[..], b"d/e", b"x"])
 }
 
 /// Each case at a limit: what it gives, and what it leaves in the buffers.

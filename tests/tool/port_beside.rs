@@ -37,6 +37,8 @@ mod lending;
 mod lookup_faults;
 #[path = "port/lookup_tests.rs"]
 mod lookup_tests;
+#[path = "port/path_faults.rs"]
+mod path_faults;
 #[path = "port/query_tests.rs"]
 mod query_tests;
 #[path = "port/run.rs"]

@@ -1,7 +1,7 @@
 -- The search of an archive: a row's name and a path, the walk, and what a caller learns. Assumes nothing.
 use mathlib.Core.Bool.{Bool, true, false, _&&_, and-false}
 use mathlib.Core.List.{List, [], _∷_, _++_, append-assoc}
-use mathlib.Core.Option.{some, none}
+use mathlib.Core.Option.{Option, some, none}
 use mathlib.Core.Path.{_≡_, refl, sym, ap, _∙_}
 use Prim.Native.Nat.{ℕ, suc, _+_, _-_, _≤_, _<_}
 use native.Mathlib.Omega.{arith}
@@ -9,7 +9,7 @@ use lib.ListN.{length, take, drop, length-append, length-drop}
 use lib.Seq.{drop-at, take-at, drop-drop, length-take-le, take-add}
 use Rattle.definition.specs.Lists.{if_then_else_, isEmpty, same}
 use Rattle.definition.specs.Bytes.{slash}
-use Rattle.definition.specs.Archive.{File, bodiesOf, numberAt, filesOf, laidOut, pathOf, bodyOf}
+use Rattle.definition.specs.Archive.{File, bodiesOf, numberAt, filesOf, laidOut, bodyOf}
 use Rattle.laws.proofs.Lists.{same-eq, same-lengths, same-append}
 use Rattle.laws.proofs.Archive.{length-archive, archive-bodies, laidOut-archive}
 use Rattle.archive.specs.declared.Member.{Member}
@@ -17,37 +17,16 @@ use Rattle.archive.specs.Walk.{lengthsAt, memberAt, fileIn}
 use Rattle.archive.proofs.Walk.{laid-fits, length-files, Walking, Stands, walking-first, walking-in, walking-turn, walking-next, walking-end, walking-sizes}
 use Rattle.archive_find.specs.declared.Found.{Found}
 use Rattle.archive_find.specs.declared.Found.the-variants.{At, Nothing}
-use Rattle.archive_find.specs.Finding.{stem, memberOf, findFrom, findIn, fileNumber}
+use Rattle.archive_find.specs.Finding.{memberOf, findFrom, findIn, soughtIn, fileNumber}
 
 -- ---- A row's name and a path
 
-path-stem : (f k : List ℕ) → pathOf f k ≡ stem f ++ k
-unfolding pathOf stem isEmpty
-path-stem [] k = refl
-path-stem (c ∷ f) k = sym (append-assoc (c ∷ f) (slash ∷ []) k)
+module _ (s path : List ℕ) (from n : ℕ) where
+  pub row-length : from + n ≤ length s → (n ≡ length path → ⊥) → same (take n (drop from s)) path ≡ false
+  row-length room h = same-lengths (take n (drop from s)) path (λ q. h (omega (arith, q, length-take-le n (drop from s) (rw length-drop (omega arith)))))
 
-module _ (s f k : List ℕ) (from n before : ℕ) (eb : before ≡ length (stem f)) (room : from + n ≤ length s) where
-  pub row-length : (n ≡ before + length k → ⊥) → same (take n (drop from s)) (pathOf f k) ≡ false
-  row-length h =
-      same-lengths (take n (drop from s)) (pathOf f k)
-      (λ q. h (omega (arith, q, eb, length-take-le n (drop from s) (rw length-drop (omega arith)), ap length (path-stem f k), length-append (stem f) k)))
-
-  module _ (en : n ≡ before + length k) where
-    row-same : same (take n (drop from s)) (pathOf f k) ≡ (same (take (length (stem f)) (drop from s)) (stem f) && same (take (length k) (drop (from + before) s)) k)
-    row-same =
-        rw (en, eb, take-add (length (stem f)) (length k) (drop from s), drop-drop, path-stem f k)
-        (same-append (take (length (stem f)) (drop from s)) (stem f) (take (length k) (drop (from + length (stem f)) s)) k
-        (length-take-le (length (stem f)) (drop from s) (rw length-drop (omega arith))))
-
-    pub row-other : same (take (length k) (drop (from + before) s)) k ≡ false → same (take n (drop from s)) (pathOf f k) ≡ false
-    row-other e = rw (row-same, e) (and-false (same (take (length (stem f)) (drop from s)) (stem f)))
-
-    pub row-elsewhere : same (take (length (stem f)) (drop from s)) (stem f) ≡ false → same (take n (drop from s)) (pathOf f k) ≡ false
-    row-elsewhere e = rw (row-same, e) refl
-
-    pub row-found : same (take (length k) (drop (from + before) s)) k ≡ true → same (take (length (stem f)) (drop from s)) (stem f) ≡ true
-        → same (take n (drop from s)) (pathOf f k) ≡ true
-    row-found e g = rw (row-same, e, g) refl
+  pub row-same : n ≡ length path → {b : Bool} → same (take (length path) (drop from s)) path ≡ b → same (take n (drop from s)) path ≡ b
+  row-same e f = rw e f
 
 -- ---- The search
 
@@ -160,12 +139,41 @@ find-finds s path h =
     let k = lengthsAt (length (filesOf s)) in
     find-from s 0 k (filesOf s) path (omega (arith, length-archive (filesOf s), ap length x)) (ap (drop k) (sym x) ∙ archive-bodies (filesOf s))
 
-module _ (s path : List ℕ) {r : Found} (h : laidOut s ≡ true) (f : r ≡ findIn s path) where
-  pub found-none : r ≡ Nothing → bodyOf (filesOf s) path ≡ none
-  found-none e = rw (sym f ∙ e) at (find-finds s path h)
+-- there is no path that is looked for, or no file of that name
+abbrev pub Absent : List File → Option (List ℕ) → Type 0
+Absent fs none = Unit {0}
+Absent fs (some path) = bodyOf fs path ≡ none
 
-  pub found-at : {m : Member} → r ≡ At m → FoundAt s (filesOf s) path m
-  found-at e = rw (sym f ∙ e) at (find-finds s path h)
+-- the file that an include finds, by the path that it looks for
+abbrev pub FindsInclude : List ℕ → Option (List ℕ) → Found → Type 0
+FindsInclude s o (At m) = (path : List ℕ) × (o ≡ some path) × FoundAt s (filesOf s) path m
+FindsInclude s o Nothing = Absent (filesOf s) o
+
+include-finds : (s : List ℕ) (o : Option (List ℕ)) → laidOut s ≡ true → FindsInclude s o (soughtIn s o)
+unfolding soughtIn
+include-finds s none h = tt
+include-finds s (some path) h = at (findIn s path) (find-finds s path h)
+  where
+    at : (r : Found) → Finds s (filesOf s) path r → FindsInclude s (some path) r
+    at (At m) f = (path, refl, f)
+    at Nothing f = f
+
+module _ (s : List ℕ) (o : Option (List ℕ)) {r : Found} (h : laidOut s ≡ true) (f : r ≡ soughtIn s o) where
+  pub found-none : r ≡ Nothing → Absent (filesOf s) o
+  found-none e = rw (sym f ∙ e) at (include-finds s o h)
+
+  pub found-at : {m : Member} → r ≡ At m → (path : List ℕ) × (o ≡ some path) × FoundAt s (filesOf s) path m
+  found-at e = rw (sym f ∙ e) at (include-finds s o h)
+
+-- ---- An include's path, as `path_of` leaves it
+
+pub sought-at : (s : List ℕ) {path : List ℕ} {o : Option (List ℕ)} {r : Found} → some path ≡ o → r ≡ findIn s path → r ≡ soughtIn s o
+unfolding soughtIn
+sought-at s e f = f ∙ ap (soughtIn s) e
+
+pub sought-none : (s : List ℕ) {o : Option (List ℕ)} → none ≡ o → Nothing ≡ soughtIn s o
+unfolding soughtIn
+sought-none s e = ap (soughtIn s) e
 
 -- ---- The number of a file
 
@@ -187,9 +195,9 @@ number-from j at (f ∷ fs) n = pick (same (f .name) n) (number-from (j + 1) (me
         let g : j + 1 + fileNumber n fs ≡ j + suc (fileNumber n fs) = omega arith in
         ap (λ k. numbered k (findFrom (j + 1) (memberOf j at f .end) fs n)) e ∙ ih ∙ g
 
-module _ (s n : List ℕ) {r : Found} (e : r ≡ findIn s (pathOf [] n)) where
+module _ (s n : List ℕ) {r : Found} (e : r ≡ findIn s n) where
   number-is : numbered (length (filesOf s)) r ≡ fileNumber n (filesOf s)
-  unfolding findIn pathOf isEmpty
+  unfolding findIn
   number-is =
       let z : 0 + length (filesOf s) ≡ length (filesOf s) = omega arith in
       let y : 0 + fileNumber n (filesOf s) ≡ fileNumber n (filesOf s) = omega arith in

@@ -1,3 +1,3 @@
 -- Laws that the proofs of this crate lean on.
-pub mod Folders
+pub mod Comparing
 pub mod Finding

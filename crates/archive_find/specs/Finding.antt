@@ -1,18 +1,14 @@
 -- What a search of an archive answers.
-use mathlib.Core.List.{List, [], _∷_, _++_}
+use mathlib.Core.List.{List, [], _∷_}
+use mathlib.Core.Option.{Option, some, none}
 use Prim.Native.Nat.{ℕ, suc, _+_}
 use lib.ListN.{length}
-use Rattle.definition.specs.Lists.{if_then_else_, isEmpty, same}
-use Rattle.definition.specs.Bytes.{slash}
+use Rattle.definition.specs.Lists.{if_then_else_, same}
 use Rattle.definition.specs.Archive.{File, filesOf}
 use Rattle.archive.specs.Walk.{lengthsAt}
 use Rattle.archive.specs.declared.Member.{Member}
 use Rattle.archive_find.specs.declared.Found.{Found}
 use Rattle.archive_find.specs.declared.Found.the-variants.{At, Nothing}
-
--- what a path from a folder begins with
-unfoldable pub stem : List ℕ → List ℕ
-stem folder = if isEmpty folder then [] else folder ++ slash ∷ []
 
 -- file j, whose name starts at `start`: its name, and then its body
 abbrev pub memberOf : ℕ → ℕ → File → Member
@@ -26,6 +22,11 @@ findFrom j start (f ∷ fs) path = if same (f .name) path then At (memberOf j st
 -- the first file of an archive that has that name, where it stands
 unfoldable pub findIn : List ℕ → List ℕ → Found
 findIn s path = findFrom 0 (lengthsAt (length (filesOf s))) (filesOf s) path
+
+-- the same of a path that is looked for, if there is one
+unfoldable pub soughtIn : List ℕ → Option (List ℕ) → Found
+soughtIn s none = Nothing
+soughtIn s (some path) = findIn s path
 
 -- the number of the file of that name, counted from 0, or the number of files
 unfoldable pub fileNumber : List ℕ → List File → ℕ

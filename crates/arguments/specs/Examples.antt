@@ -14,26 +14,28 @@ plainly : ℕ → ℕ → ℕ → ℕ → ℕ → List ℕ
 plainly t n c w s = t ∷ n ∷ c ∷ w ∷ s ∷ 0 ∷ 0 ∷ 0 ∷ 0 ∷ 0 ∷ 0 ∷ []
 
 planned :
-    (planOf (ascii "text" ∷ ascii "a.b" ∷ ascii "A.B" ∷ []) ≡ plan (plainly 1 2 3 0 0) 0 anything false false)
-    × (planOf (ascii "--file" ∷ ascii "-p" ∷ ascii "-" ∷ ascii "a.b" ∷ []) ≡ plan (plainly 3 4 0 0 0) 0 anything false false)
-    × (planOf (ascii "--" ∷ ascii "-t" ∷ ascii "-n" ∷ ascii "--help" ∷ []) ≡ plan (plainly 2 3 4 0 0) 0 operand false false)
-    × (planOf (ascii "t" ∷ ascii "--without" ∷ ascii "p" ∷ ascii "n" ∷ []) ≡ plan (plainly 1 4 0 3 0) 0 anything false false)
-    × (planOf (ascii "--status-fd" ∷ ascii "3" ∷ ascii "--status-fd" ∷ ascii "4" ∷ []) ≡ plan (plainly 0 0 0 0 2) 4 anything false false)
-    × (planOf (ascii "--status-fd" ∷ ascii "2" ∷ ascii "t" ∷ ascii "-n" ∷ []) ≡ plan (plainly 3 0 0 0 0) 2 anything false false)
-    × (planOf (ascii "t" ∷ ascii "n" ∷ ascii "c" ∷ ascii "more" ∷ ascii "--help" ∷ []) ≡ plan (plainly 1 2 3 0 0) 4 anything true false)
+    (planOf (ascii "text" ∷ ascii "a.b" ∷ ascii "A.B" ∷ []) ≡ plan (plainly 1 2 3 0 0) 0 anything false false false)
+    × (planOf (ascii "--file" ∷ ascii "-p" ∷ ascii "-" ∷ ascii "a.b" ∷ []) ≡ plan (plainly 3 4 0 0 0) 0 anything false false false)
+    × (planOf (ascii "--" ∷ ascii "-t" ∷ ascii "-n" ∷ ascii "--help" ∷ []) ≡ plan (plainly 2 3 4 0 0) 0 operand false false false)
+    × (planOf (ascii "t" ∷ ascii "--without" ∷ ascii "p" ∷ ascii "n" ∷ []) ≡ plan (plainly 1 4 0 3 0) 0 anything false false false)
+    × (planOf (ascii "--status-fd" ∷ ascii "3" ∷ ascii "--status-fd" ∷ ascii "4" ∷ []) ≡ plan (plainly 0 0 0 0 2) 4 anything false false false)
+    × (planOf (ascii "--status-fd" ∷ ascii "2" ∷ ascii "t" ∷ ascii "-n" ∷ []) ≡ plan (plainly 3 0 0 0 0) 2 anything false false false)
+    × (planOf (ascii "t" ∷ ascii "n" ∷ ascii "c" ∷ ascii "more" ∷ ascii "--help" ∷ []) ≡ plan (plainly 1 2 3 0 0) 4 anything true false false)
+    × (planOf (ascii "--missing" ∷ ascii "t" ∷ ascii "n" ∷ ascii "--missing" ∷ []) ≡ plan (plainly 2 3 0 0 0) 0 anything false true false)
 unfolding definition planOf planFrom withArgument isOption optionOf chainOption withOption withValue takes once descriptor givenFor withOperand misunderstood settled plainly
-planned = (refl, refl, refl, refl, refl, refl, refl)
+planned = (refl, refl, refl, refl, refl, refl, refl, refl)
 
 -- with a chain: format, property, .Xresources, .Xdefaults, XENVIRONMENT's, the host's
 chained :
-    (planOf (ascii "--default" ∷ ascii "n" ∷ ascii "c" ∷ []) ≡ plan (0 ∷ 2 ∷ 3 ∷ 0 ∷ 0 ∷ 0 ∷ 0 ∷ 0 ∷ 0 ∷ 0 ∷ 0 ∷ []) 0 anything false true)
-    × (planOf (ascii "n" ∷ ascii "--xresources" ∷ ascii "x" ∷ ascii "--host" ∷ ascii "h" ∷ []) ≡ plan (0 ∷ 1 ∷ 0 ∷ 0 ∷ 0 ∷ 0 ∷ 0 ∷ 3 ∷ 0 ∷ 0 ∷ 5 ∷ []) 0 anything false true)
-    × (planOf (ascii "--property" ∷ ascii "p" ∷ ascii "--property-format" ∷ ascii "16" ∷ []) ≡ plan (0 ∷ 0 ∷ 0 ∷ 0 ∷ 0 ∷ 4 ∷ 2 ∷ 0 ∷ 0 ∷ 0 ∷ 0 ∷ []) 0 anything false true)
-    × (planOf (ascii "--xdefaults" ∷ ascii "d" ∷ ascii "--xenvironment" ∷ ascii "e" ∷ ascii "n" ∷ []) ≡ plan (0 ∷ 5 ∷ 0 ∷ 0 ∷ 0 ∷ 0 ∷ 0 ∷ 0 ∷ 2 ∷ 4 ∷ 0 ∷ []) 0 anything false true)
-    × (planOf (ascii "t" ∷ ascii "n" ∷ ascii "c" ∷ ascii "--default" ∷ []) ≡ plan (0 ∷ 1 ∷ 2 ∷ 0 ∷ 0 ∷ 0 ∷ 0 ∷ 0 ∷ 0 ∷ 0 ∷ 0 ∷ []) 3 anything false true)
-    × (planOf (ascii "--property-format" ∷ ascii "7" ∷ ascii "n" ∷ []) ≡ plan (0 ∷ 3 ∷ 0 ∷ 0 ∷ 0 ∷ 0 ∷ 0 ∷ 0 ∷ 0 ∷ 0 ∷ 0 ∷ []) 2 anything false true)
+    (planOf (ascii "--default" ∷ ascii "n" ∷ ascii "c" ∷ []) ≡ plan (0 ∷ 2 ∷ 3 ∷ 0 ∷ 0 ∷ 0 ∷ 0 ∷ 0 ∷ 0 ∷ 0 ∷ 0 ∷ []) 0 anything false false true)
+    × (planOf (ascii "n" ∷ ascii "--xresources" ∷ ascii "x" ∷ ascii "--host" ∷ ascii "h" ∷ []) ≡ plan (0 ∷ 1 ∷ 0 ∷ 0 ∷ 0 ∷ 0 ∷ 0 ∷ 3 ∷ 0 ∷ 0 ∷ 5 ∷ []) 0 anything false false true)
+    × (planOf (ascii "--property" ∷ ascii "p" ∷ ascii "--property-format" ∷ ascii "16" ∷ []) ≡ plan (0 ∷ 0 ∷ 0 ∷ 0 ∷ 0 ∷ 4 ∷ 2 ∷ 0 ∷ 0 ∷ 0 ∷ 0 ∷ []) 0 anything false false true)
+    × (planOf (ascii "--xdefaults" ∷ ascii "d" ∷ ascii "--xenvironment" ∷ ascii "e" ∷ ascii "n" ∷ []) ≡ plan (0 ∷ 5 ∷ 0 ∷ 0 ∷ 0 ∷ 0 ∷ 0 ∷ 0 ∷ 2 ∷ 4 ∷ 0 ∷ []) 0 anything false false true)
+    × (planOf (ascii "t" ∷ ascii "n" ∷ ascii "c" ∷ ascii "--default" ∷ []) ≡ plan (0 ∷ 1 ∷ 2 ∷ 0 ∷ 0 ∷ 0 ∷ 0 ∷ 0 ∷ 0 ∷ 0 ∷ 0 ∷ []) 3 anything false false true)
+    × (planOf (ascii "--property-format" ∷ ascii "7" ∷ ascii "n" ∷ []) ≡ plan (0 ∷ 3 ∷ 0 ∷ 0 ∷ 0 ∷ 0 ∷ 0 ∷ 0 ∷ 0 ∷ 0 ∷ 0 ∷ []) 2 anything false false true)
+    × (planOf (ascii "--missing" ∷ ascii "--default" ∷ ascii "n" ∷ []) ≡ plan (0 ∷ 3 ∷ 0 ∷ 0 ∷ 0 ∷ 0 ∷ 0 ∷ 0 ∷ 0 ∷ 0 ∷ 0 ∷ []) 0 anything false true true)
 unfolding definition planOf planFrom withArgument isOption optionOf chainOption withOption withValue takes once formatOf givenFor withOperand misunderstood settled inChain
-chained = (refl, refl, refl, refl, refl, refl)
+chained = (refl, refl, refl, refl, refl, refl, refl)
 
 whole :
     (isWhole (planOf (ascii "t" ∷ ascii "n" ∷ [])) ≡ true)

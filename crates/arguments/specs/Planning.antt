@@ -8,9 +8,9 @@ use lib.ListN.{length}
 use Rattle.definition.specs.Lists.{if_then_else_, takeWhile}
 use Rattle.definition.specs.Bytes.{within}
 use Rattle.io.specs.Counts.{Counts}
-use Rattle.options.specs.Options.{text, name, class, format, anything, operand, help as helpAsked, unknown, takes, isOption, optionOf}
+use Rattle.options.specs.Options.{text, name, class, format, anything, operand, help as helpAsked, missing as missingAsked, unknown, takes, isOption, optionOf}
 use Rattle.plans.specs.declared.Plan.{Plan}
-use Rattle.plans.specs.Plans.{nothingAsked, toNext, toHelp, toChain, givenFor, misunderstood, once, settled}
+use Rattle.plans.specs.Plans.{nothingAsked, toNext, toHelp, toMissing, toChain, givenFor, misunderstood, once, settled}
 
 -- text, name, class
 unfoldable pub withOperand : Plan → ℕ → Plan
@@ -31,6 +31,7 @@ unfoldable pub withOption : Plan → ℕ → ℕ → Plan
 withOption p what i =
     if eqb what unknown then misunderstood p i else
     if eqb what helpAsked then toHelp p else
+    if eqb what missingAsked then toMissing p else
     if within format anything what then toChain (toNext p what) else
     toNext p what
 

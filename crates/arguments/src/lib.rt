@@ -5,6 +5,7 @@ use options::ANY;
 use options::CLASS;
 use options::FORMAT;
 use options::HELP;
+use options::MISSING;
 use options::NAME;
 use options::OPERAND;
 use options::TEXT;
@@ -56,6 +57,10 @@ fn with_option(plan: Plan, what: usize, i: usize) -> Plan
     }
     if what == HELP {
         more.help = true;
+        return more;
+    }
+    if what == MISSING {
+        more.missing = true;
         return more;
     }
     more.next = what;

@@ -6,7 +6,7 @@ use mathlib.Core.Path.{_≡_, refl}
 use Prim.Native.Nat.{ℕ, zero, suc, _+_, _*_, _/_, _%_}
 use lib.ListN.{replicate}
 use Rattle.definition.specs.Lists.{ascii}
-use Rattle.definition.specs.Archive.{File, archiveOf, laidOut}
+use Rattle.definition.specs.Archive.{File, archiveOf, laidOut, pathOf}
 use Rattle.definition.specs.Reading.{Answer, accepted, refused, outcome, reading, judge, start, met, within, past}
 use Rattle.definition.specs.StartUp.{StartUp, starting}
 use Rattle.definition.specs.Lookup.{Reply, given, noValue, refused as refusedReply, Place, getBytes}
@@ -52,6 +52,19 @@ leaves :
     ≡ outcome (refused 5) (replicate 1538 0 ++ 7 ∷ 7 ∷ []) (replicate 32768 0 ++ 7 ∷ 7 ∷ []))
 unfolding definition copies contents bodies name
 leaves = (refl, refl)
+
+-- the 96 bytes are asked of the path that is looked for, and of no name or path on the way to it
+paths :
+    (pathOf [] (replicate 96 97) ≡ some (replicate 96 97))
+    × (pathOf [] (replicate 97 97) ≡ none)
+    × (pathOf (replicate 47 97) (replicate 48 98) ≡ some (replicate 47 97 ++ 47 ∷ replicate 48 98))
+    × (pathOf (replicate 47 97) (replicate 49 98) ≡ none)
+    × (pathOf [] (copies 100 (ascii "./") ++ replicate 96 97) ≡ some (replicate 96 97))
+    × (pathOf [] (replicate 300 97 ++ ascii "/../q") ≡ some (ascii "q"))
+    × (pathOf (replicate 90 97) (copies 100 (ascii "b/") ++ copies 101 (ascii "../") ++ replicate 96 99) ≡ some (replicate 96 99))
+    × (pathOf (replicate 90 97) (copies 100 (ascii "b/") ++ copies 102 (ascii "../") ++ ascii "q") ≡ none)
+unfolding definition copies
+paths = (refl, refl, refl, refl, refl, refl, refl, refl)
 
 -- n files of two-byte names, and one file of a body of n bytes
 numbered : ℕ → List File

@@ -1,5 +1,5 @@
 -- The archive: document 01's shelf, which stands in for the file system.
-use mathlib.Core.Bool.{Bool, true, _&&_, _||_, not}
+use mathlib.Core.Bool.{Bool, true, false, _&&_, _||_, not}
 use mathlib.Core.List.{List, [], _∷_, _++_, map}
 use mathlib.Core.Option.{Option, some, none}
 use Prim.Native.Nat.{ℕ, zero, suc, _+_, _*_, _/_, _%_}
@@ -98,9 +98,36 @@ unfoldable pub folderOf : List ℕ → List ℕ
 folderOf [] = []
 folderOf (c ∷ t) = if any (eqb slash) t then c ∷ folderOf t else []
 
--- what an include of `name` from `folder` looks for
-unfoldable pub pathOf : List ℕ → List ℕ → List ℕ
-pathOf folder name = if isEmpty folder then name else folder ++ slash ∷ name
+-- folder and name joined; the empty folder is the root
+unfoldable pub joined : List ℕ → List ℕ → List ℕ
+joined folder name = if isEmpty folder then name else folder ++ slash ∷ name
+
+-- document 02 (iii): the parts of an include's path below a path so far. `.` parts are dropped, and `..` removes the part before it, whatever
+-- that is; an empty part, and going above the root, find nothing
+unfoldable pub reduced : List ℕ → List (List ℕ) → Option (List ℕ)
+reduced path [] = some path
+reduced path (p ∷ ps) =
+    if isEmpty p then none
+    else if same p (ascii ".") then reduced path ps
+    else if same p (ascii "..") then (if isEmpty path then none else reduced (folderOf path) ps)
+    else reduced (joined path p) ps
+
+-- is a path's last part `.` or `..`?
+unfoldable pub endsInDots : List (List ℕ) → Bool
+endsInDots [] = false
+endsInDots (p ∷ []) = same p (ascii ".") || same p (ascii "..")
+endsInDots (p ∷ q ∷ ps) = endsInDots (q ∷ ps)
+
+-- the 96-byte bound is on the result
+unfoldable pub asFileName : Option (List ℕ) → Option (List ℕ)
+asFileName none = none
+asFileName (some path) = if leb (length path) fileNameBytes then some path else none
+
+-- what an include of `name` from `folder` looks for, over folder and name joined; a last part `.` or `..` finds nothing
+unfoldable pub pathOf : List ℕ → List ℕ → Option (List ℕ)
+pathOf folder name =
+    let parts = split (joined folder name) in
+    if endsInDots parts then none else asFileName (reduced [] parts)
 
 -- the body of the file with that name. Departure: a name that is not UTF-8 is never opened; here no file has such a name
 unfoldable pub bodyOf : List File → List ℕ → Option (List ℕ)

@@ -7,9 +7,9 @@ use Prim.Native.String.{String}
 use Rattle.definition.specs.Lists.{if_then_else_, ascii, all, any, takeWhile, dropWhile, filter, isEmpty, orElse, beyond, zeroes, same, lower}
 use Rattle.definition.specs.Parsing.{continued, atMost, many, _>>=_, after}
 use Rattle.definition.specs.Bytes.{isDigit, isOctal, isName, isBlank, isSpace, isBinding, notNewline}
-use Rattle.definition.specs.Archive.{File, lengthsOf, bodiesOf, archiveOf, filesFrom, filesOf, prefixed, split, isNamePart, isFileName, rising, laidOut, struckOff, folderOf, pathOf, bodyOf}
+use Rattle.definition.specs.Archive.{File, lengthsOf, bodiesOf, archiveOf, filesFrom, filesOf, prefixed, split, isNamePart, isFileName, rising, laidOut, struckOff, folderOf, joined, reduced, endsInDots, asFileName, pathOf, bodyOf}
 use Rattle.definition.specs.Text.{bindingOf, componentAt, partAt, isNamed, endsInName, positional, lineEnds, octalOf, escapeAt, pieceAt, afterBlanks, lineEnd, includeOf, assigned, resourceOf, directiveOf, lineAt, linesOf}
-use Rattle.definition.specs.Including.{Entered, eventsOf, opening, including, events, eventsOfAll, entriesOf, opensOf}
+use Rattle.definition.specs.Including.{Entered, eventsOf, opening, seeking, including, events, eventsOfAll, entriesOf, opensOf}
 use Rattle.definition.specs.Image.{keyOf, rowsOf, storeOf, contentsOf, writtenOver, rowsFrom, storedPartAt, entriesIn, isKey, packed, isImage}
 use Rattle.definition.specs.Reading.{judge, left, reading, met, plain, readEntries}
 use Rattle.definition.specs.StartUp.{firstText, secondText, added, textsUsed}
@@ -24,9 +24,10 @@ unfoldable pub definition : ℕ
 unfolding
     all any takeWhile dropWhile filter isEmpty orElse beyond zeroes same lower
     continued atMost many after isDigit isOctal isName isBlank isSpace isBinding notNewline
-    lengthsOf bodiesOf archiveOf filesFrom filesOf prefixed split isNamePart isFileName rising laidOut struckOff folderOf pathOf bodyOf
+    lengthsOf bodiesOf archiveOf filesFrom filesOf prefixed split isNamePart isFileName rising laidOut struckOff folderOf joined reduced endsInDots
+    asFileName pathOf bodyOf
     bindingOf componentAt partAt isNamed endsInName positional lineEnds octalOf escapeAt pieceAt afterBlanks lineEnd includeOf assigned
-    resourceOf directiveOf lineAt linesOf eventsOf opening including events eventsOfAll entriesOf opensOf
+    resourceOf directiveOf lineAt linesOf eventsOf opening seeking including events eventsOfAll entriesOf opensOf
     keyOf rowsOf storeOf contentsOf writtenOver rowsFrom storedPartAt entriesIn isKey packed isImage judge left reading
     firstText secondText added textsUsed
     queryPartAt namesOf positionsOf countedQuery queryOf equals matchAt markOf markAt meetRow skipRow rankOf better bestFrom bestOf

@@ -28,13 +28,21 @@ unfoldable pub opening : Chain → (List ℕ → List Event) → Option (List �
 opening chain reading none = []
 opening chain reading (some body) = opened chain ∷ reading body
 
--- an include of n from a text in `folder` with that chain; d depths are left below that text, and with none the include adds nothing
+-- a path that an include looks for, if it has one
+unfoldable pub seeking : (List ℕ → List Event) → Option (List ℕ) → List Event
+seeking finding none = []
+seeking finding (some file) = finding file
+
+-- an include of n from a text in `folder` with that chain; d depths are left below that text, and with none the include adds nothing. The
+-- chain and the folder below are of the file's own name, never of the way it was reached
 unfoldable pub including : ℕ → List File → List ℕ → Chain → List ℕ → List Event
 including zero fs folder chain n = []
 including (suc d) fs folder chain n =
-    let file = pathOf folder n in
+    seeking
+    (λ file.
     let below = chain ++ file ∷ [] in
-    opening below (λ body. eventsOf (including d fs (folderOf file) below) below (linesOf body)) (bodyOf fs file)
+    opening below (λ body. eventsOf (including d fs (folderOf file) below) below (linesOf body)) (bodyOf fs file))
+    (pathOf folder n)
 
 -- a text of the reading, at depth 0: its folder and its chain are empty
 unfoldable pub events : ℕ → List File → List ℕ → List Event

@@ -21,5 +21,6 @@ mod Examples
 mod NameBytes
 mod Manual
 mod Starts
+mod Paths
 mod Numbers
 mod Recorded

@@ -12,6 +12,7 @@ use Rattle.definition.specs.Lists.{if_then_else_, all, isEmpty, same}
 use Rattle.definition.specs.Limits.{fileNameBytes}
 use Rattle.definition.specs.Bytes.{dot, slash, isDigit, isName}
 use Rattle.definition.specs.Archive.{prefixed, split, isNamePart, isFileName}
+use Rattle.laws.proofs.Archive.{split-some}
 use Rattle.file_names.specs.declared.Part.{Part}
 use Rattle.file_names.specs.declared.Part.the-variants.{Empty, Dot, DotDot, Good, Bad}
 use Rattle.file_names.specs.Names.{ended, dotted, lettered, next, passes, walked}
@@ -81,17 +82,6 @@ parts-byte : (s : Part) (c : ℕ) (qs : List (List ℕ)) → eqb c slash ≡ fal
 unfolding prefixed goodParts all
 parts-byte s c [] n = rw (part-byte [] s c n) (and-true (goodPart (next s c) []))
 parts-byte s c (q ∷ qs) n = rw (part-byte q s c n) refl
-
--- a split has one part at least
-split-some : (t : List ℕ) → (q : List ℕ) × (qs : List (List ℕ)) × (split t ≡ q ∷ qs)
-unfolding split prefixed
-split-some [] = ([], [], refl)
-split-some (c ∷ t) = at (eqb c slash) (split t)
-  where
-    at : (b : Bool) (ps : List (List ℕ)) → (q : List ℕ) × (qs : List (List ℕ)) × ((if b then [] ∷ ps else prefixed c ps) ≡ q ∷ qs)
-    at true ps = ([], ps, refl)
-    at false [] = (c ∷ [], [], refl)
-    at false (p ∷ ps) = (c ∷ p, ps, refl)
 
 parts-first : (t : List ℕ) → goodParts Empty (split t) ≡ all isNamePart (split t)
 unfolding goodParts goodPart all

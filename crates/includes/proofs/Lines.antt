@@ -1,6 +1,6 @@
 -- A text's events, line by line, as a run meets them. Assumes nothing.
 use mathlib.Core.List.{List, [], _∷_, _++_}
-use mathlib.Core.Option.{some, none}
+use mathlib.Core.Option.{Option, some, none}
 use mathlib.Core.Path.{_≡_, refl, ap}
 use Prim.Native.Nat.{ℕ, suc, _+_, _-_, _≤_, _<_}
 use native.Mathlib.Omega.{arith}
@@ -9,9 +9,10 @@ use Rattle.definition.specs.Limits.{mostOpens}
 use Rattle.definition.specs.Parsing.{found}
 use Rattle.definition.specs.Archive.{File, bodyOf, folderOf, pathOf}
 use Rattle.definition.specs.Text.{Entry, Line, skipped, include, entry, lineAt, linesOf}
-use Rattle.definition.specs.Including.{Chain, eventsOf, opening, including}
+use Rattle.definition.specs.Including.{Chain, eventsOf, opening, seeking, including}
 use Rattle.laws.proofs.Parsing.{many-stop, many-more}
 use Rattle.laws.proofs.Keys.{line-shrinks}
+use Rattle.archive_find.proofs.Finding.{Absent}
 use Rattle.image.specs.Running.{World, world, Ran, went, stopped, put, counted, openOne, andThen, run}
 use Rattle.image.proofs.Runs.{run-append}
 use Rattle.includes.specs.Texts.{textEvents}
@@ -58,16 +59,28 @@ module _ (fs : List File) (folder : List ℕ) (ch : Chain) (n : List ℕ) (w : W
     down : d ≡ suc (d - 1)
     down = omega arith
 
-    pub include-absent : bodyOf fs (pathOf folder n) ≡ none → went w ≡ run w (including d fs folder ch n)
-    unfolding including opening run
-    include-absent e = rw (down, e) refl
+    -- with a depth left, an include is what is sought
+    sought : including d fs folder ch n
+        ≡ seeking (λ file. opening (ch ++ file ∷ []) (λ body. textEvents (d - 1) fs (folderOf file) (ch ++ file ∷ []) body) (bodyOf fs file)) (pathOf folder n)
+    unfolding including textEvents
+    sought = let back : suc (d - 1) - 1 ≡ d - 1 = omega arith in rw (down, back) refl
 
-    pub include-full : (b : List ℕ) → bodyOf fs (pathOf folder n) ≡ some b → mostOpens ≤ w .totals .opens → stopped 4 (w .words) (w .bytes) ≡ run w (including d fs folder ch n)
-    unfolding including opening run openOne andThen
-    include-full b e k = rw (down, e, le-leb mostOpens (w .totals .opens) k) refl
+    pub include-absent : Absent fs (pathOf folder n) → went w ≡ run w (including d fs folder ch n)
+    unfolding seeking opening run
+    include-absent e = rw sought (at (pathOf folder n) e)
+      where
+        at : (o : Option (List ℕ)) → Absent fs o
+            → went w ≡ run w (seeking (λ file. opening (ch ++ file ∷ []) (λ body. textEvents (d - 1) fs (folderOf file) (ch ++ file ∷ []) body) (bodyOf fs file)) o)
+        at none e = refl
+        at (some file) e = rw e refl
 
-    pub include-reads : (b : List ℕ) → bodyOf fs (pathOf folder n) ≡ some b → w .totals .opens < mostOpens
-        → run (world (counted (w .totals)) (w .words) (w .bytes)) (textEvents (d - 1) fs (folderOf (pathOf folder n)) (ch ++ pathOf folder n ∷ []) b)
-        ≡ run w (including d fs folder ch n)
-    unfolding including opening run openOne andThen textEvents
-    include-reads b e k = let back : suc (d - 1) - 1 ≡ d - 1 = omega arith in rw (down, e, lt-leb mostOpens (w .totals .opens) k, back) refl
+    module _ (file : List ℕ) (p : pathOf folder n ≡ some file) (b : List ℕ) (e : bodyOf fs file ≡ some b) where
+      pub include-full : mostOpens ≤ w .totals .opens → stopped 4 (w .words) (w .bytes) ≡ run w (including d fs folder ch n)
+      unfolding seeking opening run openOne andThen
+      include-full k = rw (sought, p, e, le-leb mostOpens (w .totals .opens) k) refl
+
+      pub include-reads : w .totals .opens < mostOpens
+          → run (world (counted (w .totals)) (w .words) (w .bytes)) (textEvents (d - 1) fs (folderOf file) (ch ++ file ∷ []) b)
+          ≡ run w (including d fs folder ch n)
+      unfolding seeking opening run openOne andThen
+      include-reads k = rw (sought, p, e, lt-leb mostOpens (w .totals .opens) k) refl

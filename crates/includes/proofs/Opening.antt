@@ -1,6 +1,7 @@
 -- An include, by what the search of the archive answers. Assumes nothing.
 use mathlib.Core.Bool.{true}
 use mathlib.Core.List.{List, [], _∷_, _++_}
+use mathlib.Core.Option.{some}
 use mathlib.Core.Path.{_≡_, _∙_}
 use Prim.Native.Nat.{ℕ, _+_, _-_, _≤_, _<_}
 use native.Mathlib.Omega.{arith}
@@ -9,7 +10,7 @@ use Rattle.definition.specs.Archive.{laidOut, filesOf, folderOf, pathOf}
 use Rattle.definition.specs.Including.{Chain, including}
 use Rattle.archive.specs.declared.Member.{Member}
 use Rattle.archive.specs.Walk.{fileIn}
-use Rattle.archive_find.specs.Finding.{findIn}
+use Rattle.archive_find.specs.Finding.{soughtIn}
 use Rattle.archive_find.specs.declared.Found.{Found}
 use Rattle.archive_find.specs.declared.Found.the-variants.{At, Nothing}
 use Rattle.archive_find.proofs.Finding.{FoundAt, found-none, found-at}
@@ -35,7 +36,7 @@ pub record Sought (archive folder name : List ℕ) (d : ℕ) (s : Totals) (c b :
   pub deep : 0 < d
   pub room : Room s c b
   pub laid : laidOut archive ≡ true
-  pub found : r ≡ findIn archive (pathOf folder name)
+  pub found : r ≡ soughtIn archive (pathOf folder name)
 
 module _ {archive folder name : List ℕ} {d : ℕ} {s : Totals} {c b : List ℕ} {r : Found} (f : Sought archive folder name d s c b r) where
   pub not-found : r ≡ Nothing → Included archive folder name d s c b (Go s) c b
@@ -43,12 +44,16 @@ module _ {archive folder name : List ℕ} {d : ℕ} {s : Totals} {c b : List ℕ
   not-found e ch = include-absent (filesOf archive) folder ch name (world s c b) d (f .deep) (found-none archive (pathOf folder name) (f .laid) (f .found) e)
 
   module _ {m : Member} (e : r ≡ At m) where
-    pub is-at : FoundAt archive (filesOf archive) (pathOf folder name) m
-    is-at = found-at archive (pathOf folder name) (f .laid) (f .found) e
+    pub is-found : (path : List ℕ) × (pathOf folder name ≡ some path) × FoundAt archive (filesOf archive) path m
+    is-found = found-at archive (pathOf folder name) (f .laid) (f .found) e
+
+    pub is-at : FoundAt archive (filesOf archive) (is-found .0) m
+    is-at = is-found .2
 
     pub all-opened : mostOpens ≤ s .opens → Included archive folder name d s c b (Stop 4) c b
     unfolding answered
-    all-opened k ch = include-full (filesOf archive) folder ch name (world s c b) d (f .deep) (fileIn archive m .body) (is-at .body) k
+    all-opened k ch =
+        include-full (filesOf archive) folder ch name (world s c b) d (f .deep) (is-found .0) (is-found .1) (fileIn archive m .body) (is-at .body) k
 
     module _ (k : s .opens < mostOpens) where
       pub room-on : Room (counted s) c b
@@ -64,5 +69,5 @@ module _ {archive folder name : List ℕ} {d : ℕ} {s : Totals} {c b : List ℕ
           → ((ch : Chain) → answered g c′ b′ ≡ run (world (counted s) c b) (textEvents (d - 1) (filesOf archive) below ch (fileIn archive m .body)))
           → Included archive folder name d s c b g c′ b′
       opened is g c′ b′ after ch =
-          after (ch ++ pathOf folder name ∷ [])
-          ∙ rw (is, is-at .name) (include-reads (filesOf archive) folder ch name (world s c b) d (f .deep) (fileIn archive m .body) (is-at .body) k)
+          after (ch ++ is-found .0 ∷ [])
+          ∙ rw (is, is-at .name) (include-reads (filesOf archive) folder ch name (world s c b) d (f .deep) (is-found .0) (is-found .1) (fileIn archive m .body) (is-at .body) k)

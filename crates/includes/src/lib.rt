@@ -7,8 +7,7 @@ ghost use Rattle.byte_classes.specs.Classes.{byteClasses};
 ghost use Rattle.image.specs.Running.{world, Room, run, answered};
 ghost use Rattle.includes.specs.Texts.{textEvents};
 use archive_find::Found;
-use archive_find::find;
-use archive_find::folder_of;
+use archive_find::find_include;
 use image::Step;
 use image::Totals;
 use limits::MOST_OPENS;
@@ -16,12 +15,13 @@ use lines::Line;
 use lines::parse_line;
 use parser::Put;
 use parser::parse_entry;
+use paths::folder_of;
 
 // Reads the file that an include of `name` from `folder` asks for, in the include's place. `depth` depths are left below the text.
-fn include(
+fn include<'a>(
     classes: &[u8; 256],
-    name: &[u8],
-    folder: &[u8],
+    name: &'a [u8],
+    folder: &'a [u8],
     archive: &[u8],
     depth: usize,
     totals: Totals,
@@ -34,7 +34,7 @@ fn include(
     if depth == 0 {
         return Step::Go(totals);
     }
-    let found = find(archive, folder, name);
+    let found = find_include(archive, folder, name);
     let Found::At(member) = found else {
         return Step::Go(totals);
     };
@@ -66,10 +66,10 @@ fn include(
 }
 
 // Reads a text of `folder`, line by line, with `depth` depths left below it.
-pub fn parse_database(
+pub fn parse_database<'a>(
     classes: &[u8; 256],
-    text: &[u8],
-    folder: &[u8],
+    text: &'a [u8],
+    folder: &'a [u8],
     archive: &[u8],
     depth: usize,
     totals: Totals,

@@ -1,17 +1,18 @@
 -- Laws of the archive: its bytes and its files say the same, and what striking a file off does. Assumes nothing.
-use mathlib.Core.Bool.{true, false, _&&_}
+use mathlib.Core.Bool.{Bool, true, false, _&&_}
 use mathlib.Core.List.{List, [], _∷_, _++_, map, append-assoc}
 use mathlib.Core.Option.{none}
 use mathlib.Core.Path.{_≡_, refl, ap}
 use Prim.Native.Nat.{ℕ, zero, suc, _+_, _*_, _/_, _%_, _≤_, _<_}
 use native.Mathlib.Omega.{arith}
-use lib.Dec.{leb}
+use lib.Dec.{eqb, leb}
 use lib.ListN.{length, drop, getD, length-append}
 use lib.Seq.{take-append-seam, drop-append-seam, drop-append-add, drop-at}
 use borrow.Author.Tests.{leb-true, le-leb}
-use Rattle.definition.specs.Lists.{all, same, lower}
+use Rattle.definition.specs.Lists.{if_then_else_, all, same, lower}
 use Rattle.definition.specs.Limits.{archiveBytes, archiveFiles}
-use Rattle.definition.specs.Archive.{File, lengthsOf, bodiesOf, archiveOf, filesFrom, filesOf, isFileName, rising, areFiles, laidOut, removed, struckOff, bodyOf}
+use Rattle.definition.specs.Bytes.{slash}
+use Rattle.definition.specs.Archive.{File, lengthsOf, bodiesOf, archiveOf, filesFrom, filesOf, prefixed, split, isFileName, rising, areFiles, laidOut, removed, struckOff, bodyOf}
 use Rattle.laws.proofs.Lists.{and-true, and-both, same-eq, same-refl, lower-asym, lower-trans, lower-differ, same-sym, all-getD, all-map, all-without, length-without}
 
 -- ---- The files of the bytes of files
@@ -209,3 +210,16 @@ removed-other zero [] n h k = refl
 removed-other zero (f ∷ fs) n h k = rw k refl
 removed-other (suc j) [] n h k = refl
 removed-other (suc j) (f ∷ fs) n h k = rw (removed-other j fs n (omega arith) k) refl
+
+-- ---- Names
+
+-- a split has one part at least
+pub split-some : (t : List ℕ) → (q : List ℕ) × (qs : List (List ℕ)) × (split t ≡ q ∷ qs)
+unfolding split prefixed
+split-some [] = ([], [], refl)
+split-some (c ∷ t) = at (eqb c slash) (split t)
+  where
+    at : (b : Bool) (ps : List (List ℕ)) → (q : List ℕ) × (qs : List (List ℕ)) × ((if b then [] ∷ ps else prefixed c ps) ≡ q ∷ qs)
+    at true ps = ([], ps, refl)
+    at false [] = (c ∷ [], [], refl)
+    at false (p ∷ ps) = (c ∷ p, ps, refl)

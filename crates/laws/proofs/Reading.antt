@@ -12,7 +12,7 @@ use Rattle.definition.specs.Lists.{if_then_else_, all, any}
 use Rattle.definition.specs.Limits.{mostParts, mostEntries, mostOpens}
 use Rattle.definition.specs.Archive.{File, laidOut, bodyOf, folderOf, pathOf}
 use Rattle.definition.specs.Text.{Entry, Line, skipped, include, entry, linesOf}
-use Rattle.definition.specs.Including.{Chain, Event, opened, entered, eventsOf, opening, including, events, eventsOfAll, entriesOf, opensOf}
+use Rattle.definition.specs.Including.{Chain, Event, opened, entered, eventsOf, opening, seeking, including, events, eventsOfAll, entriesOf, opensOf}
 use Rattle.definition.specs.Image.{tooShort, imageContents, imageBodies}
 use Rattle.definition.specs.Reading.{Totals, Verdict, within, past, judge, start, accepted, refused, Outcome, outcome, met, readEntries, plain, left, tooLong, reading}
 use Rattle.definition.specs.ThirdTerm.{isAccepted}
@@ -105,13 +105,19 @@ module _ (good : Entry → Bool) (test : Line → Bool) (agrees : (e : Entry) �
   opening-good ch r none f = refl
   opening-good ch r (some b) f = f b
 
+  seeking-good : (f : List ℕ → List Event) (o : Option (List ℕ)) → ((g : List ℕ) → Good (f g)) → Good (seeking f o)
+  unfolding seeking entriesOf all
+  seeking-good f none h = refl
+  seeking-good f (some g) h = h g
+
   including-good : (d : ℕ) (fs : List File) (folder : List ℕ) (ch : Chain) (n : List ℕ) → Good (including d fs folder ch n)
   unfolding including entriesOf all
   including-good zero fs folder ch n = refl
   including-good (suc d) fs folder ch n =
-      let g = pathOf folder n in
+      seeking-good _ (pathOf folder n)
+      (λ g.
       opening-good (ch ++ g ∷ []) _ (bodyOf fs g)
-      (λ b. eventsOf-good (including d fs (folderOf g) (ch ++ g ∷ [])) (ch ++ g ∷ []) (linesOf b) (λ m. including-good d fs (folderOf g) (ch ++ g ∷ []) m) (lines-pass b))
+      (λ b. eventsOf-good (including d fs (folderOf g) (ch ++ g ∷ [])) (ch ++ g ∷ []) (linesOf b) (λ m. including-good d fs (folderOf g) (ch ++ g ∷ []) m) (lines-pass b)))
 
   events-good : (d : ℕ) (fs : List File) (t : List ℕ) → all good (plain (entriesOf (events d fs t))) ≡ true
   unfolding events

@@ -7,7 +7,7 @@ use Prim.Native.Nat.{ℕ, zero, suc}
 use Rattle.definition.specs.Lists.{if_then_else_, any, filter, same}
 use Rattle.definition.specs.Archive.{File, bodyOf, folderOf, pathOf}
 use Rattle.definition.specs.Text.{Line, skipped, include, entry, linesOf}
-use Rattle.definition.specs.Including.{Chain, Event, opened, entered, eventsOf, opening, including, events, eventsOfAll, Entered, entriesOf}
+use Rattle.definition.specs.Including.{Chain, Event, opened, entered, eventsOf, opening, seeking, including, events, eventsOfAll, Entered, entriesOf}
 use Rattle.definition.specs.ThirdTerm.{cameThrough, leftWithout}
 use Rattle.laws.proofs.Lists.{same-eq, any-append, filter-append}
 
@@ -55,14 +55,28 @@ module _ (file : List ℕ) where
   still-on : (ch : Chain) (n : List ℕ) → on ch ≡ true → on (ch ++ n ∷ []) ≡ true
   still-on ch n h = rw (on-below ch n, h) refl
 
+  seeking-gone : (f : List ℕ → List Event) (o : Option (List ℕ)) → ((g : List ℕ) → eventsWithout (f g) ≡ []) → eventsWithout (seeking f o) ≡ []
+  unfolding seeking filter
+  seeking-gone f none h = refl
+  seeking-gone f (some g) h = h g
+
+  -- what a file's body adds, with d depths left below the file
+  abbrev body-events : ℕ → List File → Chain → List ℕ → List ℕ → List Event
+  body-events d fs ch g b = eventsOf (including d fs (folderOf g) (ch ++ g ∷ [])) (ch ++ g ∷ []) (linesOf b)
+
+  abbrev file-events : ℕ → List File → Chain → List ℕ → List Event
+  file-events d fs ch g = opening (ch ++ g ∷ []) (body-events d fs ch g) (bodyOf fs g)
+
   including-gone : (d : ℕ) (fs : List File) (folder : List ℕ) (ch : Chain) (n : List ℕ) → on ch ≡ true → eventsWithout (including d fs folder ch n) ≡ []
   unfolding including filter
   including-gone zero fs folder ch n h = refl
   including-gone (suc d) fs folder ch n h =
-      let g = pathOf folder n in
-      let k = still-on ch g h in
-      opening-gone (ch ++ g ∷ []) _ (bodyOf fs g) k
-      (λ b. eventsOf-gone (including d fs (folderOf g) (ch ++ g ∷ [])) (ch ++ g ∷ []) (linesOf b) k (λ m. including-gone d fs (folderOf g) (ch ++ g ∷ []) m k))
+      seeking-gone (file-events d fs ch) (pathOf folder n)
+      (λ g.
+      opening-gone (ch ++ g ∷ []) (body-events d fs ch g) (bodyOf fs g) (still-on ch g h)
+      (λ b.
+      eventsOf-gone (including d fs (folderOf g) (ch ++ g ∷ [])) (ch ++ g ∷ []) (linesOf b) (still-on ch g h)
+      (λ m. including-gone d fs (folderOf g) (ch ++ g ∷ []) m (still-on ch g h))))
 
   -- ---- Elsewhere all stays but what came through the file
 
@@ -81,41 +95,45 @@ module _ (file : List ℕ) where
   opening-struck ch r r′ none h f = refl
   opening-struck ch r r′ (some b) h f = rw (h, f b) refl
 
+  seeking-struck : (f f′ : List ℕ → List Event) (o : Option (List ℕ)) → ((g : List ℕ) → f′ g ≡ eventsWithout (f g))
+      → seeking f′ o ≡ eventsWithout (seeking f o)
+  unfolding seeking filter
+  seeking-struck f f′ none h = refl
+  seeking-struck f f′ (some g) h = h g
+
   module _ (fs gs : List File) (lacks : Lacks fs gs file) where
     Struck : ℕ → Type 0
     Struck d = (folder : List ℕ) (ch : Chain) (n : List ℕ) → on ch ≡ false → including d gs folder ch n ≡ eventsWithout (including d fs folder ch n)
 
     -- an include of g, by whether g is the file
-    at-file : (d : ℕ) (folder : List ℕ) (ch : Chain) (n : List ℕ) → same file (pathOf folder n) ≡ true
-        → including (suc d) gs folder ch n ≡ eventsWithout (including (suc d) fs folder ch n)
-    unfolding including opening
-    at-file d folder ch n e =
-        let g = pathOf folder n in
+    at-file : (d : ℕ) (ch : Chain) (g : List ℕ) → same file g ≡ true → file-events d gs ch g ≡ eventsWithout (file-events d fs ch g)
+    unfolding opening
+    at-file d ch g e =
         let k : on (ch ++ g ∷ []) ≡ true = rw (on-below ch g, e) (or-true (on ch)) in
         let nothing-there : bodyOf gs g ≡ none = rw (← same-eq file g e) (lacks .gone) in
         rw nothing-there
-        (sym (opening-gone (ch ++ g ∷ []) _ (bodyOf fs g) k
+        (sym (opening-gone (ch ++ g ∷ []) (body-events d fs ch g) (bodyOf fs g) k
         (λ b. eventsOf-gone (including d fs (folderOf g) (ch ++ g ∷ [])) (ch ++ g ∷ []) (linesOf b) k (λ m. including-gone d fs (folderOf g) (ch ++ g ∷ []) m k))))
 
-    at-other : (d : ℕ) → Struck d → (folder : List ℕ) (ch : Chain) (n : List ℕ) → on ch ≡ false → same file (pathOf folder n) ≡ false
-        → including (suc d) gs folder ch n ≡ eventsWithout (including (suc d) fs folder ch n)
-    unfolding including Struck
-    at-other d ih folder ch n h e =
-        let g = pathOf folder n in
+    at-other : (d : ℕ) → Struck d → (ch : Chain) (g : List ℕ) → on ch ≡ false → same file g ≡ false
+        → file-events d gs ch g ≡ eventsWithout (file-events d fs ch g)
+    unfolding Struck
+    at-other d ih ch g h e =
         let k : on (ch ++ g ∷ []) ≡ false = rw (on-below ch g, h, e) refl in
         rw (lacks .others g e)
-        (opening-struck (ch ++ g ∷ []) _ _ (bodyOf fs g) k
+        (opening-struck (ch ++ g ∷ []) (body-events d fs ch g) (body-events d gs ch g) (bodyOf fs g) k
         (λ b. eventsOf-struck (including d fs (folderOf g) (ch ++ g ∷ [])) (including d gs (folderOf g) (ch ++ g ∷ [])) (ch ++ g ∷ []) (linesOf b) k
         (λ m. ih (folderOf g) (ch ++ g ∷ []) m k)))
 
     including-struck : (d : ℕ) → Struck d
     unfolding including filter Struck
     including-struck zero folder ch n h = refl
-    including-struck (suc d) folder ch n h = at (same file (pathOf folder n)) refl (including-struck d)
+    including-struck (suc d) folder ch n h =
+        seeking-struck (file-events d fs ch) (file-events d gs ch) (pathOf folder n) (λ g. at g (same file g) refl (including-struck d))
       where
-        at : (b : Bool) → same file (pathOf folder n) ≡ b → Struck d → including (suc d) gs folder ch n ≡ eventsWithout (including (suc d) fs folder ch n)
-        at true e ih = at-file d folder ch n e
-        at false e ih = at-other d ih folder ch n h e
+        at : (g : List ℕ) (b : Bool) → same file g ≡ b → Struck d → file-events d gs ch g ≡ eventsWithout (file-events d fs ch g)
+        at g true e ih = at-file d ch g e
+        at g false e ih = at-other d ih ch g h e
 
     events-struck : (d : ℕ) (t : List ℕ) → events d gs t ≡ eventsWithout (events d fs t)
     unfolding events any Struck

@@ -58,8 +58,11 @@ operand = 13
 abbrev pub help : ℕ
 help = 14
 
+abbrev pub missing : ℕ
+missing = 15
+
 abbrev pub unknown : ℕ
-unknown = 15
+unknown = 16
 
 -- ---- Values
 
@@ -111,4 +114,5 @@ optionOf a =
     if same a (ascii "--status-fd") then status else
     if same a (ascii "--help") then help else
     if same a (ascii "--") then operand else
+    if same a (ascii "--missing") then missing else
     chainOption a

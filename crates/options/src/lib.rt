@@ -38,7 +38,9 @@ pub const OPERAND: usize = 13;
 // Options that nothing follows.
 pub const HELP: usize = 14;
 
-pub const UNKNOWN: usize = 15;
+pub const MISSING: usize = 15;
+
+pub const UNKNOWN: usize = 16;
 
 // ---- Values
 
@@ -152,6 +154,9 @@ pub fn option_of(argument: &[u8]) -> usize
     }
     if is_word(argument, b"--") {
         return OPERAND;
+    }
+    if is_word(argument, b"--missing") {
+        return MISSING;
     }
     chain_option(argument)
 }

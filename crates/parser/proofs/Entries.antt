@@ -207,7 +207,7 @@ module _ {t : List ℕ} {v count size : ℕ} {verbatim : Bool} {s : Totals} {c b
 
 -- ---- What a caller reads off an entry that is stored
 
-after-value : (t : List ℕ) (v : ℕ) → v ≤ length t → Suffix (drop 1 (pieces (drop v t) .rest)) t
+pub after-value : (t : List ℕ) (v : ℕ) → v ≤ length t → Suffix (drop 1 (pieces (drop v t) .rest)) t
 after-value t v h = one (pieces (drop v t) .rest) (suffix-trans (rest-suffix (afterBlanks (drop v t))) (suffix-trans (blanks-suffix (drop v t)) (suffix-drop (suffix-whole t) v h)))
   where
     one : (u : List ℕ) → Suffix u t → Suffix (drop 1 u) t

@@ -8,29 +8,33 @@ use Rattle.definition.specs.Lists.{if_then_else_}
 use Rattle.options.specs.Options.{text, name, class, anything, operand}
 use Rattle.plans.specs.declared.Plan.{Plan}
 
--- the numbers of the arguments given for each thing, 0 for none; the first that is not understood; what is next; is help asked for, and a chain?
-abbrev pub plan : List ℕ → ℕ → ℕ → Bool → Bool → Plan
-plan given wrong next help chain = record { given = given; wrong = wrong; next = next; help = help; chain = chain }
+-- the numbers of the arguments given for each thing, 0 for none; the first that is not understood; what is next; is help asked for, the
+-- includes that find no file, and a chain?
+abbrev pub plan : List ℕ → ℕ → ℕ → Bool → Bool → Bool → Plan
+plan given wrong next help missing chain = record { given = given; wrong = wrong; next = next; help = help; missing = missing; chain = chain }
 
 abbrev pub nothingAsked : Plan
-nothingAsked = plan (replicate 11 0) 0 anything false false
+nothingAsked = plan (replicate 11 0) 0 anything false false false
 
 -- the plan with one field more
 module _ (p : Plan) where
   abbrev pub toGiven : List ℕ → Plan
-  toGiven given = plan given (p .wrong) (p .next) (p .help) (p .chain)
+  toGiven given = plan given (p .wrong) (p .next) (p .help) (p .missing) (p .chain)
 
   abbrev pub toWrong : ℕ → Plan
-  toWrong i = plan (p .given) i (p .next) (p .help) (p .chain)
+  toWrong i = plan (p .given) i (p .next) (p .help) (p .missing) (p .chain)
 
   abbrev pub toNext : ℕ → Plan
-  toNext n = plan (p .given) (p .wrong) n (p .help) (p .chain)
+  toNext n = plan (p .given) (p .wrong) n (p .help) (p .missing) (p .chain)
 
   abbrev pub toHelp : Plan
-  toHelp = plan (p .given) (p .wrong) (p .next) true (p .chain)
+  toHelp = plan (p .given) (p .wrong) (p .next) true (p .missing) (p .chain)
+
+  abbrev pub toMissing : Plan
+  toMissing = plan (p .given) (p .wrong) (p .next) (p .help) true (p .chain)
 
   abbrev pub toChain : Plan
-  toChain = plan (p .given) (p .wrong) (p .next) (p .help) true
+  toChain = plan (p .given) (p .wrong) (p .next) (p .help) (p .missing) true
 
 -- the argument that was given for something
 unfoldable pub givenFor : Plan → ℕ → ℕ

@@ -9,13 +9,14 @@ use options::OPERAND;
 use options::TEXT;
 
 // Arguments by their numbers, of which 0, the program's own name, says that there is none. `given` has those that the options name,
-// from TEXT to HOST; `wrong` is the first that is not understood; `next` is what the next one is for; `help` and `chain`, a start-up
-// chain, are asked for or not.
+// from TEXT to HOST; `wrong` is the first that is not understood; `next` is what the next one is for; `help`, `missing`, the includes that
+// find no file, and `chain`, a start-up chain, are asked for or not.
 pub struct Plan {
     pub given: [usize; 11],
     pub wrong: usize,
     pub next: usize,
     pub help: bool,
+    pub missing: bool,
     pub chain: bool,
 }
 
@@ -27,6 +28,7 @@ pub fn nothing_asked() -> Plan
         wrong: 0,
         next: ANY,
         help: false,
+        missing: false,
         chain: false,
     }
 }

@@ -1,10 +1,10 @@
 -- Pieces put one after another. Assumes nothing.
-use mathlib.Core.List.{List, _++_}
-use mathlib.Core.Path.{_≡_, ap, sym, _∙_}
+use mathlib.Core.List.{List, [], _++_}
+use mathlib.Core.Path.{_≡_, refl, ap, sym, _∙_}
 use Prim.Native.Nat.{ℕ, _+_, _≤_}
 use native.Mathlib.Omega.{arith}
 use lib.ListN.{length, length-append}
-use lib.Seq.{paste, length-paste, length-take-le}
+use lib.Seq.{paste, paste-zero, length-paste, length-take-le}
 use Rattle.io.specs.Counts.{Counts}
 use Rattle.laws.proofs.Lists.{paste-append}
 use Rattle.printing.specs.Putting.{Appends}
@@ -33,3 +33,39 @@ pub piece-counts : {bytes out out′ : List ℕ} {end : ℕ} → Appends bytes o
 piece-counts {bytes} {out} {out′} {end} p =
     let n : end ≤ length out′ = omega (arith, p .ends, p .fits, piece-long p) in
     (n, sym (length-take-le end out′ n))
+
+-- ---- Pieces put in a loop
+
+-- `left` is still to be put, from `end` on, of what is to stand from `at` on
+pub record Walk (whole out₀ : List ℕ) (at : ℕ) (left out : List ℕ) (end : ℕ) : Type 0 where
+  pub place : end + length left ≡ at + length whole
+  pub same-length : length out ≡ length out₀
+  pub leaves : paste out end left (length left) ≡ paste out₀ at whole (length whole)
+
+pub walk-begun : (whole out : List ℕ) (at : ℕ) → Walk whole out at whole out at
+walk-begun whole out at = record { place = refl; same-length = refl; leaves = refl }
+
+-- one piece more
+pub walk-next : {whole out₀ left line more out out′ : List ℕ} {at end end′ : ℕ} → Walk whole out₀ at left out end → left ≡ line ++ more
+    → Appends line out end out′ end′ → Walk whole out₀ at more out′ end′
+walk-next {whole} {out₀} {left} {line} {more} {out} {out′} {at} {end} {end′} w e p =
+    let l : length left ≡ length line + length more = ap length e ∙ length-append line more in
+    record {
+      place = omega (arith, w .place, p .ends);
+      same-length = piece-long p ∙ w .same-length;
+      leaves = ap (λ (x : ℕ). paste out′ x more (length more)) (p .ends) ∙ ap (λ (o : List ℕ). paste o (end + length line) more (length more)) (p .leaves)
+          ∙ sym (paste-append out end line more (p .fits)) ∙ ap (λ (t : List ℕ). paste out end t (length t)) (sym e) ∙ w .leaves;
+    }
+
+pub walk-room : {whole out₀ left out : List ℕ} {at end : ℕ} (line more : List ℕ) → at + length whole ≤ length out₀ → Walk whole out₀ at left out end → left ≡ line ++ more
+    → end + length line ≤ length out
+walk-room line more h w e = omega (arith, h, w .place, w .same-length, ap length e ∙ length-append line more)
+
+pub walk-ended : {whole out₀ left out : List ℕ} {at end : ℕ} → at + length whole ≤ length out₀ → Walk whole out₀ at left out end → left ≡ [] → Appends whole out₀ at out end
+walk-ended {whole} {out₀} {left} {out} {at} {end} h w e =
+    let l : length left ≡ 0 = ap length e in
+    record {
+      fits = h;
+      ends = omega (arith, w .place);
+      leaves = paste-zero out end [] ∙ ap (λ (t : List ℕ). paste out end t (length t)) (sym e) ∙ w .leaves;
+    }

@@ -1,5 +1,5 @@
 -- Laws of values.
 pub mod Skipping
-mod Pieces
-mod Decoding
+pub mod Pieces
+pub mod Decoding
 pub mod Values

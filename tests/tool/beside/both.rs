@@ -90,7 +90,7 @@ impl Both {
                 return Ok(None);
             }
         };
-        let (database, opens) = self.room.read(source);
+        let (database, opens) = self.room.read(source, &reading);
         let read = Read { entries: listed(&database), database, opens, reading };
         if read.entries != entries(&read.reading.entries) || read.opens != read.reading.opens {
             return Err(self.difference(&Case::read(source.clone())));
@@ -106,7 +106,8 @@ impl Both {
     pub fn start(&mut self, start_up: &StartUp, archive: &[u8], setting: Setting) -> Result<(), String> {
         let case = Case::read(Source::chain(start_up.clone(), archive.to_vec()));
         let answer = records::model_answer(&case).map_err(|refusal| format!("refused {}", refusal.number()))?;
-        let said = self.room.start(start_up, archive, setting);
+        let reading = admitted_reading(&case.source)?;
+        let said = self.room.start(start_up, &case.source, &reading, setting);
         if said != records::answer_fields(&answer).join(" ") {
             let model = records::write_line(&case, &answer);
             return Err(format!("they differ with {setting:?}\n{}\nthe Rust:  {said}\nthe model: {model}", describe(&case)));

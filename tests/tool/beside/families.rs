@@ -9,13 +9,13 @@ use cases::limits::edges;
 use cases::readings::Extent;
 use cases::texts::aligned_key;
 use cases::words::{each_word, keys, queries};
-use cases::{archives, named_chains, realistic, texts};
+use cases::{archives, dotted, named_chains, realistic, struck, texts};
 use model::archive::{judge, lay_out, File};
 use records::{archive_of, Query, Source};
 
 type Family = fn(&mut Both, u64) -> Result<(), String>;
 
-const FAMILIES: [(&str, Family); 22] = [
+const FAMILIES: [(&str, Family); 26] = [
     ("texts", every_text),
     ("values", every_value),
     ("keys", every_key),
@@ -30,6 +30,10 @@ const FAMILIES: [(&str, Family); 22] = [
     ("random", random),
     ("wide-lookups", wide_lookups),
     ("archives", random_archives),
+    ("dotted-by-name", dotted_by_name),
+    ("dotted-names", every_dotted_name),
+    ("dotted-ways", random_dotted_ways),
+    ("dotted-struck-off", dotted_struck_off),
     ("realistic", like_real_files),
     ("damaged", damaged_copies),
     ("struck-off", struck_off),
@@ -192,6 +196,32 @@ fn random_archives(both: &mut Both, seed: u64) -> Result<(), String> {
     })
 }
 
+/// Names with dots chosen by hand. Those of which the documents say that they stay outside are left out.
+fn dotted_by_name(both: &mut Both, _: u64) -> Result<(), String> {
+    let queries = [Query::new(b"p", b""), Query::new(b"c", b"")];
+    dotted::edges().iter().try_for_each(|edge| both.ask(&edge.source, &queries).map_err(|why| format!("{}: {why}", edge.label)))
+}
+
+/// All names of up to six parts `.`, `..`, `a`, `b` and `...`, from folders of up to three parts.
+fn every_dotted_name(both: &mut Both, seed: u64) -> Result<(), String> {
+    dotted::every_admitted_name(Extent { seed, times: 1 }, &mut |source| both.read(source).map(drop))
+}
+
+fn random_dotted_ways(both: &mut Both, seed: u64) -> Result<(), String> {
+    let draw = &mut Draw::new(seed, "dotted ways");
+    (0..3_000).try_for_each(|_| {
+        let (source, query) = dotted::source(draw);
+        both.ask(&source, &and_others(draw, query))
+    })
+}
+
+/// Each file of an archive struck off whose includes have dots.
+fn dotted_struck_off(both: &mut Both, seed: u64) -> Result<(), String> {
+    let (_, family) = struck::FAMILIES.iter().find(|(name, _)| *name == "dotted").ok_or("no such family")?;
+    family(Extent { seed, times: 1 }, &mut |source, which, queries| both.strike(source, which, queries))?;
+    both.counts.some_moved()
+}
+
 fn like_real_files(both: &mut Both, seed: u64) -> Result<(), String> {
     let draw = &mut Draw::new(seed, "realistic");
     (0..4_000).try_for_each(|_| {
@@ -261,13 +291,14 @@ fn struck_off(both: &mut Both, seed: u64) -> Result<(), String> {
 /// directory and once not there; where both that HOME would hold are so, HOME is also once not set.
 fn every_start_up(both: &mut Both, _: u64) -> Result<(), String> {
     const TEXTS: [&[u8]; 5] = [
-        b"*from: property\n#include \"p\"\n*last: \\1",
-        b"*from: xresources\n#include \"d/p\"\n*last: 1\\",
+        b"*from: property\n#include \"x/../p\"\n*last: \\1",
+        b"*from: xresources\n#include \"./d/p\"\n*last: 1\\",
         b"*from: xdefaults\n*last:1\n#include \"p\"",
-        b"01*named: xenvironment\n#include \"d/p\"\n#include \"p\"",
-        b"n*host: desk\n#include \"p\"\n!",
+        b"01*named: xenvironment\n#include \"d/p\"\n#include \"d/../p\"",
+        b"n*host: desk\n#include \"././p\"\n!",
     ];
-    let archive = archive_of(&[(b"p", b"*p: 1\n#include \"d/p\""), (b"d/p", b"*d.p: 2\n#include \"q\""), (b"d/q", b"*q: 3")]);
+    let archive =
+        archive_of(&[(b"p", b"*p: 1\n#include \"./d/p\""), (b"d/p", b"*d.p: 2\n#include \"../d/q\""), (b"d/q", b"*q: 3")]);
     for combination in (0..Combination::COUNT).map(Combination::nth) {
         let mut texts = TEXTS.iter();
         let start_up = combination.start_up(|| texts.next().expect("five texts").to_vec());

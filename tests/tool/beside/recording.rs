@@ -8,7 +8,7 @@ use cases::draw::Draw;
 use cases::limits::edges;
 use cases::named::{named, small};
 use cases::words::words;
-use cases::{archives, named_chains, realistic, texts};
+use cases::{archives, dotted, named_chains, realistic, texts};
 use model::archive::judge;
 use records::{write_line, Answer, Case, Kind, Query, Source};
 use std::collections::BTreeSet;
@@ -48,9 +48,9 @@ pub fn record(folder: &str, seed: u64, room: &mut Room) -> Result<String, String
     write("keys.txt", chosen(room, every_short_key())?)?;
     write("values.txt", chosen(room, every_short_value())?)?;
     write("lines.txt", drawn(room, 1_000, &mut draw("lines.txt"), random_lines))?;
-    write("includes.txt", drawn(room, 600, &mut draw("includes.txt"), |draw| Case::read(archives::source(draw).0)))?;
+    write("includes.txt", includes(room, 600, &mut draw("includes.txt")))?;
     write("lookups.txt", drawn(room, 1_200, &mut draw("lookups.txt"), random_lookup))?;
-    write("struck.txt", struck_off(room, 100, &mut draw("struck.txt")))?;
+    write("struck.txt", struck_off(room, 101, &mut draw("struck.txt")))?;
     write("readings.txt", drawn(room, 700, &mut draw("readings.txt"), random_reading))?;
     write("damaged.txt", drawn(room, 500, &mut draw("damaged.txt"), damaged_case))?;
     write("realistic.txt", drawn(room, 100, &mut draw("realistic.txt"), realistic_case))?;
@@ -114,6 +114,20 @@ fn at_the_limits(room: &mut Room) -> (Vec<String>, Vec<String>) {
     lines.into_iter().partition(|line| line.len() <= LONG_LINE)
 }
 
+/// So many readings with archives: those of the names with dots chosen by hand that are admitted and short, and drawn ones, of
+/// which one in four has dots in each of its includes.
+fn includes(room: &mut Room, count: usize, draw: &mut Draw) -> Vec<String> {
+    let cases = dotted::edges().into_iter().map(|edge| Case::read(edge.source)).filter(is_admitted);
+    let mut lines: Vec<String> = cases.map(|case| line(room, &case)).filter(|line| line.len() <= SHORT_LINE).collect();
+    lines.dedup();
+    let left = count - lines.len();
+    lines.extend(drawn(room, left, draw, |draw| {
+        let source = if draw.one_in(4) { dotted::source(draw) } else { archives::source(draw) };
+        Case::read(source.0)
+    }));
+    lines
+}
+
 fn every_short_key() -> Vec<Case> {
     let text = |key: Vec<u8>| Case::read(Source::plain(&[key, b":x".to_vec()].concat()));
     words(b"a?.*", 4).into_iter().map(text).collect()
@@ -143,7 +157,8 @@ fn random_pair(draw: &mut Draw, most_lines: usize) -> (Source, Query) {
     (Source::plain(&texts::text(draw, most_lines, &query)), query)
 }
 
-/// One query before and after each file of its archive is struck off.
+/// So many lines: one query before and after each file of its archive is struck off. A group that does not fit, or that leaves
+/// room for one line alone, is passed over.
 fn struck_off(room: &mut Room, count: usize, draw: &mut Draw) -> Vec<String> {
     let mut lines = Vec::new();
     while lines.len() < count {
@@ -155,7 +170,9 @@ fn struck_off(room: &mut Room, count: usize, draw: &mut Draw) -> Vec<String> {
             continue;
         }
         let group: Vec<String> = [whole].iter().chain(&cases).map(|case| line(room, case)).collect();
-        if group.iter().all(|line| line.len() <= SHORT_LINE) {
+        let left = count - lines.len();
+        let fits = group.len() <= left && group.len() + 1 != left;
+        if fits && group.iter().all(|line| line.len() <= SHORT_LINE) {
             lines.extend(group);
         }
     }

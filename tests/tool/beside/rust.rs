@@ -3,15 +3,22 @@
 #[path = "start.rs"]
 pub mod start;
 
+use cases::admitted::admitted_reading;
 use model::archive::{judge, Archive};
 use model::lookup::Number;
+use model::paths::PATH_BYTES;
+use model::reading::Reading;
 use model::startup::StartUp;
 use oracle::resource_manager::{entries_of, Database};
 use records::{answer_fields, hex, Answer, Case, Kind, Query, Source, Start};
 use start::{lay_out, start_here, Setting};
+use std::collections::BTreeSet;
 use std::fs;
 use std::path::{Path, PathBuf};
 use std::process::Command;
+
+/// The most bytes of a path that Linux takes, with a zero byte after it.
+const SYSTEMS_PATH_BYTES: usize = 4_096;
 
 /// A directory in which each archive gets a directory of its own, removed when the next one comes.
 pub struct Room {
@@ -19,78 +26,87 @@ pub struct Room {
     made: usize,
     /// The archive that is written out, and where.
     current: Option<(Vec<u8>, PathBuf)>,
+    /// The folders that were made there for names with dots.
+    folders: BTreeSet<Vec<u8>>,
     /// How many chains were read.
     chains: usize,
 }
 
 impl Room {
     pub fn new(root: &str) -> Self {
-        Self { root: PathBuf::from(root), made: 0, current: None, chains: 0 }
+        Self { root: PathBuf::from(root), made: 0, current: None, folders: BTreeSet::new(), chains: 0 }
     }
 
-    /// The directory that holds the files of a good archive.
-    fn directory(&mut self, archive: &[u8]) -> PathBuf {
-        if let Some((bytes, directory)) = &self.current {
-            if bytes == archive {
-                return directory.clone();
+    /// The directory that holds the files of a good archive, and these folders.
+    fn directory(&mut self, archive: &[u8], folders: &BTreeSet<Vec<u8>>) -> PathBuf {
+        if self.current.as_ref().is_none_or(|(bytes, _)| bytes != archive) {
+            self.clear();
+            let directory = self.root.join(self.made.to_string());
+            assert!(directory.as_os_str().len() + 1 + PATH_BYTES < SYSTEMS_PATH_BYTES, "a shorter place for the archives");
+            self.made += 1;
+            write_out(&judge(archive).expect("an archive"), &directory);
+            self.current = Some((archive.to_vec(), directory));
+        }
+        let (_, directory) = self.current.as_ref().expect("a directory");
+        for folder in folders {
+            if self.folders.insert(folder.clone()) {
+                fs::create_dir_all(directory.join(ascii(folder))).expect("a folder that names mention");
             }
         }
-        self.clear();
-        let directory = self.root.join(self.made.to_string());
-        self.made += 1;
-        write_out(&judge(archive).expect("an archive"), &directory);
-        self.current = Some((archive.to_vec(), directory.clone()));
-        directory
+        directory.clone()
     }
 
     fn clear(&mut self) {
+        self.folders.clear();
         if let Some((_, directory)) = self.current.take() {
             fs::remove_dir_all(directory).expect("a directory of its own can be removed");
         }
     }
 
-    /// The Rust's reading of a source, and its opens. Chains are set up in one way after the other.
-    pub fn read(&mut self, source: &Source) -> (Database, usize) {
+    /// The Rust's reading of a source, and its opens, where the model's reading says which folders must be there. Chains are
+    /// set up in one way after the other.
+    pub fn read(&mut self, source: &Source, reading: &Reading) -> (Database, usize) {
         match &source.start {
             Start::Text(text) => {
-                let directory = self.directory(&source.archive);
+                let directory = self.directory(&source.archive, &reading.folders);
                 oracle::count_opens(|| Database::new_from_data_with_base_directory(text, &directory))
             }
             Start::Chain(start_up) => {
                 self.chains += 1;
                 let setting = Setting::nth(self.chains, start_up);
-                self.with_chain(start_up, &source.archive, setting, |directory| start_here(start_up, directory, setting))
+                let directory = self.chains_directory(start_up, source, reading, setting);
+                let read = start_here(start_up, &directory, setting);
+                self.clear();
+                read
             }
         }
     }
 
-    /// Runs `work` with a directory that holds a chain's own files too.
-    fn with_chain<T>(&mut self, start_up: &StartUp, archive: &[u8], setting: Setting, work: impl FnOnce(&Path) -> T) -> T {
-        let directory = self.directory(archive);
+    /// A directory that holds a chain's own files too.
+    fn chains_directory(&mut self, start_up: &StartUp, source: &Source, reading: &Reading, setting: Setting) -> PathBuf {
+        let directory = self.directory(&source.archive, &reading.folders);
         lay_out(start_up, &directory, setting);
-        let result = work(&directory);
-        self.clear();
-        result
+        directory
     }
 
     /// What a process of its own says of a chain: this program, begun as `start FORMAT PROPERTY` in the chain's directory,
     /// with HOME and XENVIRONMENT alone in its environment.
-    pub fn start(&mut self, start_up: &StartUp, archive: &[u8], setting: Setting) -> String {
+    pub fn start(&mut self, start_up: &StartUp, source: &Source, reading: &Reading, setting: Setting) -> String {
+        let directory = self.chains_directory(start_up, source, reading, setting);
+        let environment = setting.environment(start_up, &directory);
         let mut command = Command::new(std::env::current_exe().expect("this program"));
         command.args(["start", &start_up.format.to_string(), &hex(&start_up.property)]).env_clear();
-        let run = |directory: &Path| {
-            let environment = setting.environment(start_up, directory);
-            command.envs(environment.into_iter().filter_map(|(name, value)| Some((name, value?))));
-            command.current_dir(directory).output().expect("a process")
-        };
-        let output = self.with_chain(start_up, archive, setting, run);
+        command.envs(environment.into_iter().filter_map(|(name, value)| Some((name, value?))));
+        let output = command.current_dir(directory).output().expect("a process");
+        self.clear();
         let said = String::from_utf8_lossy(if output.status.success() { &output.stdout } else { &output.stderr });
         said.trim_end().to_string()
     }
 
     /// The Rust's answer to a case that is admitted to the run.
     pub fn answer(&mut self, case: &Case) -> Answer {
-        let (database, opens) = self.read(&case.source);
+        let reading = admitted_reading(&case.source).expect("an admitted case");
+        let (database, opens) = self.read(&case.source, &reading);
         let (name, class) = texts(&case.query).expect("a query in UTF-8");
         match case.kind {
             Kind::Read => Answer::Read { opens, entries: listed(&database) },
@@ -117,10 +133,14 @@ pub fn said_of_start(format: u8, property: &[u8]) -> String {
 fn write_out(archive: &Archive, directory: &Path) {
     fs::create_dir(directory).expect("a fresh directory");
     for file in &archive.files {
-        let path = directory.join(std::str::from_utf8(&file.name).expect("archive names are ASCII"));
+        let path = directory.join(ascii(&file.name));
         fs::create_dir_all(path.parent().expect("a file stands in a directory")).expect("a folder for a file");
         fs::write(path, &file.body).expect("room for a file");
     }
+}
+
+fn ascii(name: &[u8]) -> &str {
+    std::str::from_utf8(name).expect("names of files and of their folders are ASCII")
 }
 
 /// The query as the Rust takes it, or none if it is not UTF-8.

@@ -3,7 +3,7 @@
 use cases::chains::{chain, Combination};
 use cases::damage::{damage_text, damaged};
 use cases::draw::Draw;
-use cases::{archives, crowded, realistic, texts};
+use cases::{archives, crowded, dotted, realistic, texts};
 use model::limits::{ARCHIVE_BYTES, ARCHIVE_FILES, FILE_NAME_BYTES, QUERY_BYTES, QUERY_PARTS, TEXT_BYTES};
 use records::{Query, Source, Start};
 
@@ -12,7 +12,8 @@ pub fn source(draw: &mut Draw) -> (Source, Vec<Query>) {
     // Few near the limits of a reading, which take the model long.
     let (source, query) = match draw.below(100) {
         0 => (crowded::source(draw), texts::query(draw)),
-        1..=20 => archives::source(draw),
+        1..=12 => archives::source(draw),
+        13..=20 => dotted::source(draw),
         21..=34 => plain(draw),
         35..=38 => long_value(draw),
         39..=50 => (realistic::source(draw, 30), realistic::query(draw)),

@@ -29,10 +29,8 @@ impl Rusts {
 
     /// Compares a reading; false if document 01 leaves it out.
     pub fn read(&mut self, source: &Source, crates: &Database) -> Result<bool, String> {
-        if admitted_reading(source).is_err() {
-            return Ok(false);
-        }
-        let (database, opens) = self.room.read(source);
+        let Ok(reading) = admitted_reading(source) else { return Ok(false) };
+        let (database, opens) = self.room.read(source, &reading);
         same("entries, beside the Rust", files::listed(crates), listed(&database))?;
         same("opens, beside the Rust", crates.opens(), opens)?;
         self.database = database;
@@ -63,8 +61,10 @@ impl Rusts {
         if !is_admitted(&Case::ask(Kind::Bytes, source.clone(), query)) {
             return Ok(false);
         }
-        let values =
-            [source, &source.struck(which)].map(|source| self.room.read(source).0.get_bytes(name, class).map(<[u8]>::to_vec));
+        let values = [source, &source.struck(which)].map(|source| {
+            let reading = admitted_reading(source).expect("admitted, and so without a file");
+            self.room.read(source, &reading).0.get_bytes(name, class).map(<[u8]>::to_vec)
+        });
         same("compare_without, beside the Rust", [with_file, without_file], values)?;
         Ok(true)
     }

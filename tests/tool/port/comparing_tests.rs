@@ -2,6 +2,7 @@
 
 use crate::both::{Shape, SHAPES};
 use crate::comparing::{Calls, Comparing, Room, NO_FILE};
+use cases::dotted;
 use cases::limits::{edges, Edge};
 use cases::named_chains;
 use model::archive::judge;
@@ -54,7 +55,7 @@ fn main_texts() -> Asked {
     Asked {
         source: Source::with(b"a:1\n#include \"p\"", &FILES),
         long: Source::text(vec![b'\n'; TEXT_BYTES + 1], vec![9, 9, 9]),
-        edges: edges(),
+        edges: edges().into_iter().chain(dotted::edges()).collect(),
     }
 }
 

@@ -110,7 +110,7 @@ impl Run {
             Ok(reading) => reading,
             Err(why) => return Ok(Err(why)),
         };
-        let (database, opens) = self.room.read(source);
+        let (database, opens) = self.room.read(source, &reading);
         let rusts = listed(&database);
         let rusts_word = word_of(Ok((rusts.len(), opens)));
         if word != rusts_word {

@@ -6,7 +6,9 @@ use crate::both::{self, shown, word_of, Both, Calls, Shape, SHAPES};
 use crate::faults;
 use crate::fenced::zero_bytes;
 use crate::run::Run;
-use crate::{comparing, comparing_faults, comparing_tests, lookup_faults, lookup_tests, start_up_faults, start_up_tests};
+use crate::{
+    comparing, comparing_faults, comparing_tests, lookup_faults, lookup_tests, path_faults, start_up_faults, start_up_tests,
+};
 use cases::archives;
 use cases::draw::Draw;
 use cases::limits::Edge;
@@ -26,8 +28,8 @@ const TESTS: [(&str, Test); 5] = [
     ("text within the archive", text_within_the_archive),
 ];
 
-/// Cases at the limits that have a line of their own.
-const NAMED: [&str; 25] = [
+/// Cases at the limits, and sentences of document 02 (iii), that have a line of their own.
+const NAMED: [&str; 53] = [
     "16 parts",
     "17 parts",
     "512 lines",
@@ -53,6 +55,34 @@ const NAMED: [&str; 25] = [
     "4,097 opens in two texts",
     "100 depths in each",
     "17 parts in the second",
+    "a dot is dropped",
+    "two dots remove the part before them",
+    "over folder and name joined",
+    "going above the root finds nothing",
+    "an empty part finds nothing",
+    "a last dot finds nothing",
+    "two last dots find nothing",
+    "a part of other dots is a name",
+    "two dots remove a part that no file's name has",
+    "two dots remove a file's name",
+    "two dots remove what is no folder",
+    "a result of 96 bytes, and of 97",
+    "two dots remove a long part",
+    "a long path of short parts",
+    "a deep path that comes back",
+    "a path of 4,000 bytes, and longer",
+    "a found file's folder is not the way's",
+    "a found file's folder is its own",
+    "a found file's folder is not its includer's",
+    "above the root from a found file's folder",
+    "a folder that is a file too",
+    "includes itself by a folder and back",
+    "includes itself by ways of 6,400 bytes in all",
+    "4,096 opens by dots",
+    "4,097 opens by dots",
+    "a name that fills a text",
+    "a part that fills a text",
+    "48 folders down, up and down",
 ];
 
 /// The cases at the limits, of main texts and of start-ups.
@@ -61,7 +91,7 @@ fn edges() -> Vec<Edge> {
 }
 
 pub fn names() -> Vec<&'static str> {
-    let readings = NAMED.into_iter().chain(TESTS.map(|(name, _)| name)).chain(["faults"]);
+    let readings = NAMED.into_iter().chain(TESTS.map(|(name, _)| name)).chain(["faults", "faults of names with dots"]);
     let start_ups = start_up_tests::names().chain(["faults of start-ups"]);
     let lookups = lookup_tests::names().into_iter().chain(["faults of lookups"]);
     let comparing = comparing_tests::names().chain(["faults of the comparing call"]);
@@ -71,6 +101,9 @@ pub fn names() -> Vec<&'static str> {
 pub fn test(name: &str, room: &str) -> Result<String, String> {
     if name == "faults" {
         return faults::all_seen(room);
+    }
+    if name == "faults of names with dots" {
+        return path_faults::all_seen(room);
     }
     if name == "faults of start-ups" {
         return start_up_faults::all_seen(room);
@@ -90,13 +123,20 @@ pub fn test(name: &str, room: &str) -> Result<String, String> {
     if let Some(test) = TESTS.iter().chain(&start_up_tests::TESTS).find(|(of, _)| *of == name).map(|(_, test)| *test) {
         return test(both::PORTS);
     }
-    let edges = edges();
-    let edge = edges.iter().find(|edge| edge.label == name && NAMED.contains(&name)).ok_or(format!("no such test: {name}"))?;
+    let mut edges = edges();
+    edges.retain(|edge| edge.label == name && NAMED.contains(&name));
     let mut run = Run::new(both::PORTS, room);
-    at_edge(&mut run.both, edge)?;
-    run.see(&edge.source).map(drop)?;
-    let beside = if run.counts.beside_the_rust > 0 { "the model and the Rust" } else { "the model" };
-    Ok(format!("{}, beside {beside}", shown(word_of(edge.expected))))
+    for edge in &edges {
+        at_edge(&mut run.both, edge)?;
+        run.see(&edge.source).map(drop)?;
+    }
+    let by_the_rust = run.counts.beside_the_rust;
+    match &edges[..] {
+        [] => Err(format!("no such test: {name}")),
+        [edge] if by_the_rust > 0 => Ok(format!("{}, beside the model and the Rust", shown(word_of(edge.expected)))),
+        [edge] => Ok(format!("{}, beside the model", shown(word_of(edge.expected)))),
+        _ => Ok(format!("{} readings beside the model, {by_the_rust} beside the Rust", edges.len())),
+    }
 }
 
 /// A case at a limit gives what is expected, however the buffers are lent.

@@ -9,24 +9,21 @@ use Rattle.archive_find.proofs.number_of.Tie as tie
 
 returns : tie.Need-returns
 returns c =
-    let start-here = c .before .before .before .before .before .before .before in
+    let start-here = c .before .before .before .before .before .before in
     let find-here = c .before .before .before in
-    let found-here = c .before in
-    number-found (start-here .args .archive .now) (start-here .args .name .now) (find-here .find .ensures) (found-here .found .given .1)
+    number-found (start-here .args .archive .now) (start-here .args .name .now) (find-here .find .ensures) (c .before .found .given .1)
 
 returns-2 : tie.Need-returns-2
 returns-2 c =
-    let start-here = c .before .before .before .before .before .before .before in
+    let start-here = c .before .before .before .before .before .before in
     let find-here = c .before .before .before in
-    let enum-told-here = c .before in
-    let file-count-here = c in
     let s = start-here .args .archive .now in
-    file-count-here .file-count .ensures .0 ∙ sym (length-files s) ∙ number-off s (start-here .args .name .now) (find-here .find .ensures) (enum-told-here .enum-told .given .1)
+    c .file-count .ensures .0 ∙ sym (length-files s) ∙ number-off s (start-here .args .name .now) (find-here .find .ensures) (c .before .enum-told .given .1)
 
 pub number-of-spec : {M : Type 1} → statement M
 number-of-spec =
     tie.close
     (tie.spec
-    (λ c. search needs) (λ c κs. search needs) (λ c. search needs) (λ c. search needs)
-    (λ c κs. omega (arith, rows-room (c .before .before .before .before .before .before .args .archive .now) (c .before .before .before .before .before .before .pre)))
+    (λ c κs. search needs) (λ c. search needs) (λ c. search needs)
+    (λ c κs. omega (arith, rows-room (c .before .before .before .before .before .args .archive .now) (c .before .before .before .before .before .pre)))
     returns returns-2)

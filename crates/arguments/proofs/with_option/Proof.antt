@@ -18,16 +18,29 @@ returns-2 c = rw (ne-eqb _ _ (c .before .if1 .left), eq-eqb _ _ (c .if2 .taken))
 
 returns-3 : tie.Need-returns-3
 unfolding withOption
-returns-3 c = rw (ne-eqb _ _ (c .before .before .if1 .left), ne-eqb _ _ (c .before .if2 .left), below-range format anything _ (c .if3 .taken)) refl
+returns-3 c = rw (ne-eqb _ _ (c .before .before .if1 .left), ne-eqb _ _ (c .before .if2 .left), eq-eqb _ _ (c .if3 .taken)) refl
 
 returns-4 : tie.Need-returns-4
 unfolding withOption
-returns-4 c = rw (ne-eqb _ _ (c .before .before .before .if1 .left), ne-eqb _ _ (c .before .before .if2 .left), above-range format anything _ (c .if4 .taken)) refl
+returns-4 c =
+    rw
+    (ne-eqb _ _ (c .before .before .before .if1 .left), ne-eqb _ _ (c .before .before .if2 .left), ne-eqb _ _ (c .before .if3 .left), below-range format anything _ (c .if4 .taken))
+    refl
 
 returns-5 : tie.Need-returns-5
 unfolding withOption
-returns-5 c = rw (ne-eqb _ _ (c .before .before .before .if1 .left), ne-eqb _ _ (c .before .before .if2 .left), in-range format anything _ (c .before .if3 .left) (c .if4 .left)) refl
+returns-5 c =
+    rw
+    (ne-eqb _ _ (c .before .before .before .before .if1 .left), ne-eqb _ _ (c .before .before .before .if2 .left), ne-eqb _ _ (c .before .before .if3 .left), above-range format anything _ (c .if5 .taken))
+    refl
+
+returns-6 : tie.Need-returns-6
+unfolding withOption
+returns-6 c =
+    rw
+    (ne-eqb _ _ (c .before .before .before .before .if1 .left), ne-eqb _ _ (c .before .before .before .if2 .left), ne-eqb _ _ (c .before .before .if3 .left), in-range format anything _ (c .before .if4 .left) (c .if5 .left))
+    refl
 
 pub with-option-spec : {M : Type 1} → statement M
 with-option-spec =
-    tie.close (tie.spec (λ c κs. search needs) returns returns-2 returns-3 returns-4 returns-5)
+    tie.close (tie.spec (λ c κs. search needs) returns returns-2 returns-3 returns-4 returns-5 returns-6)

@@ -33,30 +33,30 @@ use Rattle.includes.proofs.+include+parse_database.Lts-include as inclu
 use Rattle.includes.proofs.parse_database.Reads as parse-database
 use Rattle.includes.proofs.parse_database.Kinds as parse-database-kinds
 use Rattle.includes.proofs.+include+parse_database.Lts-parse_database as parse-database-lts
-use Rattle.archive_find.proofs.find.Reads as find-reads
-use Rattle.archive_find.proofs.folder_of.Reads as folder-of-reads
+use Rattle.archive_find.proofs.find_include.Reads as find-reads
+use Rattle.paths.proofs.folder_of.Reads as folder-of-reads
 use Rattle.lines.proofs.parse_line.Reads as parse-line-reads
 use Rattle.parser.proofs.parse_entry.Reads as parse-entry-reads
 use Rattle.includes.proofs.+include+parse_database.{statement}
 use Rattle.includes.proofs.+include+parse_database.Tie.{close}
 
-abbrev μ-include : Measures 6 include-kinds.ps ℕ
+abbrev μ-include : Measures 5 include-kinds.ps ℕ
 μ-include κs a = 2 * a .1 .1 .1 .1 .0
 
-abbrev μ-parse-database : Measures 6 parse-database-kinds.ps ℕ
+abbrev μ-parse-database : Measures 5 parse-database-kinds.ps ℕ
 μ-parse-database κs a = 2 * a .1 .1 .1 .1 .0 + 1
 
-abbrev include-at : ℕ → In 6 include-kinds.ps
-include-at t = and 6 include-kinds.ps (is 6 include-kinds.ps μ-include t) include.Pre
+abbrev include-at : ℕ → In 5 include-kinds.ps
+include-at t = and 5 include-kinds.ps (is 5 include-kinds.ps μ-include t) include.Pre
 
-abbrev include-below : ℕ → In 6 include-kinds.ps
-include-below t = and 6 include-kinds.ps (falls 6 include-kinds.ps _<_ μ-include t) include.Pre
+abbrev include-below : ℕ → In 5 include-kinds.ps
+include-below t = and 5 include-kinds.ps (falls 5 include-kinds.ps _<_ μ-include t) include.Pre
 
-abbrev parse-database-at : ℕ → In 6 parse-database-kinds.ps
-parse-database-at t = and 6 parse-database-kinds.ps (is 6 parse-database-kinds.ps μ-parse-database t) parse-database.Pre
+abbrev parse-database-at : ℕ → In 5 parse-database-kinds.ps
+parse-database-at t = and 5 parse-database-kinds.ps (is 5 parse-database-kinds.ps μ-parse-database t) parse-database.Pre
 
-abbrev parse-database-below : ℕ → In 6 parse-database-kinds.ps
-parse-database-below t = and 6 parse-database-kinds.ps (falls 6 parse-database-kinds.ps _<_ μ-parse-database t) parse-database.Pre
+abbrev parse-database-below : ℕ → In 5 parse-database-kinds.ps
+parse-database-below t = and 5 parse-database-kinds.ps (falls 5 parse-database-kinds.ps _<_ μ-parse-database t) parse-database.Pre
 
 abbrev include-calls : ℕ → include-lts.Claims
 include-calls t = (find-reads.Asked, find-reads.Learnt, folder-of-reads.Asked, folder-of-reads.Learnt, parse-database-below t, parse-database.Post)
@@ -74,13 +74,13 @@ module _ (t : ℕ) where
   -- ---- An include
 
   -- the search's answer
-  sought : (c : include-lts.After-find (include-calls t) (include-at t) include.Post) → (
+  sought : (c : include-lts.After-find-include (include-calls t) (include-at t) include.Post) → (
       let a = c .before .before .before .before .before .before .before .args in
-      Sought (a .archive .now) (a .folder .now) (a .name .now) (a .depth) (a .totals) (a .words .now) (a .store .now) (c .find .result)
+      Sought (a .archive .now) (a .folder .now) (a .name .now) (a .depth) (a .totals) (a .words .now) (a .store .now) (c .find-include .result)
       )
   sought c =
       let p = c .before .before .before .before .before .before .before .pre .1 in
-      record { deep = omega (arith, c .before .if1 .left); room = p .0; laid = p .1; found = c .find .ensures }
+      record { deep = omega (arith, c .before .if1 .left); room = p .0; laid = p .1; found = c .find-include .ensures }
 
   -- the file stands in the archive
   stands : (c : include-lts.Else2 (include-calls t) (include-at t) include.Post) → (

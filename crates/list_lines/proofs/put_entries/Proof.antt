@@ -6,9 +6,9 @@ use lib.ListN.{take, drop}
 use native.Mathlib.Omega.{arith}
 use borrow.Author.Needs.{needs}
 use Rattle.definition.specs.Image.{countOf}
-use Rattle.printing.proofs.Pieces.{piece-of}
+use Rattle.printing.proofs.Pieces.{piece-of, Walk, walk-begun, walk-next, walk-room, walk-ended}
 use Rattle.list_lines.specs.Lines.{entryLine}
-use Rattle.list_lines.proofs.Rows.{Walk, walk-begun, walk-next, walk-room, walk-ended, linesLeft, lines-none, lines-next, lines-all, room-left, key-fits}
+use Rattle.list_lines.proofs.Rows.{linesLeft, lines-none, lines-next, lines-all, room-left, key-fits}
 use Rattle.list_lines.proofs.put_entries.Statement.{statement}
 use Rattle.list_lines.proofs.put_entries.Tie as tie
 

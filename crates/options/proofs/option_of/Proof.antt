@@ -22,6 +22,9 @@ up₃ c = c .before .before .before
 abbrev up₄ : tie.Else5 → tie.Else4
 up₄ c = c .before .before .before
 
+abbrev up₅ : tie.Else6 → tie.Else5
+up₅ c = c .before .before .before
+
 abbrev given : tie.Else1 → List ℕ
 given c = c .before .before .before .before .args .argument .now
 
@@ -40,6 +43,9 @@ not-help c = sym (c .before .is-word4 .ensures) ∙ c .if4 .left
 
 not-rest : (c : tie.Else5) → same (given (up₁ (up₂ (up₃ (up₄ c))))) (ascii "--") ≡ false
 not-rest c = sym (c .before .is-word5 .ensures) ∙ c .if5 .left
+
+not-missing : (c : tie.Else6) → same (given (up₁ (up₂ (up₃ (up₄ (up₅ c)))))) (ascii "--missing") ≡ false
+not-missing c = sym (c .before .is-word6 .ensures) ∙ c .if6 .left
 
 returns : tie.Need-returns
 unfolding optionOf
@@ -72,11 +78,22 @@ returns-5 c =
 returns-6 : tie.Need-returns-6
 unfolding optionOf
 returns-6 c =
-    let e : tie.Else5 = c .before in
-    rw (not-file (up₁ (up₂ (up₃ (up₄ e)))), not-without (up₂ (up₃ (up₄ e))), not-status (up₃ (up₄ e)), not-help (up₄ e), not-rest e) (c .chain-option .ensures)
+    let e : tie.Else5 = c .before .before .before in
+    rw
+    (not-file (up₁ (up₂ (up₃ (up₄ e)))), not-without (up₂ (up₃ (up₄ e))), not-status (up₃ (up₄ e)), not-help (up₄ e), not-rest e, ← c .before .is-word6 .ensures, c .if6 .taken)
+    refl
+
+returns-7 : tie.Need-returns-7
+unfolding optionOf
+returns-7 c =
+    let m : tie.Else6 = c .before in
+    let e : tie.Else5 = up₅ m in
+    rw
+    (not-file (up₁ (up₂ (up₃ (up₄ e)))), not-without (up₂ (up₃ (up₄ e))), not-status (up₃ (up₄ e)), not-help (up₄ e), not-rest e, not-missing m)
+    (c .chain-option .ensures)
 
 pub option-of-spec : {M : Type 1} → statement M
 option-of-spec =
     tie.close
     (tie.spec
-    (λ c. search needs) (λ c κs. search needs) returns (λ c. search needs) (λ c κs. search needs) returns-2 (λ c. search needs) (λ c κs. search needs) returns-3 (λ c. search needs) (λ c κs. search needs) returns-4 (λ c. search needs) (λ c κs. search needs) returns-5 (λ c κs. search needs) returns-6)
+    (λ c. search needs) (λ c κs. search needs) returns (λ c. search needs) (λ c κs. search needs) returns-2 (λ c. search needs) (λ c κs. search needs) returns-3 (λ c. search needs) (λ c κs. search needs) returns-4 (λ c. search needs) (λ c κs. search needs) returns-5 (λ c. search needs) (λ c κs. search needs) returns-6 (λ c κs. search needs) returns-7)

@@ -1,2 +1,0 @@
--- Laws of getres.
-pub mod Loading

@@ -1,2 +1,0 @@
--- What the contracts of getres cite.
-pub mod Loading

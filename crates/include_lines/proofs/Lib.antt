@@ -1,0 +1,3 @@
+-- Laws of include lines.
+pub mod Passing
+pub mod Named

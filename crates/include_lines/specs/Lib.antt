@@ -1,0 +1,2 @@
+-- What the contracts of include lines cite beside the definition.
+pub mod Includes

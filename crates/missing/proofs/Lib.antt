@@ -1,0 +1,4 @@
+-- Laws of this crate.
+pub mod Looked
+pub mod Reaching
+pub mod Told

@@ -1,0 +1,2 @@
+-- Laws of these lines.
+pub mod Putting

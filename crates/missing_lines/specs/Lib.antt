@@ -1,0 +1,3 @@
+-- What the contracts of these lines cite.
+pub mod Shown
+pub mod Lines
