@@ -2,15 +2,13 @@
 use mathlib.Core.Bool.{Bool, true, false}
 use mathlib.Core.List.{List}
 use mathlib.Core.Path.{_≡_, refl, sym, ap, _∙_}
-use Prim.Native.Nat.{ℕ, suc, _+_, _-_, _≤_, _<_}
+use Prim.Native.Nat.{ℕ, _+_, _-_, _≤_, _<_}
 use native.Mathlib.Omega.{arith}
 use lib.ListN.{length, take, drop, getD, length-drop, drop-of-length-le}
 use lib.Seq.{getD-drop, getD-take, drop-cons, drop-length, length-take-le}
 use Rattle.definition.specs.Lists.{same}
 use Rattle.laws.proofs.Lists.{same-eq, eq-same}
-
-next-is : (i : ℕ) → 0 < i → suc (i - 1) ≡ i
-next-is i h = omega arith
+use Rattle.paths.proofs.Folders.{next-is}
 
 long : (s k : List ℕ) (at : ℕ) → at + length k ≤ length s → length (take (length k) (drop at s)) ≡ length k
 long s k at h = length-take-le (length k) (drop at s) (rw length-drop (omega arith))

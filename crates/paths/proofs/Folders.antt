@@ -14,7 +14,7 @@ use Rattle.definition.specs.Archive.{folderOf, joined}
 use Rattle.laws.proofs.Lists.{not-both, any-append, any-getD}
 use Rattle.paths.specs.Keeping.{notSlash}
 
-next-is : (i : ℕ) → 0 < i → suc (i - 1) ≡ i
+pub next-is : (i : ℕ) → 0 < i → suc (i - 1) ≡ i
 next-is i h = omega arith
 
 any-cons : (c : ℕ) (t : List ℕ) → (slash ≡ c → ⊥) → any (eqb slash) (c ∷ t) ≡ any (eqb slash) t
