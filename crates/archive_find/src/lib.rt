@@ -7,9 +7,9 @@ use archive::Member;
 use archive::file_count;
 use archive::lengths_at;
 use archive::member_at;
+use include_paths::Sought;
+use include_paths::path_of;
 use limits::FILE_NAME_BYTES;
-use paths::Sought;
-use paths::path_of;
 
 // The file that a search found.
 pub enum Found {

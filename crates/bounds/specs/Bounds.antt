@@ -59,10 +59,10 @@ paths :
     × (pathOf [] (replicate 97 97) ≡ none)
     × (pathOf (replicate 47 97) (replicate 48 98) ≡ some (replicate 47 97 ++ 47 ∷ replicate 48 98))
     × (pathOf (replicate 47 97) (replicate 49 98) ≡ none)
-    × (pathOf [] (copies 100 (ascii "./") ++ replicate 96 97) ≡ some (replicate 96 97))
+    × (pathOf [] (copies 10 (ascii "./") ++ replicate 96 97) ≡ some (replicate 96 97))
     × (pathOf [] (replicate 300 97 ++ ascii "/../q") ≡ some (ascii "q"))
-    × (pathOf (replicate 90 97) (copies 100 (ascii "b/") ++ copies 101 (ascii "../") ++ replicate 96 99) ≡ some (replicate 96 99))
-    × (pathOf (replicate 90 97) (copies 100 (ascii "b/") ++ copies 102 (ascii "../") ++ ascii "q") ≡ none)
+    × (pathOf (replicate 90 97) (copies 10 (ascii "b/") ++ copies 11 (ascii "../") ++ replicate 96 99) ≡ some (replicate 96 99))
+    × (pathOf (replicate 90 97) (copies 10 (ascii "b/") ++ copies 12 (ascii "../") ++ ascii "q") ≡ none)
 unfolding definition copies
 paths = (refl, refl, refl, refl, refl, refl, refl, refl)
 

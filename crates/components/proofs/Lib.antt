@@ -1,9 +1,9 @@
 -- Laws that the proofs of the parts cite.
 mod Bindings
-mod Names
+pub mod Names
 mod Parts
 mod Turns
 mod Verbatim
 mod Counting
-mod Writing
+pub mod Writing
 pub mod Rests

@@ -8,22 +8,19 @@ use borrow.Author.Tests.{le-leb, lt-leb}
 use Rattle.definition.specs.Limits.{mostOpens}
 use Rattle.definition.specs.Parsing.{found}
 use Rattle.definition.specs.Archive.{File, bodyOf, folderOf, pathOf}
-use Rattle.definition.specs.Text.{Entry, Line, skipped, include, entry, lineAt, linesOf}
+use Rattle.definition.specs.Text.{Entry, skipped, include, entry, lineAt, linesOf}
 use Rattle.definition.specs.Including.{Chain, eventsOf, opening, seeking, including}
-use Rattle.laws.proofs.Parsing.{many-stop, many-more}
+use Rattle.laws.proofs.Parsing.{many-stop}
 use Rattle.laws.proofs.Keys.{line-shrinks}
 use Rattle.archive_find.proofs.Finding.{Absent}
 use Rattle.image.specs.Running.{World, world, Ran, went, stopped, put, counted, openOne, andThen, run}
 use Rattle.image.proofs.Runs.{run-append}
+use Rattle.plain_lines.proofs.Lines.{lines-step, line-enters, line-skips}
 use Rattle.includes.specs.Texts.{textEvents}
 
 pub lines-end : linesOf [] ≡ []
 unfolding linesOf lineAt
 lines-end = ap (λ p. p .items) (many-stop lineAt line-shrinks [] refl)
-
-lines-step : (t : List ℕ) (l : Line) (u : List ℕ) → lineAt t ≡ found l u → linesOf t ≡ l ∷ linesOf u
-unfolding linesOf
-lines-step t l u e = ap (λ p. p .items) (many-more lineAt line-shrinks t l u e)
 
 module _ (d : ℕ) (fs : List File) (folder : List ℕ) (ch : Chain) (w : World) where
   abbrev rest : List ℕ → World → Ran
@@ -35,12 +32,12 @@ module _ (d : ℕ) (fs : List File) (folder : List ℕ) (ch : Chain) (w : World)
 
   module _ (t u : List ℕ) where
     pub text-skips : lineAt t ≡ found skipped u → rest t w ≡ rest u w
-    unfolding textEvents eventsOf
-    text-skips e = rw (lines-step t skipped u e) refl
+    unfolding textEvents
+    text-skips e = line-skips (including d fs folder ch) ch w t u e
 
     pub text-enters : (x : Entry) → lineAt t ≡ found (entry x) u → rest t w ≡ andThen (put w x) (rest u)
-    unfolding textEvents eventsOf run
-    text-enters x e = rw (lines-step t (entry x) u e) refl
+    unfolding textEvents
+    text-enters x e = line-enters (including d fs folder ch) ch w t u x e
 
     pub text-includes : (n : List ℕ) → lineAt t ≡ found (include n) u → rest t w ≡ andThen (run w (including d fs folder ch n)) (rest u)
     unfolding textEvents eventsOf

@@ -9,7 +9,7 @@ use Rattle.definition.specs.Parsing.{found}
 use Rattle.definition.specs.Archive.{File}
 use Rattle.definition.specs.Text.{Line, skipped, include, entry, lineAt, pieces, resourceOf}
 use Rattle.definition.specs.Including.{Chain, entered, including}
-use Rattle.laws.proofs.Lists.{part-rest}
+use Rattle.laws.proofs.Lists.{part-rest, length-part-rest}
 use Rattle.laws.proofs.Keys.{line-shrinks}
 use Rattle.image.specs.Running.{World, world, Room, went, stopped, put, andThen, run, answered}
 use Rattle.image.specs.declared.Totals.{Totals}
@@ -18,6 +18,9 @@ use Rattle.image.proofs.Runs.{step-room, run-room}
 use Rattle.lines.proofs.Lined.{Skips, Includes, Enters}
 use Rattle.parser.specs.Putting.{entryFrom, Puts}
 use Rattle.parser.proofs.Entries.{puts-next, puts-inside}
+use Rattle.plain_lines.specs.Lines.{reached, plainLines}
+use Rattle.plain_lines.specs.declared.Ahead.{Ahead}
+use Rattle.plain_lines.proofs.Lines.{ahead, Goes, plain-goes}
 use Rattle.includes.specs.Texts.{textEvents}
 use Rattle.includes.proofs.Lines.{text-end, text-skips, text-enters, text-includes}
 
@@ -51,6 +54,25 @@ module _ {d : ℕ} {fs : List File} {folder t : List ℕ} {w₀ : World} {s : To
       at : (u : List ℕ) → length u ≤ 0 → run (world s c b) (textEvents d fs folder ch u) ≡ went (world s c b)
       at [] h = text-end d fs folder ch (world s c b)
       at (x ∷ u) h = absurd (omega arith)
+
+  -- ---- Lines of the common form
+
+  module _ {c′ b′ : List ℕ} {a : Ahead} (e : reached a c′ b′ ≡ plainLines rest (s .entries) (s .used) c b) where
+    goes : Goes rest (world s c b) c′ b′ a
+    goes = plain-goes rest s c b (r .room) e
+
+    pub plain-inside : a .taken ≤ length rest
+    plain-inside = goes .inside
+
+    pub reading-plain : length c′ ≡ length c → length b′ ≡ length b → Reading d fs folder t w₀ (ahead s a) c′ b′ (after (a .taken))
+    unfolding textEvents
+    reading-plain hc hb = record {
+      same = λ ch. r .same ch ∙ rw (part-rest rest (a .taken)) (goes .same (including d fs folder ch) ch);
+      room = goes .room;
+      words-same = hc ∙ r .words-same;
+      bytes-same = hb ∙ r .bytes-same;
+      rest-most = omega (arith, length-part-rest rest (a .taken), r .rest-most);
+    }
 
   -- ---- A line that is passed over
 

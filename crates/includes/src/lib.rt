@@ -1,6 +1,8 @@
 // Lines and includes: `parse_data_with_base_directory` and `parse_database` of the Rust. They call each other, and the depths left fall.
 ghost use mathlib.Core.Path.{_≡_};
+ghost use mathlib.Core.List.{[]};
 ghost use mathlib.Core.Bool.{true};
+ghost use Rattle.definition.specs.Limits.{deepest};
 ghost use Rattle.definition.specs.Archive.{laidOut, filesOf};
 ghost use Rattle.definition.specs.Including.{Chain, including};
 ghost use Rattle.byte_classes.specs.Classes.{byteClasses};
@@ -10,12 +12,14 @@ use archive_find::Found;
 use archive_find::find_include;
 use image::Step;
 use image::Totals;
+use limits::DEEPEST;
 use limits::MOST_OPENS;
 use lines::Line;
 use lines::parse_line;
 use parser::Put;
 use parser::parse_entry;
 use paths::folder_of;
+use plain_lines::plain_lines;
 
 // Reads the file that an include of `name` from `folder` asks for, in the include's place. `depth` depths are left below the text.
 fn include<'a>(
@@ -82,6 +86,19 @@ pub fn parse_database<'a>(
     let mut s = totals;
     let mut rest = text;
     while rest.len() > 0 {
+        // most lines are of the common form
+        let plain = plain_lines(classes, rest, s, words, store);
+        let opens = s.opens;
+        let taken = plain.taken;
+        s = Totals {
+            opens,
+            entries: plain.entries,
+            used: plain.used,
+        };
+        rest = &rest[taken..];
+        if rest.len() == 0 {
+            return Step::Go(s);
+        }
         let line = parse_line(classes, rest);
         match line {
             Line::Skip(n) => {
@@ -115,4 +132,46 @@ pub fn parse_database<'a>(
         }
     }
     Step::Go(s)
+}
+
+// Reads a text of the reading, at depth 0 in the empty folder.
+pub fn parse_text(
+    classes: &[u8; 256],
+    text: &[u8],
+    archive: &[u8],
+    totals: Totals,
+    words: &mut [u16],
+    store: &mut [u8],
+) -> Step
+    requires { ⌜ Room totals (now words) (now store) × (laidOut (now archive) ≡ true) × (now classes ≡ byteClasses) ⌝ }
+    ensures { λ r. ⌜ ((chain : Chain) → answered r (now (words .exit)) (now (store .exit)) ≡ run (world totals (now (words .entry)) (now (store .entry))) (textEvents deepest (filesOf (now (archive .entry))) [] chain (now (text .entry)))) ⌝ }
+{
+    // a text whose lines are all of the common form needs no more
+    let plain = plain_lines(classes, text, totals, words, store);
+    let opens = totals.opens;
+    let taken = plain.taken;
+    let entries = plain.entries;
+    let used = plain.used;
+    if taken >= text.len() {
+        return Step::Go(Totals {
+            opens,
+            entries,
+            used,
+        });
+    }
+    let next = Totals {
+        opens,
+        entries,
+        used,
+    };
+    parse_database(
+        classes,
+        &text[taken..],
+        &text[..0],
+        archive,
+        DEEPEST,
+        next,
+        words,
+        store,
+    )
 }

@@ -12,10 +12,10 @@ use Rattle.definition.specs.Parsing.{many, after}
 use Rattle.definition.specs.Bytes.{newline, exclamation, hash, isSpace}
 use Rattle.definition.specs.Text.{partAt, endsInName, assigned}
 use Rattle.laws.proofs.Lists.{part-rest, length-part-rest, Suffix, suffix-run}
-use Rattle.scan.specs.Scanned.{includeAt}
-use Rattle.scan.specs.declared.Include as scan
-use Rattle.scan.specs.declared.Include.the-variants.{Named}
-use Rattle.scan.proofs.Includes.{include-found}
+use Rattle.directives.specs.Directives.{includeAt}
+use Rattle.directives.specs.declared.Include as directives
+use Rattle.directives.specs.declared.Include.the-variants.{Named}
+use Rattle.directives.proofs.Includes.{include-found}
 use Rattle.components.specs.Parts.{partsOf, componentsAt}
 use Rattle.components.specs.declared.Components.{Components}
 use Rattle.components.proofs.Rests.{parts-suffix}
@@ -35,7 +35,7 @@ comment-line [] h e n f = absurd (omega arith)
 comment-line (c ∷ t) h e n f = rw (f, e) refl
 
 -- r is what follows the `#`
-pub directive-line : (t : List ℕ) → 0 < length t → getD t 0 0 ≡ hash → (n : ℕ) → n ≡ lineLength t → (r : scan.Include) → r ≡ includeAt (take (length t - 1) (drop 1 t))
+pub directive-line : (t : List ℕ) → 0 < length t → getD t 0 0 ≡ hash → (n : ℕ) → n ≡ lineLength t → (r : directives.Include) → r ≡ includeAt (take (length t - 1) (drop 1 t))
     → directiveIn n r ≡ lineIn t
 unfolding lineIn
 directive-line [] h e n f r g = absurd (omega arith)

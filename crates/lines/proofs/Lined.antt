@@ -15,11 +15,11 @@ use Rattle.definition.specs.Text.{Part, partAt, endsInName, skipped, include, i
 use Rattle.definition.specs.Text as text
 use Rattle.definition.specs.Image.{keyOf}
 use Rattle.laws.proofs.Lists.{not-both, Suffix, suffix-run, drop-run, length-takeWhile-le}
-use Rattle.scan.specs.Scanned.{includeAt}
-use Rattle.scan.specs.declared.Include as scan
-use Rattle.scan.specs.declared.Include.the-variants.{Named, Other}
+use Rattle.directives.specs.Directives.{includeAt}
+use Rattle.directives.specs.declared.Include as directives
+use Rattle.directives.specs.declared.Include.the-variants.{Named, Other}
 use Rattle.scan.proofs.Beginnings.{after-suffix}
-use Rattle.scan.proofs.Includes.{includedName, IncludeFound, include-found}
+use Rattle.directives.proofs.Includes.{includedName, IncludeFound, include-found}
 use Rattle.components.specs.Parts.{partsOf, isVerbatim}
 use Rattle.components.proofs.Rests.{parts-suffix}
 use Rattle.lines.specs.Places.{lineLength, directiveIn, resourceIn, lineIn}
@@ -67,7 +67,7 @@ end-after c t e = end-is (c ∷ t) ∙ rw e refl
 
 -- ---- Each kind of line
 
-directive-lined : (c : ℕ) (t : List ℕ) (end : ℕ) → end ≤ length (c ∷ t) → (r : scan.Include) → IncludeFound t r
+directive-lined : (c : ℕ) (t : List ℕ) (end : ℕ) → end ≤ length (c ∷ t) → (r : directives.Include) → IncludeFound t r
     → Lined (c ∷ t) (found (directiveOf (includeOf t)) (drop end (c ∷ t))) (directiveIn end r)
 unfolding directiveIn directiveOf includedName
 directive-lined c t end h Other i = record { is = rw (← i .name) refl; inside = h }

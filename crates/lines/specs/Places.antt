@@ -7,9 +7,9 @@ use lib.ListN.{length}
 use Rattle.definition.specs.Lists.{if_then_else_, takeWhile}
 use Rattle.definition.specs.Bytes.{newline, exclamation, hash, notNewline}
 use Rattle.definition.specs.Text.{assigned}
-use Rattle.scan.specs.Scanned.{includeAt}
-use Rattle.scan.specs.declared.Include as scan
-use Rattle.scan.specs.declared.Include.the-variants.{Named, Other}
+use Rattle.directives.specs.Directives.{includeAt}
+use Rattle.directives.specs.declared.Include as directives
+use Rattle.directives.specs.declared.Include.the-variants.{Named, Other}
 use Rattle.components.specs.Parts.{partsOf, keyFirst, isVerbatim}
 use Rattle.lines.specs.declared.Line.{Line}
 use Rattle.lines.specs.declared.Line.the-variants.{Skip, Include, Entry}
@@ -19,7 +19,7 @@ abbrev pub lineLength : List ℕ → ℕ
 lineLength t = length (takeWhile notNewline t)
 
 -- a line of a directive, whose `#` is its first byte
-unfoldable pub directiveIn : ℕ → scan.Include → Line
+unfoldable pub directiveIn : ℕ → directives.Include → Line
 directiveIn end (Named start size) = Include (1 + start) size end
 directiveIn end Other = Skip end
 

@@ -7,11 +7,11 @@ ghost use Rattle.definition.specs.Text.{assigned};
 ghost use Rattle.byte_classes.specs.Classes.{byteClasses};
 ghost use Rattle.lines.specs.Places.{resourceIn, lineIn};
 use components::parse_components;
-use scan::Include;
-use scan::line_end;
-use scan::parse_include;
-use scan::skip_spaces;
+use directives::Include;
+use directives::parse_include;
 use scan::starts_with;
+use skips::line_end;
+use skips::skip_spaces;
 
 // What a line is. Its numbers count bytes from the line's start.
 pub enum Line {

@@ -15,7 +15,7 @@ use Rattle.archive_find.specs.Finding.{findIn}
 use Rattle.archive_find.specs.declared.Found.{Found}
 use Rattle.archive_find.specs.declared.Found.the-variants.{At, Nothing}
 use Rattle.archive_find.proofs.Finding.{FoundAt, Finds, find-finds}
-use Rattle.paths.specs.Keeping.{soughtBytes}
+use Rattle.include_paths.specs.Sought.{soughtBytes}
 use Rattle.missing.specs.Missing.{seen, seenAt, seenBody}
 use Rattle.missing.specs.Looking.{lookedUp, lookIn, Looks}
 use Rattle.missing.specs.declared.Look.the-variants.{File, Absent, Nowhere}

@@ -10,7 +10,7 @@ use Rattle.archive.specs.Walk.{fileIn}
 use Rattle.archive_find.specs.Finding.{findIn}
 use Rattle.archive_find.specs.declared.Found.{Found}
 use Rattle.archive_find.specs.declared.Found.the-variants.{At, Nothing}
-use Rattle.paths.specs.Keeping.{soughtBytes}
+use Rattle.include_paths.specs.Sought.{soughtBytes}
 use Rattle.missing.specs.Missing.{Seen, found, absent, nowhere, seen}
 use Rattle.missing.specs.declared.Look.{Look}
 use Rattle.missing.specs.declared.Look.the-variants.{File, Absent, Nowhere}

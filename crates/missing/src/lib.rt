@@ -9,9 +9,9 @@ ghost use Rattle.missing.specs.Reaching.{noneReached, reaching};
 use archive::Member;
 use archive_find::Found;
 use archive_find::find;
+use include_paths::Sought;
+use include_paths::path_of;
 use limits::ARCHIVE_FILES;
-use paths::Sought;
-use paths::path_of;
 
 // What an include finds.
 pub enum Look {

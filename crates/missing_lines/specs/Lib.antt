@@ -1,3 +1,2 @@
 -- What the contracts of these lines cite.
-pub mod Shown
 pub mod Lines

@@ -7,7 +7,7 @@ use Rattle.definition.specs.Lists.{ascii}
 use Rattle.definition.specs.Limits.{archiveBytes}
 use Rattle.io.specs.Counts.{Counts}
 use Rattle.printing.specs.Putting.{Appends}
-use Rattle.missing_lines.specs.Shown.{shown}
+use Rattle.shown_bytes.specs.Shown.{shown}
 
 -- where the include stands, and its name as it is written
 unfoldable pub includeOf : List ℕ → List ℕ → List ℕ

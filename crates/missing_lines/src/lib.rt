@@ -1,55 +1,15 @@
 // What getres tells of an include that finds no file: a line, in which no name can steer a terminal.
 ghost use mathlib.Core.Path.{_≡_};
-ghost use Prim.Native.Nat.{_+_, _≤_};
+ghost use Prim.Native.Nat.{_≤_};
 ghost use lib.ListN.{length};
 ghost use Rattle.printing.specs.Putting.{Appends};
-ghost use Rattle.missing_lines.specs.Shown.{isShown, shownByte, shown};
 ghost use Rattle.missing_lines.specs.Lines.{includeOf, absentLine, nowhereLine, Fits, Tells};
 use limits::ARCHIVE_BYTES;
 use printing::put;
+use shown_bytes::put_shown;
 
 // Room for every line: the place and the name are parts of a text or of an archive, and a byte is shown as four at most.
 pub const LINE_BYTES: usize = 5 * ARCHIVE_BYTES + 1024;
-
-// Is a byte shown as itself?
-fn is_shown(c: u8) -> bool
-    ensures { λ r. ⌜ r ≡ isShown c ⌝ }
-{
-    if c < b' ' {
-        return false;
-    }
-    if c > b'~' {
-        return false;
-    }
-    c != b'\\'
-}
-
-// Puts a byte, or its three octal digits, at `at`.
-fn put_byte(c: u8, out: &mut [u8], at: usize) -> usize
-    requires { ⌜ at + length (shownByte c) ≤ length (now out) ⌝ }
-    ensures { λ r. ⌜ Appends (shownByte c) (now (out .entry)) at (now (out .exit)) r ⌝ }
-{
-    if is_shown(c) {
-        let itself = [c];
-        return put(&itself, out, at);
-    }
-    let octal = [b'\\', b'0' + c / 64, b'0' + c / 8 % 8, b'0' + c % 8];
-    put(&octal, out, at)
-}
-
-// Puts bytes as a terminal may show them at `at`.
-pub fn put_shown(bytes: &[u8], out: &mut [u8], at: usize) -> usize
-    requires { ⌜ at + length (shown (now bytes)) ≤ length (now out) ⌝ }
-    ensures { λ r. ⌜ Appends (shown (now (bytes .entry))) (now (out .entry)) at (now (out .exit)) r ⌝ }
-{
-    let mut end = at;
-    let mut i = 0;
-    while i < bytes.len() {
-        end = put_byte(bytes[i], out, end);
-        i += 1;
-    }
-    end
-}
 
 // Puts where the include stands and its name, as it is written, at the start of `out`.
 fn put_include(place: &[u8], name: &[u8], out: &mut [u8]) -> usize

@@ -43,7 +43,7 @@ module _ (s : Totals) (c b : List ℕ) (e : Entry) where
       unfolding put
       put-full h = rw (le-ltb mostParts (length (e .parts)) few, lt-leb mostEntries (s .entries) room, lt-ltb bodyBytes (s .used + sizeOf e) h) refl
 
-      put-fits : s .used + sizeOf e ≤ bodyBytes → put (world s c b) e ≡ went (stored (world s c b) e)
+      pub put-fits : s .used + sizeOf e ≤ bodyBytes → put (world s c b) e ≡ went (stored (world s c b) e)
       unfolding put
       put-fits h = rw (le-ltb mostParts (length (e .parts)) few, lt-leb mostEntries (s .entries) room, le-ltb bodyBytes (s .used + sizeOf e) h) refl
 

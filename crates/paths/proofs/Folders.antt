@@ -12,7 +12,7 @@ use Rattle.definition.specs.Lists.{if_then_else_, all, any, isEmpty}
 use Rattle.definition.specs.Bytes.{slash}
 use Rattle.definition.specs.Archive.{folderOf, joined}
 use Rattle.laws.proofs.Lists.{not-both, any-append, any-getD}
-use Rattle.paths.specs.Keeping.{notSlash}
+use Rattle.paths.specs.Parts.{notSlash}
 
 pub next-is : (i : ℕ) → 0 < i → suc (i - 1) ≡ i
 next-is i h = omega arith

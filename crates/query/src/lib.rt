@@ -5,7 +5,7 @@ ghost use Rattle.query.specs.Shapes.{parsedNames, bothShapes};
 use limits::QUERY_BYTES;
 use limits::QUERY_PARTS;
 use scan::next_component;
-use scan::skip_byte;
+use skips::skip_byte;
 
 // A text's parts: where each starts and how long it is. Past them all is 0.
 pub struct Split {

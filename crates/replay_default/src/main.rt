@@ -5,7 +5,7 @@
 mod cases;
 
 use cases::replay_case;
-use scan::line_end;
+use skips::line_end;
 use tally::Tally;
 use tally::count_line;
 use tally::file_buffer;

@@ -11,8 +11,7 @@ ghost use Rattle.image.specs.Running.{world, begun, run, answered};
 use byte_classes::byte_classes;
 use image::Step;
 use image::Totals;
-use includes::parse_database;
-use limits::DEEPEST;
+use includes::parse_text;
 use limits::TEXT_BYTES;
 
 // Is a text longer than a text may be?
@@ -44,19 +43,18 @@ pub fn parse_texts(texts: &[&[u8]], archive: &[u8], words: &mut [u16], store: &m
     let mut i = 0;
     while i < texts.len() {
         let text = texts[i];
-        let step = parse_database(
-            &classes,
-            text,
-            &text[..0],
-            archive,
-            DEEPEST,
-            s,
-            words,
-            store,
-        );
+        let step = parse_text(&classes, text, archive, s, words, store);
         match step {
             Step::Go(next) => {
-                s = next;
+                // field by field: a copy of the whole would load two fields that were just stored in one load, and wait for them
+                let opens = next.opens;
+                let entries = next.entries;
+                let used = next.used;
+                s = Totals {
+                    opens,
+                    entries,
+                    used,
+                };
                 i += 1;
             }
             Step::Stop(k) => {

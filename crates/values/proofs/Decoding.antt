@@ -34,7 +34,7 @@ module _ (t : List ℕ) (i : ℕ) where
     unfolding pieceAt
     ended e = rw (drop-cons t i 0 h, eq-eqb (getD t i 0) newline e) refl
 
-    plain : isPlain (getD t i 0) ≡ true → Yields (drop i t) (getD t i 0 ∷ []) 1
+    pub plain : isPlain (getD t i 0) ≡ true → Yields (drop i t) (getD t i 0 ∷ []) 1
     plain e = rw (drop-cons t i 0 h) (plain-yields (getD t i 0) (drop (suc i) t) e)
 
     -- the text after a backslash, as the code takes it
@@ -82,7 +82,7 @@ decoding-first t s at h =
     }
 
 -- k more bytes of v
-more-stored : (s₀ v u : List ℕ) (at end j k : ℕ) {s : List ℕ} → s ≡ paste s₀ at v j → at + j ≡ end → take k u ≡ take k (drop j v) → end ≤ length s₀ → j ≤ length v
+pub more-stored : (s₀ v u : List ℕ) (at end j k : ℕ) {s : List ℕ} → s ≡ paste s₀ at v j → at + j ≡ end → take k u ≡ take k (drop j v) → end ≤ length s₀ → j ≤ length v
     → paste s end u k ≡ paste s₀ at v (j + k)
 more-stored s₀ v u at end j k e p q h l = rw (q, e, ← p) (paste-more s₀ at v j k (omega arith) l)
 

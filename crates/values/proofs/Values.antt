@@ -1,20 +1,20 @@
 -- What a caller of `parse_value` reads off its answer. Assumes nothing.
 use mathlib.Core.Bool.{Bool, true, false, _||_}
-use mathlib.Core.List.{List, [], _∷_}
+use mathlib.Core.List.{List, [], _∷_, flatten}
 use mathlib.Core.Path.{_≡_, refl, _∙_}
-use Prim.Native.Nat.{ℕ, _+_, _-_, _≤_, _<_}
+use Prim.Native.Nat.{ℕ, zero, suc, _+_, _-_, _≤_, _<_}
 use native.Mathlib.Nat.{min-eq-left}
 use native.Mathlib.Omega.{arith}
 use lib.Dec.{eqb, leb}
-use lib.ListN.{length, drop}
+use lib.ListN.{length, drop, length-append, length-drop}
 use lib.Seq.{paste}
 use borrow.Author.Tests.{leb-true, leb-false}
 use Rattle.definition.specs.Lists.{if_then_else_}
-use Rattle.definition.specs.Parsing.{Parse, nothing, found}
+use Rattle.definition.specs.Parsing.{Parse, nothing, found, continued, atMost, many}
 use Rattle.definition.specs.Bytes.{newline, backslash, letter-n, isBlank, isOctal}
 use Rattle.definition.specs.Text.{lineEnds, octalOf, escapeAt, pieceAt}
 use Rattle.laws.proofs.Lists.{Suffix, suffix-whole, suffix-drop}
-use Rattle.laws.proofs.Keys.{if-either}
+use Rattle.laws.proofs.Keys.{Finds, if-either}
 use Rattle.scan.proofs.Suffixes.{LeavesRest, suffix-cons, many-suffix}
 use Rattle.escapes.specs.Pieces.{digits}
 use Rattle.escapes.proofs.Escapes.{digits-inside}
@@ -52,6 +52,48 @@ piece-leaves (c ∷ t) =
 
 pub rest-suffix : (t : List ℕ) → Suffix (restAt t) t
 rest-suffix t = many-suffix pieceAt piece-leaves t
+
+-- ---- A value is at most as long as its text
+
+-- what was found gives, with what is left, at most n bytes
+abbrev Within : ℕ → Parse (List ℕ) → Type 0
+Within n r = Finds (λ ys u. length ys + length u ≤ n) r
+
+escape-within : (t : List ℕ) → Within (suc (length t)) (escapeAt t)
+unfolding escapeAt octalOf
+escape-within [] = omega arith
+escape-within (c ∷ t) =
+    let P = Within (suc (suc (length t))) in
+    let ds = digits (c ∷ t) in
+    let h = digits-inside (c ∷ t) in
+    let u = length-drop (length ds) (c ∷ t) in
+    if-either P (isBlank c || eqb c backslash) (λ e. omega arith)
+    λ e. if-either P (eqb c letter-n) (λ e. omega arith)
+    λ e. if-either P (eqb c newline) (λ e. omega arith)
+    λ e. if-either P (isOctal c)
+    (λ e. if-either P (eqb (length ds) 3) (λ e. omega arith) λ e. if-either P (lineEnds (drop (length ds) (c ∷ t))) (λ e. omega arith) λ e. omega arith)
+    λ e. omega arith
+
+piece-within : (t : List ℕ) → Within (length t) (pieceAt t)
+unfolding pieceAt
+piece-within [] = tt
+piece-within (c ∷ t) =
+    let P = Within (suc (length t)) in
+    if-either P (eqb c newline) (λ e. tt) λ e. if-either P (eqb c backslash) (λ e. escape-within t) λ e. omega arith
+
+at-most-within : (n : ℕ) (t : List ℕ) → length (flatten (atMost n pieceAt t .items)) + length (atMost n pieceAt t .rest) ≤ length t
+unfolding atMost continued flatten
+at-most-within zero t = omega arith
+at-most-within (suc n) t = at (pieceAt t) (piece-within t) (λ u. at-most-within n u)
+  where
+    at : (r : Parse (List ℕ)) → Within (length t) r → ((u : List ℕ) → length (flatten (atMost n pieceAt u .items)) + length (atMost n pieceAt u .rest) ≤ length u)
+        → length (flatten (continued r (atMost n pieceAt) t .items)) + length (continued r (atMost n pieceAt) t .rest) ≤ length t
+    at nothing h ih = omega arith
+    at (found ys u) h ih = omega (arith, ih u, length-append ys (flatten (atMost n pieceAt u .items)))
+
+pub decoded-within : (t : List ℕ) → length (decodedAt t) + length (restAt t) ≤ length t
+unfolding many
+decoded-within t = at-most-within (length t) t
 
 -- ---- The answer
 

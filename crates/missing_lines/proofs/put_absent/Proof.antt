@@ -2,7 +2,8 @@
 use native.Mathlib.Omega.{arith}
 use borrow.Author.Needs.{needs}
 use Rattle.printing.proofs.Pieces.{piece-long}
-use Rattle.missing_lines.proofs.Putting.{shown-most, include-most, absent-put}
+use Rattle.shown_bytes.proofs.Showing.{shown-most}
+use Rattle.missing_lines.proofs.Putting.{include-most, absent-put}
 use Rattle.missing_lines.proofs.put_absent.Statement.{statement}
 use Rattle.missing_lines.proofs.put_absent.Tie as tie
 

@@ -1,6 +1,6 @@
 -- `paths::is_dot` meets its contract. Assumes nothing.
 use borrow.Author.Needs.{needs}
-use Rattle.paths.proofs.Storing.{dot-is, dot-not}
+use Rattle.paths.proofs.Dots.{dot-is, dot-not}
 use Rattle.paths.proofs.is_dot.Statement.{statement}
 use Rattle.paths.proofs.is_dot.Tie as tie
 

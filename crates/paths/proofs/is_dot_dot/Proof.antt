@@ -1,6 +1,6 @@
 -- `paths::is_dot_dot` meets its contract. Assumes nothing.
 use borrow.Author.Needs.{needs}
-use Rattle.paths.proofs.Storing.{dots-are, dots-first, dots-not}
+use Rattle.paths.proofs.Dots.{dots-are, dots-first, dots-not}
 use Rattle.paths.proofs.is_dot_dot.Statement.{statement}
 use Rattle.paths.proofs.is_dot_dot.Tie as tie
 

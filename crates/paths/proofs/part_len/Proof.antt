@@ -6,7 +6,7 @@ use lib.ListN.{length}
 use borrow.Author.Tests.{eq-eqb, ne-eqb}
 use borrow.Author.Needs.{needs}
 use Rattle.scan.proofs.Runs.{Passed, passed-none, passed-more, passed-stop, passed-end}
-use Rattle.paths.specs.Keeping.{notSlash}
+use Rattle.paths.specs.Parts.{notSlash}
 use Rattle.paths.proofs.part_len.Statement.{statement}
 use Rattle.paths.proofs.part_len.Tie as tie
 

@@ -20,38 +20,30 @@ loop-holds c =
     let here = c .before .before .before .before in
     reading-first now _ _ (here .pre .0) (here .pre .1)
 
-parse-database-requires : tie.Need-parse-database-requires Inv-loop μ-loop
-parse-database-requires c κs =
-    let loop-here = c .before .before .before .before .before .before in
-    (loop-here .loop .inv .room, loop-here .before .before .before .before .before .pre .2, loop-here .before .byte-classes .ensures)
+parse-text-requires : tie.Need-parse-text-requires Inv-loop μ-loop
+parse-text-requires c κs = (c .before .before .before .before .before .loop .inv .room, c .before .before .before .before .before .before .before .before .before .before .pre .2, c .before .before .before .before .before .before .byte-classes .ensures)
 
 loop-again : tie.Need-loop-again Inv-loop μ-loop
 loop-again c =
     let call-here = c .before .before .before .before .before .before .before in
-    let loop-here = call-here .before .before .before .before .before .before .before in
-    let kept = call-here .parse-database .kept .1 .1 .1 .1 .1 .1 in
-    reading-text now (loop-here .loop .inv) _ (call-here .before .before .before .before .before .before .loop-test .taken) _ _ _
-    (rw (c .before .step .given .1) at (call-here .parse-database .ensures [])) (kept .0) (kept .1 .0)
+    let kept = call-here .parse-text .kept .1 .1 .1 .1 in
+    reading-text now (call-here .before .before .before .before .before .before .loop .inv) _ (call-here .before .before .before .before .before .loop-test .taken) _ _ _
+    (rw (c .before .step .given .1) at (call-here .parse-text .ensures [])) (kept .0) (kept .1 .0)
 
 same-length : tie.Need-same-length Inv-loop μ-loop
-same-length c =
-    let call-here = c .before .before .before .before .before .before .before in
-    call-here .parse-database .kept .1 .1 .1 .1 .1 .1 .0 ∙ call-here .before .before .before .before .before .before .before .loop .inv .words-same
+same-length c = c .before .before .before .before .before .before .before .parse-text .kept .1 .1 .1 .1 .0 ∙ c .before .before .before .before .before .before .before .before .before .before .before .before .before .loop .inv .words-same
 
 same-length-2 : tie.Need-same-length-2 Inv-loop μ-loop
-same-length-2 c =
-    let call-here = c .before .before .before .before .before .before .before in
-    call-here .parse-database .kept .1 .1 .1 .1 .1 .1 .1 .0 ∙ call-here .before .before .before .before .before .before .before .loop .inv .bytes-same
+same-length-2 c = c .before .before .before .before .before .before .before .parse-text .kept .1 .1 .1 .1 .1 .0 ∙ c .before .before .before .before .before .before .before .before .before .before .before .before .before .loop .inv .bytes-same
 
 returns : tie.Need-returns Inv-loop μ-loop
 returns c =
     let call-here = c .before .before .before .before .before .before .before in
-    let loop-here = call-here .before .before .before .before .before .before .before in
-    text-stops now (loop-here .loop .inv) _ (call-here .before .before .before .before .before .before .loop-test .taken) _ _ _
-    (rw (c .before .step2 .given .1) at (call-here .parse-database .ensures []))
+    text-stops now (call-here .before .before .before .before .before .before .loop .inv) _ (call-here .before .before .before .before .before .loop-test .taken) _ _ _
+    (rw (c .before .step2 .given .1) at (call-here .parse-text .ensures []))
 
 pub parse-texts-spec : {M : Type 1} → statement M
 parse-texts-spec = tie.close (tie.spec Inv-loop μ-loop
-    (λ c κs. search needs) loop-holds (λ c. search needs) (λ c. search needs) (λ c. search needs) parse-database-requires (λ c. search needs) (λ c. search needs) (λ c. search needs)
+    (λ c κs. search needs) loop-holds (λ c. search needs) (λ c. search needs) parse-text-requires (λ c. search needs) (λ c. search needs) (λ c. search needs)
     loop-again (λ c. search needs) same-length same-length-2 returns
     (λ c. c .before .loop .inv .words-same) (λ c. c .before .loop .inv .bytes-same) (λ c. reading-done now (c .before .loop .inv) (c .loop-test .left)))

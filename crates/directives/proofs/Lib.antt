@@ -1,0 +1,3 @@
+-- Laws that the proofs of this crate and of its callers cite.
+mod Quotes
+pub mod Includes

@@ -1,0 +1,2 @@
+-- Laws of lines of the common form.
+pub mod Entries

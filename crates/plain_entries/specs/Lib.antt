@@ -1,0 +1,2 @@
+-- What the contract of a line of the common form cites.
+pub mod Entries

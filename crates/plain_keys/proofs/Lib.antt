@@ -1,0 +1,3 @@
+-- Laws of keys of the common form.
+pub mod Ends
+pub mod Keys

@@ -1,0 +1,3 @@
+-- What the contracts of keys of the common form cite.
+pub mod Ended
+pub mod Keys

@@ -1,0 +1,3 @@
+-- Laws of values of the common form.
+mod BlankRuns
+pub mod Values

@@ -1,0 +1,2 @@
+-- Laws that the proofs of this crate and of its callers cite.
+pub mod Showing
