@@ -1,5 +1,5 @@
 /*
- * X resource texts read into a database image, and looked up in it.
+ * X resource texts read into a database image, looked up in it, and written out again.
  *
  * The functions stand in the static library libresource_manager.a, for x86-64 Linux. Their contracts, which
  * crates/resource_manager states and proves, are here in words. They allocate nothing, keep nothing between calls,
@@ -37,24 +37,28 @@ extern "C" {
 #define RESOURCE_MANAGER_QUERY_BYTES 1024 /* of the name, and of the class */
 #define RESOURCE_MANAGER_QUERY_PARTS 32   /* of the name, and of the class */
 
+/* The longest text that an image is written out as: a buffer of so many bytes is enough for every image. */
+#define RESOURCE_MANAGER_WRITTEN_BYTES 66048
+
 /* Includes nest this deep. A deeper one adds nothing, and is no refusal. */
 #define RESOURCE_MANAGER_DEPTH 100
 
-/* The low 16 bits of every answer. 1 to 10 are refusals, and then all higher bits are 0. */
+/* The low 16 bits of every answer. 1 to 11 are refusals, and then all higher bits are 0. */
 enum resource_manager_status {
     RESOURCE_MANAGER_OK = 0,
-    RESOURCE_MANAGER_SHORT_BUFFERS = 1,     /* contents or bodies too short for an image */
-    RESOURCE_MANAGER_LONG_TEXT = 2,         /* main text, or a text that a start-up uses, too long */
-    RESOURCE_MANAGER_BAD_SHELF = 3,         /* shelf not laid out as below */
-    RESOURCE_MANAGER_MANY_OPENS = 4,        /* too many included files opened */
-    RESOURCE_MANAGER_MANY_ENTRY_PARTS = 5,  /* an entry has too many parts */
-    RESOURCE_MANAGER_MANY_ENTRIES = 6,      /* too many entries */
-    RESOURCE_MANAGER_FULL_STORE = 7,        /* keys and values too large in all */
-    RESOURCE_MANAGER_NO_IMAGE = 8,          /* a lookup's buffers hold no database image */
-    RESOURCE_MANAGER_LONG_QUERY = 9,        /* name or class too long */
-    RESOURCE_MANAGER_MANY_QUERY_PARTS = 10, /* name or class of too many parts */
-    RESOURCE_MANAGER_NOT_A_NUMBER = 65534,  /* get_value: the value is no 64-bit decimal number */
-    RESOURCE_MANAGER_NONE = 65535           /* no such value; of a comparing call: no such file */
+    RESOURCE_MANAGER_SHORT_BUFFERS = 1,      /* contents or bodies too short for an image */
+    RESOURCE_MANAGER_LONG_TEXT = 2,          /* main text, or a text that a start-up uses, too long */
+    RESOURCE_MANAGER_BAD_SHELF = 3,          /* shelf not laid out as below */
+    RESOURCE_MANAGER_MANY_OPENS = 4,         /* too many included files opened */
+    RESOURCE_MANAGER_MANY_ENTRY_PARTS = 5,   /* an entry has too many parts */
+    RESOURCE_MANAGER_MANY_ENTRIES = 6,       /* too many entries */
+    RESOURCE_MANAGER_FULL_STORE = 7,         /* keys and values too large in all */
+    RESOURCE_MANAGER_NO_IMAGE = 8,           /* the buffers of a lookup, or of a writing, hold no database image */
+    RESOURCE_MANAGER_LONG_QUERY = 9,         /* name or class too long */
+    RESOURCE_MANAGER_MANY_QUERY_PARTS = 10,  /* name or class of too many parts */
+    RESOURCE_MANAGER_SHORT_TEXT_BUFFER = 11, /* the buffer of a writing is shorter than the text */
+    RESOURCE_MANAGER_NOT_A_NUMBER = 65534,   /* get_value: the value is no 64-bit decimal number */
+    RESOURCE_MANAGER_NONE = 65535            /* no such value; of a comparing call: no such file */
 };
 
 /* The status of any answer. */
@@ -181,6 +185,26 @@ uint64_t resource_manager_get_bool(const uint16_t *contents, size_t contents_cou
 uint64_t resource_manager_get_value(const uint16_t *contents, size_t contents_count, const uint8_t *bodies,
                                     size_t bodies_count, const uint8_t *name, size_t name_count,
                                     const uint8_t *class_name, size_t class_count, int64_t *out);
+
+/*
+ * Writes a database image out as a text that resource_manager_read reads back: for each entry its key, ": ", its value
+ * and a newline. In the value a backslash is doubled, a newline is a backslash and an 'n', and a space or tab that begins
+ * the value has a backslash before it. All other bytes stand as they are, zero bytes too; none is put after the text.
+ *
+ * OK: the text stands at the front of the buffer, its length is in the answer, and bytes past it are as they were.
+ * Refused: 8, or else 11 if the buffer is shorter than the text; the buffer is as it was.
+ *
+ * A text of at most RESOURCE_MANAGER_TEXT_BYTES, read again with any shelf, leaves an image of the same entries and opens
+ * nothing; a longer one is refused by 2 there. Two images have the same text just where they hold the same entries.
+ */
+uint64_t resource_manager_write(const uint16_t *contents, size_t contents_count, const uint8_t *bodies,
+                                size_t bodies_count, uint8_t *text, size_t text_count);
+
+/* How many bytes the text has that was written. */
+static inline size_t resource_manager_written_of(uint64_t answer)
+{
+    return (size_t)(answer >> 32);
+}
 
 /*
  * What one file of a shelf changes: reads the text with the shelf, and again with file number `file`, from 0, struck

@@ -1,5 +1,5 @@
 /*
- * Reads a text of X resources with a shelf of two files, and looks values up.
+ * Reads a text of X resources with a shelf of two files, looks values up, and writes all settings out as one text.
  *
  *     rt staticlib resource_manager
  *     cc -std=c99 -I include examples/c/settings.c -L target/staticlib -lresource_manager -o settings
@@ -24,6 +24,9 @@ struct shelf {
 static uint16_t contents[RESOURCE_MANAGER_CONTENTS_WORDS];
 static uint8_t bodies[RESOURCE_MANAGER_BODIES_BYTES];
 static struct shelf shelf;
+
+/* Room for the text of any image. */
+static uint8_t written[RESOURCE_MANAGER_WRITTEN_BYTES];
 
 static int put(struct shelf *to, const void *bytes, size_t count)
 {
@@ -134,6 +137,18 @@ static void show_number(const char *name, const char *class_name)
     }
 }
 
+static void write_out(void)
+{
+    uint64_t answer = resource_manager_write(contents, RESOURCE_MANAGER_CONTENTS_WORDS, bodies,
+                                             RESOURCE_MANAGER_BODIES_BYTES, written, sizeof written);
+    if (resource_manager_status_of(answer) == RESOURCE_MANAGER_OK) {
+        printf("%zu bytes written:\n", resource_manager_written_of(answer));
+        fwrite(written, 1, resource_manager_written_of(answer), stdout);
+    } else {
+        printf("refused %d\n", (int)resource_manager_status_of(answer));
+    }
+}
+
 int main(void)
 {
     static const char text[] = "#include \"pack/settings\"\n"
@@ -166,5 +181,6 @@ int main(void)
     show_number("reader.font.size", "Reader.Font.Size");
     show_number("reader.font.family", "Reader.Font.Family");
     show_number("a.a.a.a.a.a.a.a.a.a.a.a.a.a.a.a.a.a.a.a.a.a.a.a.a.a.a.a.a.a.a.a.a", "");
+    write_out();
     return 0;
 }

@@ -1,10 +1,11 @@
-//! A database: read from a text, and looked up.
+//! A database: read from a text, looked up, and written out.
 
 use crate::error::{Error, NotANumber, ValueError};
 use crate::ffi::{self, Image, ImageMut, Question, Room};
-use crate::limits::{BODIES_BYTES, CONTENTS_WORDS};
+use crate::limits::{BODIES_BYTES, CONTENTS_WORDS, WRITTEN_BYTES};
 use crate::Archive;
 use std::fmt;
+use std::io;
 use std::slice::ChunksExact;
 use std::str::FromStr;
 
@@ -18,7 +19,8 @@ const NOT_A_NUMBER: u64 = 65_534;
 ///
 /// It is made from a text by [`new_from_data`](Self::new_from_data), with files for its includes by
 /// [`new_from_data_with_archive`](Self::new_from_data_with_archive), or from the default places of X by
-/// [`new_from_default`](Self::new_from_default). It owns its memory, some 35 kilobytes.
+/// [`new_from_default`](Self::new_from_default), and written out again by [`to_text`](Self::to_text). It owns its memory, some 35
+/// kilobytes.
 ///
 /// # Queries
 ///
@@ -253,6 +255,53 @@ impl Database {
     /// How many times the reading read an included file.
     pub fn opens(&self) -> usize {
         self.opens
+    }
+
+    /// The database as a text, which [`new_from_data`](Self::new_from_data) reads back: a line for each entry, in their order.
+    ///
+    /// A line is the key, `: ` and the value. In the value a backslash is doubled, a newline is `\n`, and a space or tab that
+    /// begins it has a backslash before it; all other bytes stand as they are, so that the text need not be UTF-8. No include is
+    /// left: what was read from an archive stands in the text itself.
+    ///
+    /// Two databases have the same text just where they have the same entries. A text of more than
+    /// [`TEXT_BYTES`](crate::limits::TEXT_BYTES), which a database of long values may have, is not read back; none has more than
+    /// [`WRITTEN_BYTES`](crate::limits::WRITTEN_BYTES).
+    ///
+    /// ```
+    /// # use resource_manager::{Archive, Database};
+    /// let archive = Archive::from_files([("pack", "*hyphenation:on")])?;
+    /// let database = Database::new_from_data_with_archive(b"#include \"pack\"\n! of a lesson\nreader..title:\\ A\\nB", &archive)?;
+    /// let text = database.to_text();
+    /// assert_eq!(text, b"*hyphenation: on\n.reader.title: \\ A\\nB\n");
+    /// assert!(Database::new_from_data(&text)?.entries().eq(database.entries()));
+    /// # Ok::<(), Box<dyn std::error::Error>>(())
+    /// ```
+    pub fn to_text(&self) -> Vec<u8> {
+        let mut text = vec![0; WRITTEN_BYTES];
+        let answer = ffi::write(self.image(), &mut text);
+        // Neither 8 nor 11 can come up: a database is an image, and no text is longer than the buffer.
+        assert_eq!(answer & 0xFFFF, FOUND, "a writing is refused");
+        let length = (answer >> 32) as usize;
+        text.truncate(length);
+        text.shrink_to_fit();
+        text
+    }
+
+    /// Writes the database out as a text, as [`to_text`](Self::to_text) gives it, to a file or another writer.
+    ///
+    /// ```
+    /// # use resource_manager::Database;
+    /// # fn save(database: &Database, path: &std::path::Path) -> std::io::Result<()> {
+    /// database.write_to(std::fs::File::create(path)?)
+    /// # }
+    /// # let path = std::env::temp_dir().join(format!("settings-{}", std::process::id()));
+    /// # let database = Database::new_from_data(b"a: 1").unwrap();
+    /// # save(&database, &path).unwrap();
+    /// # assert_eq!(std::fs::read(&path).unwrap(), b".a: 1\n");
+    /// # std::fs::remove_file(path).unwrap();
+    /// ```
+    pub fn write_to<W: io::Write>(&self, mut writer: W) -> io::Result<()> {
+        writer.write_all(&self.to_text())
     }
 
     /// What one file of an archive changes: the value of a query as it is read with the file, and as it is read with the

@@ -4,7 +4,7 @@ use crate::limits;
 use std::error;
 use std::fmt;
 
-/// Why a reading or a lookup was refused. Each refusal has a number, the same in every language.
+/// Why a reading, a lookup or a writing was refused. Each refusal has a number, the same in every language.
 #[derive(Clone, Copy, Debug, PartialEq, Eq, Hash)]
 #[repr(u8)]
 pub enum Error {
@@ -22,15 +22,17 @@ pub enum Error {
     ManyEntries = 6,
     /// Keys and values have more than [`BODIES_BYTES`](limits::BODIES_BYTES).
     FullStore = 7,
-    /// The buffers of a lookup hold no database. Those of a [`Database`](crate::Database) always do.
+    /// The buffers of a lookup or of a writing hold no database. Those of a [`Database`](crate::Database) always do.
     NoImage = 8,
     /// The name or the class of a query has more than [`QUERY_BYTES`](limits::QUERY_BYTES).
     LongQuery = 9,
     /// The name or the class of a query has more than [`QUERY_PARTS`](limits::QUERY_PARTS).
     ManyQueryParts = 10,
+    /// The buffer of a writing is shorter than the text. That of [`Database::to_text`](crate::Database::to_text) never is.
+    ShortTextBuffer = 11,
 }
 
-const ALL: [Error; 10] = [
+const ALL: [Error; 11] = [
     Error::ShortBuffers,
     Error::LongText,
     Error::BadArchive,
@@ -41,10 +43,11 @@ const ALL: [Error; 10] = [
     Error::NoImage,
     Error::LongQuery,
     Error::ManyQueryParts,
+    Error::ShortTextBuffer,
 ];
 
 impl Error {
-    /// The refusal's number, 1 to 10.
+    /// The refusal's number, 1 to 11.
     pub fn number(self) -> u8 {
         self as u8
     }
@@ -73,6 +76,7 @@ impl fmt::Display for Error {
             Error::NoImage => write!(f, "buffers that hold no database"),
             Error::LongQuery => write!(f, "a query whose name or class has more than {} bytes", limits::QUERY_BYTES),
             Error::ManyQueryParts => write!(f, "a query whose name or class has more than {} parts", limits::QUERY_PARTS),
+            Error::ShortTextBuffer => write!(f, "a buffer that is shorter than the text"),
         }?;
         write!(f, " (refused by {})", self.number())
     }
@@ -132,8 +136,8 @@ mod tests {
     }
 
     #[test]
-    #[should_panic(expected = "gave 11, which is no answer")]
+    #[should_panic(expected = "gave 12, which is no answer")]
     fn no_other_number_is_a_refusal() {
-        Error::of_answer(11);
+        Error::of_answer(12);
     }
 }

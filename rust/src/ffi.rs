@@ -92,6 +92,15 @@ extern "C" {
         out: *mut i64,
     ) -> u64;
 
+    fn resource_manager_write(
+        contents: *const u16,
+        contents_count: usize,
+        bodies: *const u8,
+        bodies_count: usize,
+        text: *mut u8,
+        text_count: usize,
+    ) -> u64;
+
     fn resource_manager_compare_without(
         text: *const u8,
         text_count: usize,
@@ -314,6 +323,15 @@ pub(crate) fn get_value(Image { contents, bodies }: Image, name: &[u8], class: &
             class.len(),
             out,
         )
+    }
+}
+
+/// 0 in bits 0 to 15 and the length of the text, which stands at the front of `text`, from bit 32 on; or the refusal's number,
+/// with `text` as it was.
+pub(crate) fn write(Image { contents, bodies }: Image, text: &mut [u8]) -> u64 {
+    // SAFETY: as for the lookups; `text` is borrowed for writing, and is all that the call writes.
+    unsafe {
+        resource_manager_write(contents.as_ptr(), contents.len(), bodies.as_ptr(), bodies.len(), text.as_mut_ptr(), text.len())
     }
 }
 
@@ -540,7 +558,27 @@ mod tests {
         assert_eq!((bodies[BODIES_BYTES - 1], bodies[BODIES_BYTES]), (0, 0xA5));
     }
 
+    #[test]
+    fn a_text_in_buffers_just_long_enough_and_one_short() {
+        let (mut contents, mut bodies) = buffers(CONTENTS_WORDS, BODIES_BYTES);
+        assert_eq!(read(b"a:\\ 1\nb:\\n", NO_FILES, &mut contents, &mut bodies), 2 << 16);
+        let image = Image { contents: &contents, bodies: &bodies };
+        let text = b".a: \\ 1\n.b: \\n\n";
+        for short in [0, 1, text.len() - 1] {
+            let mut buffer = vec![0xA5; short];
+            assert_eq!((write(image, &mut buffer), buffer), (11, vec![0xA5; short]));
+        }
+        for more in [0, 1, 100] {
+            let mut buffer = vec![0xA5; text.len() + more];
+            assert_eq!(write(image, &mut buffer), (text.len() as u64) << 32);
+            assert_eq!(buffer, [&text[..], &vec![0xA5; more]].concat());
+        }
+    }
+
     fn no_image(image: Image) {
+        let mut text = [0xA5; 3];
+        assert_eq!((write(image, &mut text), text), (8, [0xA5; 3]));
+        assert_eq!(write(image, &mut []), 8);
         let mut out = 7;
         assert_eq!(get_bytes(image, b"a", b""), 8);
         assert_eq!(get_string(image, b"a", b""), 8);

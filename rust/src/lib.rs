@@ -28,7 +28,8 @@
 //! What x11rb has no limits for has [`limits`] here, and what is past them is refused by an [`Error`]. A reading returns
 //! it. A lookup panics with it, or returns it from the `try_get_` methods: it never passes for "no value". No included file
 //! is opened: what a text includes is in an [`Archive`]. [`Database::new_from_default`] opens the files of the default
-//! places, as x11rb does, and [`StartUp::texts`] says which of these texts count.
+//! places, as x11rb does, and [`StartUp::texts`] says which of these texts count. [`Database::to_text`] and
+//! [`Database::write_to`], which x11rb has not, write a database out as a text.
 //!
 //! # Proved, and not
 //!

@@ -27,6 +27,9 @@ pub const ENTRIES: usize = 512;
 /// Bytes of a database's keys and values together ([`FullStore`](crate::Error::FullStore)).
 pub const BODIES_BYTES: usize = 32_768;
 
+/// Bytes of the longest text that a database is written out as. It is more than [`TEXT_BYTES`]: such a text is not read again.
+pub const WRITTEN_BYTES: usize = 66_048;
+
 /// Bytes of a query's name, and of its class ([`LongQuery`](crate::Error::LongQuery)).
 pub const QUERY_BYTES: usize = 1_024;
 

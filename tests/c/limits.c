@@ -18,7 +18,7 @@
 
 /* Where the room for each thing that is lent ends. */
 static uint8_t *text_end, *second_end, *shelf_end, *contents_end, *bodies_end, *name_end, *class_end;
-static uint8_t *struck_end, *contents_without_end, *bodies_without_end, *default_end;
+static uint8_t *struck_end, *contents_without_end, *bodies_without_end, *default_end, *written_end;
 static size_t text_count, second_count, shelf_count;
 static size_t contents_count = RESOURCE_MANAGER_CONTENTS_WORDS, bodies_count = RESOURCE_MANAGER_BODIES_BYTES;
 static int checks;
@@ -598,6 +598,129 @@ static void refused_comparisons(void)
     refused_comparison("a refused reading", RESOURCE_MANAGER_MANY_ENTRIES, 0, "a");
 }
 
+/* ---- Writing out */
+
+#define FILLED 0xA5
+
+/* Writes the image out into a buffer of so many bytes. All but the text is then as it was, on both sides of the buffer. */
+static uint64_t write_out(size_t count)
+{
+    uint8_t *start = written_end - ROOM, *buffer = written_end - count, *at;
+    size_t written = 0;
+    uint64_t answer;
+    memset(start, FILLED, ROOM);
+    answer = resource_manager_write(lent_contents(), contents_count, lent_bodies(), bodies_count, buffer, count);
+    if (resource_manager_status_of(answer) == RESOURCE_MANAGER_OK) {
+        written = resource_manager_written_of(answer);
+    }
+    for (at = start; at < written_end; at++) {
+        if ((at < buffer || at >= buffer + written) && *at != FILLED) {
+            fail("a byte is changed that is none of the text's");
+        }
+    }
+    return answer;
+}
+
+static uint64_t written(size_t count)
+{
+    return (uint64_t)count << 32;
+}
+
+/* The image of a text, written out into buffers that are just long enough, longer, and one byte short. */
+static void writes(const char *from, const char *to, size_t count)
+{
+    set_shelf(NULL, 0);
+    set_text("", 0, from);
+    expect("a reading's status", resource_manager_status_of(read_it()), RESOURCE_MANAGER_OK);
+    expect(from, write_out(count), written(count));
+    expect("its bytes", (uint64_t)memcmp(written_end - count, to, count), 0);
+    expect("a longer buffer", write_out(count + 9), written(count));
+    expect("its bytes", (uint64_t)memcmp(written_end - count - 9, to, count), 0);
+    expect("the longest buffer", write_out(RESOURCE_MANAGER_WRITTEN_BYTES), written(count));
+    if (count > 0) {
+        expect("a buffer one byte short", write_out(count - 1), RESOURCE_MANAGER_SHORT_TEXT_BUFFER);
+        expect("a buffer of no bytes", write_out(0), RESOURCE_MANAGER_SHORT_TEXT_BUFFER);
+    }
+}
+
+#define LITERAL(text) text, sizeof text - 1
+
+static void texts_written(void)
+{
+    writes("", LITERAL(""));
+    writes("a.b:x\n! none\nb..*c :\t y", LITERAL(".a.b: x\n.b*c: y\n"));
+    writes("a:", LITERAL(".a: \n"));
+    writes("a:\\\\", LITERAL(".a: \\\\\n"));
+    writes("a:1\\n2\\n", LITERAL(".a: 1\\n2\\n\n"));
+    writes("a:\\  b ", LITERAL(".a: \\  b \n"));
+    writes("a:\\\t\tb", LITERAL(".a: \\\t\tb\n"));
+    writes("a:\\000\\377", LITERAL(".a: \0\377\n"));
+}
+
+/* Sixty-four entries whose values are backslashes alone, eight times: an image with no room for another byte. */
+static void longest_text(void)
+{
+    size_t line = 2 + 4 * (RESOURCE_MANAGER_BODIES_BYTES / RESOURCE_MANAGER_ENTRIES - 2) + 1, n;
+    struct file file = {"p", repeated("", '\n', 64 * line, "")};
+    char *at = (char *)file.body;
+    while (*at != '\0') {
+        memcpy(at, "a:", 2);
+        for (n = 2; n + 1 < line; n += 4) {
+            memcpy(at + n, "\\134", 4);
+        }
+        at += line;
+    }
+    set_shelf(&file, 1);
+    set_text("#include \"p\"\n", RESOURCE_MANAGER_ENTRIES / 64, "");
+    expect("a full image", read_it(), accepted(RESOURCE_MANAGER_ENTRIES, RESOURCE_MANAGER_ENTRIES / 64));
+    expect("the longest text", write_out(RESOURCE_MANAGER_WRITTEN_BYTES), written(RESOURCE_MANAGER_WRITTEN_BYTES));
+    expect("its first bytes", (uint64_t)memcmp(written_end - RESOURCE_MANAGER_WRITTEN_BYTES, ".a: \\\\", 6), 0);
+    expect("its last bytes", (uint64_t)memcmp(written_end - 3, "\\\\\n", 3), 0);
+    expect("a byte less", write_out(RESOURCE_MANAGER_WRITTEN_BYTES - 1), RESOURCE_MANAGER_SHORT_TEXT_BUFFER);
+}
+
+/* The longest text that is read again, and one byte more. */
+static void text_read_again(void)
+{
+    set_shelf(NULL, 0);
+    set_text("", 0, repeated("a:", 'z', RESOURCE_MANAGER_TEXT_BYTES - 5, ""));
+    expect("a reading", read_it(), accepted(1, 0));
+    expect("its text", write_out(RESOURCE_MANAGER_TEXT_BYTES), written(RESOURCE_MANAGER_TEXT_BYTES));
+    text_count = RESOURCE_MANAGER_TEXT_BYTES;
+    memcpy(text_end - text_count, written_end - text_count, text_count);
+    memset(lent_bodies(), FILLED, bodies_count);
+    expect("the text read again", read_it(), accepted(1, 0));
+    expect("its value", resource_manager_length_of(ask(resource_manager_get_bytes, "a", "")), text_count - 5);
+    set_text("", 0, repeated("a:", 'z', RESOURCE_MANAGER_TEXT_BYTES - 4, ""));
+    expect("a reading", read_it(), accepted(1, 0));
+    expect("its text", write_out(RESOURCE_MANAGER_TEXT_BYTES + 1), written(RESOURCE_MANAGER_TEXT_BYTES + 1));
+}
+
+/* 8 comes before 11. */
+static void no_images_written(void)
+{
+    memset(lent_contents(), 0, 2 * contents_count);
+    expect("an image of no entries", write_out(0), written(0));
+    lent_contents()[0] = RESOURCE_MANAGER_ENTRIES + 1;
+    expect("no image", write_out(RESOURCE_MANAGER_WRITTEN_BYTES), RESOURCE_MANAGER_NO_IMAGE);
+    expect("no image, and no buffer", write_out(0), RESOURCE_MANAGER_NO_IMAGE);
+    memset(lent_contents(), 0, 2 * contents_count);
+    contents_count--;
+    expect("contents one word short", write_out(9), RESOURCE_MANAGER_NO_IMAGE);
+    contents_count++;
+    bodies_count--;
+    expect("bodies one byte short", write_out(9), RESOURCE_MANAGER_NO_IMAGE);
+    bodies_count++;
+}
+
+static void writings(void)
+{
+    texts_written();
+    longest_text();
+    text_read_again();
+    no_images_written();
+}
+
 /* ---- A start-up of two texts */
 
 /* Every text has an entry whose key is the text's letter. Used are those with these letters. */
@@ -771,6 +894,7 @@ static void *all(void *unused)
     numbers();
     booleans();
     shows();
+    writings();
     which_texts();
     for (lent_as = 0; lent_as < MAIN; lent_as++) {
         readings();
@@ -786,7 +910,7 @@ int main(void)
     pthread_attr_t small;
     pthread_t thread;
     uint8_t **rooms[] = {&text_end, &second_end, &shelf_end, &contents_end, &bodies_end, &name_end, &class_end,
-                         &struck_end, &contents_without_end, &bodies_without_end, &default_end};
+                         &struck_end, &contents_without_end, &bodies_without_end, &default_end, &written_end};
     size_t n;
     for (n = 0; n < sizeof rooms / sizeof rooms[0]; n++) {
         *rooms[n] = fenced();

@@ -7,6 +7,7 @@ pub mod crowded;
 pub mod damage;
 pub mod dotted;
 pub mod draw;
+pub mod images;
 pub mod limits;
 pub mod lookups;
 pub mod named;

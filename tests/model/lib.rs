@@ -1,4 +1,4 @@
-//! The settings core as document 01 and requests (i) and (iii) of document 02 lay it down, written for reading
+//! The settings core as document 01 and requests (i), (iii) and (iv) of document 02 lay it down, written for reading
 //! and not for speed.
 //!
 //! It is a second reference beside the Rust: it has the limits, the refusals and the image, which
@@ -16,3 +16,4 @@ pub mod query;
 pub mod reading;
 pub mod startup;
 pub mod value;
+pub mod writing;

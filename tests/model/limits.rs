@@ -1,4 +1,4 @@
-//! Document 01's numbers: the limits, and what each refusal is called.
+//! Document 01's numbers, with those that requests of document 02 add: the limits, and what each refusal is called.
 
 pub const CONTENTS_WORDS: usize = 1538;
 pub const BODIES_BYTES: usize = 32_768;
@@ -12,6 +12,9 @@ pub const DEPTH: usize = 100;
 pub const OPENS: usize = 4096;
 pub const ENTRIES: usize = 512;
 pub const KEY_PARTS: usize = 16;
+
+/// The longest text of an image: 512 entries with a key of two bytes each, and two bytes for each byte of a value.
+pub const WRITTEN_BYTES: usize = 66_048;
 
 pub const QUERY_BYTES: usize = 1024;
 pub const QUERY_PARTS: usize = 32;
@@ -29,6 +32,7 @@ pub enum Refusal {
     NoImage,
     LongQuery,
     ManyQueryParts,
+    ShortTextBuffer,
 }
 
 impl Refusal {

@@ -102,6 +102,15 @@ extern "C" {
         out: *mut i64,
     ) -> u64;
 
+    fn resource_manager_write(
+        contents: *const u16,
+        contents_length: usize,
+        bodies: *const u8,
+        bodies_length: usize,
+        text: *mut u8,
+        text_length: usize,
+    ) -> u64;
+
     fn resource_manager_compare_without(
         text: *const u8,
         text_length: usize,
@@ -324,6 +333,15 @@ pub fn get_value_word(contents: &[u16], bodies: &[u8], name: &[u8], class: &[u8]
             class.len(),
             out,
         )
+    }
+}
+
+/// Writes an image out into a lent buffer: the text's length from bit 32 on; or, with the buffer as it was, 8 if there is no image,
+/// 11 if the buffer is shorter than the text.
+pub fn write_word(contents: &[u16], bodies: &[u8], text: &mut [u8]) -> u64 {
+    // SAFETY: as for the lookups; `text` is borrowed for writing.
+    unsafe {
+        resource_manager_write(contents.as_ptr(), contents.len(), bodies.as_ptr(), bodies.len(), text.as_mut_ptr(), text.len())
     }
 }
 

@@ -23,7 +23,7 @@ BEGIN {
         examples[words[i]] = 1
     # what the names of a suite's tests are quoted in
     suite["model"] = "^tests/tool/model_tests.rs$"
-    suite["port"] = "^tests/(tool/port/[a-z_]*|cases/(readings|lookups|limits|dotted|struck|chains|named_chains)).rs$"
+    suite["port"] = "^tests/(tool/port/[a-z_]*|cases/(readings|lookups|limits|dotted|struck|chains|named_chains|images)).rs$"
     suite["beside"] = "^tests/(cases/(readings|lookups|chains)|tool/beside/families).rs$"
     suite["list"] = "^tests/list$"
     suite["getres"] = "^tests/getres$"

@@ -143,7 +143,7 @@ function shift(key, from) {
     return inside[key] == inside[from] ? offset[key] : 0
 }
 
-# The declaration that a name means in a file, or in a declaration's file.
+# The declaration that a name means in a file, or in a declaration's file. A file may pass a name on by `pub use`.
 function named(name, from,    path, module) {
     path = from
     sub(SUBSEP ".*", "", path)
@@ -158,6 +158,8 @@ function named(name, from,    path, module) {
         sub(SUBSEP ".*", "", path)
         sub(".*" SUBSEP, "", name)
         load(path)
+        if ((path, name) in imported)
+            return named(name, path)
     }
     return (path, name) in kind ? path SUBSEP name : ""
 }
@@ -301,7 +303,7 @@ function take_in(path, item, at,    s, name, key, n, parts, i) {
     s = normal(item)
     if (at <= sharedAt)
         shared = ""
-    if (item ~ /^ *use /) {
+    if (item ~ /^ *(pub )?use /) {
         import(path, item)
         return
     }

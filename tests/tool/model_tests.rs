@@ -1,5 +1,5 @@
-//! Tests of the model by itself: document 01's examples and limits, those of the start-up chain and of names with dots, written
-//! out by hand.
+//! Tests of the model by itself: document 01's examples and limits, those of the start-up chain, of names with dots and of
+//! writing out, written out by hand.
 //!
 //!     model_tests NAME    runs one test
 //!     model_tests list    lists the tests
@@ -8,12 +8,14 @@ use cases::archives;
 use cases::chains::{every_combination, Combination};
 use cases::dotted;
 use cases::draw::Draw;
+use cases::images::{self, Image};
 use cases::limits::{edges, Edge};
 use cases::named_chains::{at_limits, named};
+use cases::readings::Extent;
 use cases::words::{keys, queries};
 use model::archive::{judge, lay_out, strike};
 use model::image::{self, Accepted};
-use model::limits::{BODIES_BYTES, CONTENTS_WORDS};
+use model::limits::{BODIES_BYTES, CONTENTS_WORDS, TEXT_BYTES};
 use model::line::{read_key, write_key, Part};
 use model::lookup::{get_bool, get_bytes, get_value, show, Number};
 use model::matching::{all_rows, beats_the_rest, highest_row, positions, winner};
@@ -21,13 +23,14 @@ use model::paths::{follow, target, Outside};
 use model::query::split;
 use model::reading;
 use model::startup::StartUp;
+use model::writing;
 use records::Source;
-use std::collections::BTreeSet;
+use std::collections::{BTreeMap, BTreeSet};
 use std::process::ExitCode;
 
 type Test = fn() -> Result<String, String>;
 
-const TESTS: [(&str, Test); 14] = [
+const TESTS: [(&str, Test); 16] = [
     ("examples", examples),
     ("booleans", booleans),
     ("limits", limits),
@@ -42,6 +45,8 @@ const TESTS: [(&str, Test); 14] = [
     ("bad-images", bad_images),
     ("rows", rows),
     ("striking-off", striking_off),
+    ("written-texts", written_texts),
+    ("read-again", read_again),
 ];
 
 fn main() -> ExitCode {
@@ -512,4 +517,63 @@ fn striking_off() -> Result<String, String> {
         }
     }
     Ok(format!("{count} files"))
+}
+
+/// What the writing call gives with a buffer of this many bytes, and the buffer afterwards, with guards behind it.
+fn written(image: &Image, length: usize) -> (Result<usize, u8>, Vec<u8>) {
+    let mut buffer = vec![BYTE; length + SPARE];
+    let got = writing::write(&image.contents, &image.bodies, &mut buffer[..length]);
+    (got.map_err(|refusal| refusal.number()), buffer)
+}
+
+/// The sentences of document 02 (iv), each with buffers that are long enough, and too short.
+fn written_texts() -> Result<String, String> {
+    let named = images::named();
+    for images::Named { label, entries, text } in &named {
+        let image = Image::of(entries);
+        for more in [0, 1, 1_000] {
+            let expected = [&text[..], &vec![BYTE; more + SPARE]].concat();
+            same(label, written(&image, text.len() + more), (Ok(text.len()), expected))?;
+        }
+        for short in 0..text.len() {
+            same(label, written(&image, short), (Err(11), vec![BYTE; short + SPARE]))?;
+        }
+    }
+    let limits = images::at_limits();
+    for images::AtLimit { label, image, expected } in &limits {
+        let enough = expected.unwrap_or(0);
+        let (got, buffer) = written(image, enough);
+        same(label, got, *expected)?;
+        same(label, buffer[enough..].iter().all(|b| *b == BYTE), true)?;
+        if enough > 0 {
+            same(label, written(image, enough - 1), (Err(11), vec![BYTE; enough - 1 + SPARE]))?;
+        }
+    }
+    Ok(format!("{} texts, {} at limits", named.len(), limits.len()))
+}
+
+/// A text that is written, if it is not too long, reads back as an image of the same entries, zero elsewhere, and other entries
+/// have another text.
+fn read_again() -> Result<String, String> {
+    let (mut count, mut long) = (0, 0);
+    let mut texts = BTreeMap::new();
+    for name in ["limits", "values", "pairs", "bytes", "keys", "texts"] {
+        let family = images::family(name).ok_or("no such family")?;
+        family(Extent { seed: 1, times: 1 }, &mut |image| {
+            let Some(entries) = image.entries() else { return Ok(()) };
+            let text =
+                writing::text(&image.contents, &image.bodies).map_err(|refusal| format!("refused {}", refusal.number()))?;
+            match Image::read(&Source::plain(&text)) {
+                None => {
+                    same("a text that is refused", text.len() > TEXT_BYTES, true)?;
+                    long += 1;
+                }
+                Some(again) => same("read again", &again, &Image::of(&entries))?,
+            }
+            count += 1;
+            let of_text: &Vec<images::Entry> = texts.entry(text).or_insert_with(|| entries.clone());
+            same("the entries of a text", of_text, &entries)
+        })?;
+    }
+    Ok(format!("{count} images, {} texts, {long} of them too long to be read", texts.len()))
 }

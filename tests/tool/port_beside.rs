@@ -7,6 +7,8 @@
 //!     port_beside strike FAMILY SEED TIMES ROOM     tries the third term on one family of archives
 //!     port_beside compare-without FAMILY SEED TIMES ROOM   the same by the comparing call
 //!     port_beside strikes                           lists the families of archives
+//!     port_beside write FAMILY SEED TIMES ROOM      compares the writing of one family of images
+//!     port_beside writings                          lists the families of images
 //!     port_beside test NAME ROOM                    runs one test
 //!     port_beside tests                             lists the tests
 //!     port_beside fault LABEL both|rust|third|start-ups ROOM   compares a faulty port: 'faults' asks that this fails
@@ -55,8 +57,15 @@ mod start_up_tests;
 mod tests;
 #[path = "port/third.rs"]
 mod third;
+#[path = "port/writing.rs"]
+mod writing;
+#[path = "port/writing_faults.rs"]
+mod writing_faults;
+#[path = "port/writing_tests.rs"]
+mod writing_tests;
 
 use cases::chains::{self, every_combination, Combination};
+use cases::images;
 use cases::lookups;
 use cases::readings::{self, Extent};
 use cases::struck;
@@ -67,6 +76,7 @@ use run::Run;
 use std::collections::BTreeSet;
 use std::process::ExitCode;
 use third::Third;
+use writing::Writing;
 
 fn main() -> ExitCode {
     let words: Vec<String> = std::env::args().skip(1).collect();
@@ -79,6 +89,8 @@ fn main() -> ExitCode {
         ["strike", family, seed, times, _] => strike(family, seed, times),
         ["compare-without", family, seed, times, _] => compare_without(family, seed, times),
         ["strikes"] => Ok(names(&strikes())),
+        ["write", family, seed, times, _] => write(family, seed, times),
+        ["writings"] => Ok(names(&images::FAMILIES)),
         ["test", name, room] => tests::test(name, room),
         ["tests"] => Ok(tests::names().join("\n")),
         ["fault", label, with, room] => faults::one(label, with, room),
@@ -158,4 +170,11 @@ fn compare_without(family: &str, seed: &str, times: &str) -> Result<String, Stri
     let mut comparing = Comparing::new(comparing::PORTS);
     family(extent(seed, times)?, &mut |source, which, queries| comparing.see(source, which, queries))?;
     comparing.counts.report()
+}
+
+fn write(family: &str, seed: &str, times: &str) -> Result<String, String> {
+    let family = find(&images::FAMILIES, family)?;
+    let mut writing = Writing::new(port::write_word);
+    family(extent(seed, times)?, &mut |image| writing.see(image))?;
+    writing.counts.report()
 }

@@ -1,4 +1,5 @@
-// The query that the arguments of getres name, answered: what is told of it is in `answers` and `answers_without`, and `writing` writes it.
+// What the arguments of getres ask, answered: what is told of a query is in `answers` and `answers_without`, and of a database that is
+// written out in `database_text`; it is written here.
 ghost use mathlib.Core.Path.{_≡_};
 ghost use mathlib.Core.Bool.{true};
 ghost use Prim.Native.Nat.{_≤_};
@@ -9,11 +10,16 @@ ghost use Rattle.reports.specs.Telling.{reportBytes};
 use answers::answer;
 use answers_without::answer_twice;
 use command_line::argument;
+use database_text::write_database;
+use io::write_all;
+use libc::STDERR_FILENO;
+use libc::STDOUT_FILENO;
+use limits::WRITTEN_BYTES;
 use plans::Plan;
 use plans::given;
 use reports::REPORT_BYTES;
 use reports::Report;
-use writing::tell;
+use writing::fail;
 
 // A class that is not given is empty.
 fn class_argument(i: usize, buffer: &mut [u8]) -> usize
@@ -45,6 +51,19 @@ fn report_on(
     answer_twice(texts, archive, &file[..n], name, class, out)
 }
 
+// Writes a report, and answers its status, which is 2 if an answer cannot be written.
+fn tell(report: Report, bytes: &[u8]) -> u8 {
+    if report.wrong {
+        write_all(STDERR_FILENO, bytes);
+        return report.status;
+    }
+    if write_all(STDOUT_FILENO, bytes) {
+        return report.status;
+    }
+    fail(b"standard output");
+    2
+}
+
 fn answer_query(without: usize, texts: &[&[u8]], archive: &[u8], name: &[u8], class: &[u8]) -> u8
     requires { ⌜ laidOut (now archive) ≡ true ⌝ }
 {
@@ -54,10 +73,20 @@ fn answer_query(without: usize, texts: &[&[u8]], archive: &[u8], name: &[u8], cl
     tell(report, &out[..size])
 }
 
-// Answers the query that the arguments name with these texts, and gives the status.
+fn write_out(texts: &[&[u8]], archive: &[u8]) -> u8 {
+    let mut out = [0; WRITTEN_BYTES];
+    let report = write_database(texts, archive, &mut out);
+    let size = report.size;
+    tell(report, &out[..size])
+}
+
+// Writes the database of these texts out, or answers the query that the arguments name with them, and gives the status.
 pub fn answer_plan(plan: Plan, texts: &[&[u8]], archive: &[u8]) -> u8
     requires { ⌜ laidOut (now archive) ≡ true ⌝ }
 {
+    if plan.write {
+        return write_out(texts, archive);
+    }
     let mut name = io::buffer();
     let n = argument(given(plan, options::NAME), &mut name);
     let mut class = io::buffer();

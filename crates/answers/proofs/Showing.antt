@@ -1,33 +1,25 @@
 -- What getres shows is what the definition answers. Assumes nothing.
-use mathlib.Core.Bool.{Bool, true, false}
-use mathlib.Core.List.{List, []}
+use mathlib.Core.List.{List}
 use mathlib.Core.Option.{Option, none}
 use mathlib.Core.Path.{_≡_, refl, sym, ap, _∙_}
 use Prim.Native.Nat.{ℕ, _-_}
 use native.Mathlib.Omega.{arith}
 use lib.ListN.{length}
-use Rattle.definition.specs.Image.{isImage}
 use Rattle.definition.specs.Text.{Entry}
-use Rattle.definition.specs.Evaluation.{definition}
 use Rattle.definition.specs.Query.{Query, positions, malformed, pastLimit, queryOf}
 use Rattle.definition.specs.Reading.{Answer, accepted, refused as refusedReading, Outcome, outcome, reading, plain, readEntries}
 use Rattle.definition.specs.Lookup.{refused, getBytes, answerIn, answerOf}
 use Rattle.definition.specs.ThirdTerm.{lookup}
 use Rattle.laws.proofs.Reading.{Reads, accepted-reads}
-use Rattle.laws.proofs.ThirdTerm.{reading-answers, reading-replies}
+use Rattle.laws.proofs.ThirdTerm.{reading-image, reading-answers, reading-replies}
 use Rattle.lookup.specs.declared.Lookup.{Lookup}
 use Rattle.lookup.specs.declared.Lookup.the-variants.{Found, Nothing, Refused}
 use Rattle.lookup.specs.Replies.{replied, LiesIn}
-use Rattle.lookup.proofs.Looking.{no-image, past, found-inside}
+use Rattle.lookup.proofs.Looking.{past, found-inside}
 use Rattle.showing.specs.Showing.{refusedBy, shownOf}
 use Rattle.answers.specs.Answering.{ofBytes, ofQuery, ofReading, afterReading, LooksUp, answerShown}
 
 -- ---- A lookup's answer
-
--- a query of no parts is within the limits
-no-parts : (k : ℕ) → queryOf [] [] ≡ pastLimit k → ⊥
-unfolding definition
-no-parts k e = let z : _≡_ {A = ℕ} 0 1 = cc in omega arith
 
 shown-refused : (b : List ℕ) (x : Lookup) (k : ℕ) → replied x ≡ refused k → shownOf b x ≡ refusedBy k
 shown-refused b (Found p n) k e = absurd (let z : _≡_ {A = ℕ} 0 1 = cc in omega arith)
@@ -60,13 +52,6 @@ module _ (texts : List (List ℕ)) (archive contents bodies : List ℕ) (r : Rea
   abbrev b : List ℕ
   b = reading texts archive contents bodies .bodies
 
-  read-image : isImage c b ≡ true
-  read-image = at (isImage c b) refl
-    where
-      at : (t : Bool) → isImage c b ≡ t → isImage c b ≡ true
-      at true e = e
-      at false e = absurd (reading-replies texts archive contents bodies r [] [] no-parts 8 (sym (no-image c b [] [] e)))
-
   module _ (name class : List ℕ) (x : Lookup) (h : replied x ≡ getBytes c b name class) where
     bytes-are : answerIn b (replied x) ≡ answerOf es (queryOf name class)
     bytes-are = ap (answerIn b) h ∙ reading-answers texts archive contents bodies r name class
@@ -82,7 +67,7 @@ module _ (texts : List (List ℕ)) (archive contents bodies : List ℕ) (r : Rea
         at (positions qs) e =
             shown-bytes b x (answerOf es (positions qs)) (bytes-are ∙ ap (answerOf es) e) (apart (λ k f. let z : _≡_ {A = ℕ} 0 1 = cc in omega arith))
         at malformed e = shown-bytes b x none (bytes-are ∙ ap (answerOf es) e) (apart (λ k f. let z : _≡_ {A = ℕ} 0 1 = cc in omega arith))
-        at (pastLimit k) e = shown-refused b x k (h ∙ sym (past c b name class read-image k e))
+        at (pastLimit k) e = shown-refused b x k (h ∙ sym (past c b name class (reading-image texts archive contents bodies r) k e))
 
 module _ (texts : List (List ℕ)) (archive name class contents bodies c b : List ℕ) where
   refused-shown : (x : Lookup) (k : ℕ) → reading texts archive contents bodies .answer ≡ refusedReading k → replied x ≡ refused k

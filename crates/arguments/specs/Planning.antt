@@ -8,9 +8,10 @@ use lib.ListN.{length}
 use Rattle.definition.specs.Lists.{if_then_else_, takeWhile}
 use Rattle.definition.specs.Bytes.{within}
 use Rattle.io.specs.Counts.{Counts}
-use Rattle.options.specs.Options.{text, name, class, format, anything, operand, help as helpAsked, missing as missingAsked, unknown, takes, isOption, optionOf}
+use Rattle.options.specs.Options.{text, name, class, format, anything, operand, help as helpAsked, missing as missingAsked, write as writeAsked, unknown, takes, optionOf}
+use Rattle.argument_words.specs.Words.{isOption}
 use Rattle.plans.specs.declared.Plan.{Plan}
-use Rattle.plans.specs.Plans.{nothingAsked, toNext, toHelp, toMissing, toChain, givenFor, misunderstood, once, settled}
+use Rattle.plans.specs.Plans.{nothingAsked, toNext, toHelp, toMissing, toWrite, toChain, givenFor, misunderstood, once, settled}
 
 -- text, name, class
 unfoldable pub withOperand : Plan → ℕ → Plan
@@ -32,6 +33,7 @@ withOption p what i =
     if eqb what unknown then misunderstood p i else
     if eqb what helpAsked then toHelp p else
     if eqb what missingAsked then toMissing p else
+    if eqb what writeAsked then toWrite p else
     if within format anything what then toChain (toNext p what) else
     toNext p what
 

@@ -1,6 +1,7 @@
 // What getres's arguments ask for, taken one at a time.
 ghost use mathlib.Core.Path.{_≡_};
 ghost use Rattle.arguments.specs.Planning.{withOperand, withValue, withOption, withArgument, NameEnds};
+use argument_words::is_option;
 use options::ANY;
 use options::CLASS;
 use options::FORMAT;
@@ -10,7 +11,7 @@ use options::NAME;
 use options::OPERAND;
 use options::TEXT;
 use options::UNKNOWN;
-use options::is_option;
+use options::WRITE;
 use options::option_of;
 use options::takes;
 use plans::Plan;
@@ -61,6 +62,10 @@ fn with_option(plan: Plan, what: usize, i: usize) -> Plan
     }
     if what == MISSING {
         more.missing = true;
+        return more;
+    }
+    if what == WRITE {
+        more.write = true;
         return more;
     }
     more.next = what;

@@ -9,6 +9,7 @@ use Rattle.definition.specs.Lists.{ascii}
 use Rattle.definition.specs.Archive.{File, archiveOf, laidOut, pathOf}
 use Rattle.definition.specs.Reading.{Answer, accepted, refused, outcome, reading, judge, start, met, within, past}
 use Rattle.definition.specs.StartUp.{StartUp, starting}
+use Rattle.definition.specs.Writing.{filled, written, refused as refusedFill, writing}
 use Rattle.definition.specs.Lookup.{Reply, given, noValue, refused as refusedReply, Place, getBytes}
 use Rattle.definition.specs.Value.{toBool, isUtf8}
 use Rattle.definition.specs.Evaluation.{definition, noFiles, file}
@@ -180,3 +181,14 @@ images :
     × (getBytes (1 ∷ 0 ∷ 0 ∷ 0 ∷ 0 ∷ contents) bodies (ascii "a") [] ≡ refusedReply 8)
 unfolding definition copies contents bodies name rowsFor alike
 images = (refl, refl, refl, refl, refl, refl, refl)
+
+-- ---- Document 02 (iv): the image of `a: x` written out. 8 is tested before 11
+writings :
+    (writing (1 ∷ 3 ∷ 0 ∷ 2 ∷ 1 ∷ contents) (ascii ".ax" ++ bodies) (replicate 6 7) ≡ filled (written 6) (ascii ".a: x\n"))
+    × (writing (1 ∷ 3 ∷ 0 ∷ 2 ∷ 1 ∷ contents) (ascii ".ax" ++ bodies) (replicate 8 7) ≡ filled (written 6) (ascii ".a: x\n" ++ 7 ∷ 7 ∷ []))
+    × (writing (1 ∷ 3 ∷ 0 ∷ 2 ∷ 1 ∷ contents) (ascii ".ax" ++ bodies) (replicate 5 7) ≡ filled (refusedFill 11) (replicate 5 7))
+    × (writing (1 ∷ 4 ∷ 0 ∷ 2 ∷ 1 ∷ contents) (ascii ".ax" ++ bodies) (replicate 5 7) ≡ filled (refusedFill 8) (replicate 5 7))
+    × (writing (0 ∷ 0 ∷ contents) bodies [] ≡ filled (written 0) [])
+    × (writing [] bodies [] ≡ filled (refusedFill 8) [])
+unfolding definition copies contents bodies
+writings = (refl, refl, refl, refl, refl, refl)

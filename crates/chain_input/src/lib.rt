@@ -1,10 +1,10 @@
 // The texts of a start-up chain, read as the arguments of getres name them; which of them its steps use, told.
 ghost use Rattle.io.specs.Counts.{Counts};
+use argument_words::format_of;
 use command_line::argument;
 use input::Input;
 use libc::STDERR_FILENO;
 use loading::read_text;
-use options::format_of;
 use plans::Plan;
 use plans::given;
 use sources::FirstSource;

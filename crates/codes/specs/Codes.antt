@@ -2,10 +2,11 @@
 use mathlib.Core.Bool.{Bool, true, false}
 use Prim.Native.Nat.{ℕ, _+_, _*_, _≤_}
 use lib.IntN.{ℤ}
-use Rattle.definition.specs.Limits.{bodyBytes, mostEntries, mostOpens}
+use Rattle.definition.specs.Limits.{bodyBytes, mostEntries, mostOpens, writtenBytes}
 use Rattle.definition.specs.Reading.{Answer, accepted, refused}
 use Rattle.definition.specs.Lookup.{Reply, given, noValue, refused as refusedBy, Place}
 use Rattle.definition.specs.Value.{Number, number, notANumber}
+use Rattle.definition.specs.Writing.{Extent, written, refused as refusedText}
 use Rattle.comparison.specs.Answering.{Comparison, both, noFile, refusedBy as refusedAs}
 use Rattle.comparison.specs.declared.Compared.{Compared}
 use Rattle.comparison.specs.declared.Compared.the-variants.{Both, NoFile, Refused}
@@ -13,6 +14,8 @@ use Rattle.lookup.specs.declared.Lookup.{Lookup}
 use Rattle.lookup.specs.Replies.{LiesIn}
 use Rattle.reader.specs.declared.Answer as reader
 use Rattle.reader.specs.declared.Answer.the-variants as reader-answer
+use Rattle.writer.specs.declared.Written.{Written}
+use Rattle.writer.specs.declared.Written.the-variants as writer-answer
 
 -- the parts of an answer above its status, from bit 16 on and from bit 32 on
 abbrev pub from16 : ℕ
@@ -96,3 +99,15 @@ abbrev pub SmallBoth : Compared → Type 0
 SmallBoth (Both a b second) = Small a × Small b
 SmallBoth NoFile = Unit {0}
 SmallBoth (Refused k) = Unit {0}
+
+-- ---- Texts
+
+-- the text's length from bit 32 on, or the number of the refusal
+abbrev pub writeCode : Extent → ℕ
+writeCode (written n) = from32 * n
+writeCode (refusedText k) = k
+
+-- no longer than an image's text may be, so that its code fits
+abbrev pub Bounded : Written → Type 0
+Bounded (writer-answer.Done n) = n ≤ writtenBytes
+Bounded (writer-answer.Refused k) = Unit {0}

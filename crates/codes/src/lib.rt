@@ -4,12 +4,14 @@ ghost use Rattle.comparison.specs.Answering.{compared};
 ghost use Rattle.lookup.specs.Replies.{replied};
 ghost use Rattle.reader.specs.Said.{said};
 ghost use Rattle.readings.specs.Replies.{truthReplied, valueReplied};
-ghost use Rattle.codes.specs.Codes.{readCode, Few, placeCode, Small, boolCode, taking, taken, SmallBoth, numbers, comparisonNumbers};
+ghost use Rattle.writer.specs.Extents.{extentOf};
+ghost use Rattle.codes.specs.Codes.{readCode, Few, placeCode, Small, boolCode, taking, taken, SmallBoth, numbers, comparisonNumbers, writeCode, Bounded};
 use comparison::Compared;
 use lookup::Lookup;
 use reader::Answer;
 use readings::Truth;
 use readings::Value;
+use writer::Written;
 
 // The parts of an answer above its status, from bit 16 on and from bit 32 on.
 pub const FROM_16: u64 = 65536;
@@ -89,5 +91,16 @@ pub fn compare_code(answer: Compared, with_it: &mut u64, without: &mut u64) -> u
         }
         Compared::NoFile => NONE,
         Compared::Refused(number) => number as u64,
+    }
+}
+
+// The text's length from bit 32 on, or the number of the refusal.
+pub fn write_code(answer: Written) -> u64
+    requires { ⌜ Bounded answer ⌝ }
+    ensures { λ r. ⌜ r ≡ writeCode (extentOf answer) ⌝ }
+{
+    match answer {
+        Written::Done(size) => FROM_32 * (size as u64),
+        Written::Refused(number) => number as u64,
     }
 }

@@ -1,2 +1,3 @@
 -- What the contracts of the copies cite beside the definition.
 pub mod Plain
+pub mod Appended

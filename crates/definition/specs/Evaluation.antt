@@ -13,6 +13,7 @@ use Rattle.definition.specs.Including.{Entered, eventsOf, opening, seeki
 use Rattle.definition.specs.Image.{keyOf, rowsOf, storeOf, contentsOf, writtenOver, rowsFrom, storedPartAt, entriesIn, isKey, packed, isImage}
 use Rattle.definition.specs.Reading.{judge, left, reading, met, plain, readEntries}
 use Rattle.definition.specs.StartUp.{firstText, secondText, added, textsUsed}
+use Rattle.definition.specs.Writing.{escaped, beginsBlank, valueText, entryText, textOf, putInto, writing}
 use Rattle.definition.specs.Query.{queryPartAt, namesOf, positionsOf, countedQuery, queryOf}
 use Rattle.definition.specs.Matching.{equals, matchAt, markOf, markAt}
 use Rattle.definition.specs.Ranking.{meetRow, skipRow, rankOf, better, bestFrom, bestOf}
@@ -29,7 +30,7 @@ unfolding
     bindingOf componentAt partAt isNamed endsInName positional lineEnds octalOf escapeAt pieceAt afterBlanks lineEnd includeOf assigned
     resourceOf directiveOf lineAt linesOf eventsOf opening seeking including events eventsOfAll entriesOf opensOf
     keyOf rowsOf storeOf contentsOf writtenOver rowsFrom storedPartAt entriesIn isKey packed isImage judge left reading
-    firstText secondText added textsUsed
+    firstText secondText added textsUsed escaped beginsBlank valueText entryText textOf putInto writing
     queryPartAt namesOf positionsOf countedQuery queryOf equals matchAt markOf markAt meetRow skipRow rankOf better bestFrom bestOf
     valueOf answerOf placeOf lookup getBytes answerIn table afterRow firstRow character characterAt isUtf8 naturalOf signed i64Of lowercase
     wordOf nonZero toBool replied readAs numberOf bytesOr getString getBool getValue shown flatten

@@ -10,6 +10,7 @@ pub mod Including
 pub mod Image
 pub mod Reading
 pub mod StartUp
+pub mod Writing
 pub mod Query
 pub mod Matching
 pub mod Ranking
@@ -22,5 +23,6 @@ mod NameBytes
 mod Manual
 mod Starts
 mod Paths
+mod Texts
 mod Numbers
 mod Recorded

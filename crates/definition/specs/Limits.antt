@@ -39,6 +39,10 @@ rowWords = 3
 abbrev pub contentsWords : ℕ
 contentsWords = 2 + rowWords * mostEntries
 
+-- the longest text of an image (document 02 (iv)): 512 entries, a key of two bytes each, and two bytes of text for each byte of a value
+abbrev pub writtenBytes : ℕ
+writtenBytes = 2 * bodyBytes + mostEntries
+
 -- of a query's name or class
 abbrev pub queryBytes : ℕ
 queryBytes = 1024

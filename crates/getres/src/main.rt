@@ -1,10 +1,11 @@
 // getres: the value that a query gets from a main text or a start-up chain and their files, and whether striking a file off changes
-// it. Its arguments come from `command_line`, what they name from `loading` and `chain_input`; `answering` and `tell_missing` tell what
-// there is to tell.
+// it; or the whole database that these give, written out. Its arguments come from `command_line`, what they name from `loading` and
+// `chain_input`; `answering` and `tell_missing` tell what there is to tell.
 ghost use mathlib.Core.Path.{_≡_};
 ghost use mathlib.Core.Bool.{true};
 ghost use Rattle.definition.specs.Archive.{laidOut};
 use answering::answer_plan;
+use argument_words::descriptor;
 use chain_input::Home;
 use chain_input::property_format;
 use chain_input::read_first;
@@ -19,7 +20,6 @@ use limits::ARCHIVE_BYTES;
 use limits::TEXT_BYTES;
 use loading::load_files;
 use loading::read_text;
-use options::descriptor;
 use plans::Plan;
 use plans::given;
 use plans::is_whole;
@@ -143,7 +143,7 @@ fn refuse_argument(i: usize) {
     complain(&buffer[..n], b"not understood");
 }
 
-// The status: 0 for a value or equal answers, 1 for none or different ones, 2 for what is refused or fails.
+// The status: 0 for a value, equal answers or a database, 1 for none or different answers, 2 for what is refused or fails.
 fn run(plan: Plan) -> u8 {
     if plan.help {
         write_help(STDOUT_FILENO);

@@ -1,18 +1,13 @@
 -- Rows by their words are the definition's rows. Assumes nothing.
 use mathlib.Core.List.{List, _∷_}
-use mathlib.Core.Path.{_≡_, refl, ap}
+use mathlib.Core.Path.{_≡_, refl}
 use Prim.Native.Nat.{ℕ, zero, suc, _+_, _-_, _<_}
 use native.Mathlib.Omega.{arith}
-use lib.ListN.{length, getD, drop}
+use lib.ListN.{getD, drop}
 use lib.Seq.{getD-drop, drop-drop}
 use Rattle.definition.specs.Limits.{rowWords}
 use Rattle.definition.specs.Image.{Row, rowsFrom, rowsIn, countOf}
 use Rattle.image.specs.Rows.{rowStart, rowAt, rowsLeft}
-
-pub rows-count : (n : ℕ) (ws : List ℕ) → length (rowsFrom n ws) ≡ n
-unfolding rowsFrom
-rows-count zero ws = refl
-rows-count (suc n) ws = ap suc (rows-count n (drop rowWords ws))
 
 -- a loop over the rows takes row i and goes on
 pub rows-turn : (words : List ℕ) (n i : ℕ) → i < n → rowsLeft words n i ≡ rowAt words i ∷ rowsLeft words n (i + 1)
@@ -37,9 +32,6 @@ rows-at words n i d h =
     let k : n - 0 ≡ n = omega arith in
     let e : 0 + i ≡ i = omega arith in
     rw (k, e) at (left-at words n 0 i d (omega arith))
-
-pub count-rows : (contents : List ℕ) → length (rowsIn contents) ≡ countOf contents
-count-rows contents = rows-count (countOf contents) (drop 2 contents)
 
 pub row-is : (contents : List ℕ) (i : ℕ) (d : Row) → i < countOf contents → getD (rowsIn contents) i d ≡ rowAt contents i
 row-is contents i d h = rows-at contents (countOf contents) i d h

@@ -6,16 +6,15 @@ use Prim.Native.Nat.{ℕ, zero, suc, _≤_, _<_}
 use native.Mathlib.Omega.{arith}
 use lib.Dec.{eqb, leb, ltb}
 use lib.ListN.{length, getD, drop}
-use borrow.Author.Tests.{lt-ltb, le-ltb, le-leb, lt-leb, leb-true, not-true}
+use borrow.Author.Tests.{lt-ltb, le-ltb, le-leb, lt-leb}
 use Rattle.definition.specs.Lists.{all}
 use Rattle.definition.specs.Limits.{contentsWords, bodyBytes, mostEntries}
 use Rattle.definition.specs.Image.{Row, rowsFrom, countOf, usedOf, rowsIn, valueEnd, keyAt, isKey, packed, tooShort, isImage}
 use Rattle.laws.proofs.Lists.{and-true, all-getD}
-use Rattle.laws.proofs.Image.{long-enough}
+use Rattle.laws.proofs.Image.{image-holds, count-rows, packed-most}
 use Rattle.image.specs.Rows.{rowStart, rowAt}
-use Rattle.image.proofs.Rows.{count-rows, row-is}
+use Rattle.image.proofs.Rows.{row-is}
 use Rattle.image_judge.specs.Rows.{holds}
-use Rattle.image_judge.proofs.Rows.{packed-most}
 
 -- ---- Judging
 
@@ -75,30 +74,20 @@ pub record Judged (contents bodies : List ℕ) : Type 0 where
   pub row-key : (i : ℕ) → i < countOf contents → isKey (keyAt bodies (rowAt contents i)) ≡ true
 
 pub judged : (contents bodies : List ℕ) → isImage contents bodies ≡ true → Judged contents bodies
-unfolding isImage
 judged contents bodies e =
-    let n = countOf contents in
-    let used = usedOf contents in
+    let h = image-holds contents bodies e in
     let rows = rowsIn contents in
-    let long = not (tooShort contents bodies) in
-    let few = leb n mostEntries in
-    let small = leb used bodyBytes in
-    let p = and-true (long && few && small && packed 0 rows used) (all (λ r. isKey (keyAt bodies r)) rows) e in
-    let q = and-true (long && few && small) (packed 0 rows used) (p .0) in
-    let r = and-true (long && few) small (q .0) in
-    let s = and-true long few (r .0) in
-    let lengths = long-enough contents bodies (not-true (tooShort contents bodies) (s .0)) in
-    let most = leb-true n mostEntries (s .1) in
     record {
-      contents-long = lengths .0;
-      bodies-long = lengths .1;
-      count-most = most;
-      used-most = leb-true used bodyBytes (r .1);
-      rows-within = omega (arith, lengths .0, most);
-      row-inside = λ i h. rw (row-is contents i (rowAt contents i) h) at (packed-inside 0 rows used (q .1) i (rowAt contents i) (there i h));
+      contents-long = h .contents-long;
+      bodies-long = h .bodies-long;
+      count-most = h .count-most;
+      used-most = h .used-most;
+      rows-within = omega (arith, h .contents-long, h .count-most);
+      row-inside =
+          λ i k. rw (row-is contents i (rowAt contents i) k) at (packed-inside 0 rows (usedOf contents) (h .is-packed) i (rowAt contents i) (there i k));
       row-key =
-          λ i h. rw (row-is contents i (rowAt contents i) h) at
-          (all-getD (λ r. isKey (keyAt bodies r)) rows i (rowAt contents i) (p .1) (there i h));
+          λ i k. rw (row-is contents i (rowAt contents i) k) at
+          (all-getD (λ r. isKey (keyAt bodies r)) rows i (rowAt contents i) (h .are-keys) (there i k));
     }
   where
     there : (i : ℕ) → i < countOf contents → i < length (rowsIn contents)

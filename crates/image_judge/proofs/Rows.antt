@@ -6,24 +6,17 @@ use Prim.Native.Nat.{ℕ, _+_, _-_, _≤_, _<_}
 use native.Mathlib.Omega.{arith}
 use lib.Dec.{eqb}
 use lib.ListN.{take, drop}
-use borrow.Author.Tests.{eqb-true, eq-eqb, ne-eqb}
+use borrow.Author.Tests.{eq-eqb, ne-eqb}
 use Rattle.definition.specs.Lists.{all}
 use Rattle.definition.specs.Image.{Row, rowsFrom, valueEnd, keyAt, isKey, packed}
-use Rattle.laws.proofs.Lists.{and-true, part-slice}
+use Rattle.laws.proofs.Lists.{part-slice}
+use Rattle.laws.proofs.Image.{packed-most}
 use Rattle.image.specs.Rows.{rowAt, rowsLeft, rowOf}
 use Rattle.image.specs.declared.Row as image
 use Rattle.image.proofs.Rows.{rows-turn}
 use Rattle.image_judge.specs.Rows.{holds}
 
 -- ---- Rows that hold
-
--- what is packed up to `used` begins no later
-pub packed-most : (at : ℕ) (rows : List Row) (used : ℕ) → packed at rows used ≡ true → at ≤ used
-unfolding packed
-packed-most at [] used e = omega (arith, eqb-true at used e)
-packed-most at (r ∷ rows) used e =
-    let p = and-true (eqb (r .start) at) (packed (valueEnd r) rows used) e in
-    omega (arith, eqb-true (r .start) at (p .0), packed-most (valueEnd r) rows used (p .1))
 
 packed-past : (at : ℕ) (rows : List Row) (used : ℕ) → used < at → packed at rows used ≡ false
 packed-past at rows used h = by (packed at rows used) refl

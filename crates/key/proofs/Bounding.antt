@@ -12,9 +12,9 @@ use Rattle.definition.specs.Limits.{mostParts}
 use Rattle.definition.specs.Text.{Part}
 use Rattle.definition.specs.Image.{keyOf, keyParts}
 use Rattle.laws.proofs.Lists.{Order, below, equal, above, order, all-getD}
-use Rattle.laws.proofs.Keys.{isLegal}
+use Rattle.laws.proofs.Keys.{isLegal, Parts}
 use Rattle.key.specs.Keys.{notBinding, noPart, partEnd, endsOf, splitKey}
-use Rattle.key.proofs.Keys.{Parts, part-run, part-rest, part-inside}
+use Rattle.key.proofs.Keys.{part-run, part-rest, part-inside}
 
 -- `count` parts are found, and end at `at`
 pub record Bounding (key bounds : List ℕ) (count at : ℕ) : Type 0 where

@@ -11,10 +11,10 @@ use Rattle.definition.specs.Limits.{mostParts}
 use Rattle.definition.specs.Text.{Part}
 use Rattle.definition.specs.Image.{keyOf, keyParts, isKey}
 use Rattle.laws.proofs.Lists.{and-true}
-use Rattle.laws.proofs.Keys.{isLegal}
+use Rattle.laws.proofs.Keys.{isLegal, parts-of}
 use Rattle.key.specs.Keys.{partBetween, noPart, partEnd, endsOf, splitKey, Bounded}
 use Rattle.key.specs.declared.Key.{Key}
-use Rattle.key.proofs.Keys.{parts-of, some-part, part-some, part-rest, part-inside, part-is}
+use Rattle.key.proofs.Keys.{some-part, part-some, part-rest, part-inside, part-is}
 
 -- the parts ps stand between the bounds bs
 record Between (key : List ℕ) (ps : List Part) (bs : List ℕ) : Type 0 where

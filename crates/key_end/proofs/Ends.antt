@@ -19,7 +19,8 @@ use Rattle.definition.specs.Ranking.{rankOf}
 use Rattle.definition.specs.Image.{bindingByte, keyOf, keyParts, isKey}
 use Rattle.query.specs.declared.Split.{Split}
 use Rattle.laws.proofs.Lists.{not-both, same-eq, same-refl, same-from-equal, same-from-end}
-use Rattle.key.proofs.Keys.{parts-of, some-part}
+use Rattle.laws.proofs.Keys.{parts-of}
+use Rattle.key.proofs.Keys.{some-part}
 use Rattle.positions.specs.Spans.{spanOf, positionIn, queried}
 use Rattle.positions.specs.declared.Span.{Span}
 use Rattle.laws.proofs.Ranks.{rank-last, rank-short}

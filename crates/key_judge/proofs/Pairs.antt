@@ -15,7 +15,8 @@ use Rattle.definition.specs.Text.{wildcard, name, Part, bindingOf, componentAt,
 use Rattle.definition.specs.Image.{storedPartAt, isKey}
 use Rattle.laws.proofs.Lists.{not-both, and-true}
 use Rattle.key_judge.specs.Pairs.{mayFollow, bindingsIn}
-use Rattle.key_judge.proofs.Bytes.{binding-no-name, binding-not-wild, name-no-binding, wild-no-binding, name-not-wild}
+use Rattle.laws.proofs.Keys.{binding-no-name, name-no-binding}
+use Rattle.key_judge.proofs.Bytes.{binding-not-wild, wild-no-binding, name-not-wild}
 use Rattle.key_judge.proofs.Keys.{endsKey, key-whole, key-ends, key-wild, key-more, stored-part, component-name, component-wild}
 
 -- ---- Pairs

@@ -1,12 +1,13 @@
--- Laws of the image: written from entries, it is an image and gives the entries back. Assumes nothing.
+-- Laws of the image: written from entries, it is an image and gives the entries back; and the entries of any image may be stored. Assumes nothing.
 use mathlib.Core.Bool.{Bool, true, false, _&&_, _||_, not}
 use mathlib.Core.List.{List, [], _∷_, _++_, append-assoc}
 use mathlib.Core.Path.{_≡_, refl, ap, _∙_}
-use Prim.Native.Nat.{ℕ, _+_, _*_, _-_, _≤_}
+use Prim.Native.Nat.{ℕ, zero, suc, _+_, _*_, _-_, _≤_}
 use native.Mathlib.Omega.{arith}
-use lib.Dec.{leb, ltb}
-use lib.ListN.{length, length-append, length-drop, length-replicate}
-use borrow.Author.Tests.{ltb-false, leb-true, le-leb, eq-eqb}
+use lib.Dec.{eqb, leb, ltb}
+use lib.ListN.{length, drop, length-append, length-drop, length-replicate}
+use lib.Seq.{length-slice}
+use borrow.Author.Tests.{ltb-false, leb-true, le-leb, eqb-true, eq-eqb, not-true}
 use Rattle.definition.specs.Lists.{all, zeroes, beyond}
 use Rattle.definition.specs.Parsing.{Parsed}
 use Rattle.definition.specs.Limits.{contentsWords, bodyBytes, rowWords, mostEntries, mostParts}
@@ -24,6 +25,8 @@ use Rattle.definition.specs.Image.{
   usedOf,
   countOf,
   rowsIn,
+  keyEnd,
+  valueEnd,
   keyAt,
   valueAt,
   keyParts,
@@ -34,7 +37,7 @@ use Rattle.definition.specs.Image.{
   isImage,
 }
 use Rattle.laws.proofs.Lists.{not-both, and-true, and-both, slice-at}
-use Rattle.laws.proofs.Keys.{isLegal, key-parts, is-key}
+use Rattle.laws.proofs.Keys.{isLegal, key-parts, is-key, parts-of}
 
 -- what a reading may store
 unfoldable pub isStorable : Entry → Bool
@@ -190,3 +193,109 @@ module _ (es : List Entry) (lentC lentB : List ℕ) (fit : all isStorable es ≡
       let p : packed 0 (rowsIn c) (usedOf c) ≡ true = rw (rows, used) (packed-rows 0 es (length (storeOf es)) (omega arith)) in
       let k : all (λ r. isKey (keyAt b r)) (rowsIn c) ≡ true = rw rows (image-reads es lentB fit .keys) in
       and-both (and-both (and-both (and-both l n) u) p) k
+
+-- ---- What an image is
+
+pub rows-count : (n : ℕ) (ws : List ℕ) → length (rowsFrom n ws) ≡ n
+unfolding rowsFrom
+rows-count zero ws = refl
+rows-count (suc n) ws = ap suc (rows-count n (drop rowWords ws))
+
+pub count-rows : (contents : List ℕ) → length (rowsIn contents) ≡ countOf contents
+count-rows contents = rows-count (countOf contents) (drop 2 contents)
+
+-- what is packed up to `used` begins no later
+pub packed-most : (at : ℕ) (rows : List Row) (used : ℕ) → packed at rows used ≡ true → at ≤ used
+unfolding packed
+packed-most at [] used e = omega (arith, eqb-true at used e)
+packed-most at (r ∷ rows) used e =
+    let p = and-true (eqb (r .start) at) (packed (valueEnd r) rows used) e in
+    omega (arith, eqb-true (r .start) at (p .0), packed-most (valueEnd r) rows used (p .1))
+
+pub record Holds (contents bodies : List ℕ) : Type 0 where
+  pub contents-long : contentsWords ≤ length contents
+  pub bodies-long : bodyBytes ≤ length bodies
+  pub count-most : countOf contents ≤ mostEntries
+  pub used-most : usedOf contents ≤ bodyBytes
+  pub is-packed : packed 0 (rowsIn contents) (usedOf contents) ≡ true
+  pub are-keys : all (λ r. isKey (keyAt bodies r)) (rowsIn contents) ≡ true
+
+pub image-holds : (contents bodies : List ℕ) → isImage contents bodies ≡ true → Holds contents bodies
+unfolding isImage
+image-holds contents bodies e =
+    let long = not (tooShort contents bodies) in
+    let few = leb (countOf contents) mostEntries in
+    let small = leb (usedOf contents) bodyBytes in
+    let rows = rowsIn contents in
+    let p = and-true (long && few && small && packed 0 rows (usedOf contents)) (all (λ r. isKey (keyAt bodies r)) rows) e in
+    let q = and-true (long && few && small) (packed 0 rows (usedOf contents)) (p .0) in
+    let r = and-true (long && few) small (q .0) in
+    let s = and-true long few (r .0) in
+    let lengths = long-enough contents bodies (not-true (tooShort contents bodies) (s .0)) in
+    record {
+      contents-long = lengths .0;
+      bodies-long = lengths .1;
+      count-most = leb-true (countOf contents) mostEntries (s .1);
+      used-most = leb-true (usedOf contents) bodyBytes (r .1);
+      is-packed = q .1;
+      are-keys = p .1;
+    }
+
+-- ---- The entries of an image
+
+entries-count : (rows : List Row) (bodies : List ℕ) → length (entriesIn rows bodies) ≡ length rows
+unfolding entriesIn
+entries-count [] bodies = refl
+entries-count (r ∷ rows) bodies = ap suc (entries-count rows bodies)
+
+entries-storable : (rows : List Row) (bodies : List ℕ) → all (λ r. isKey (keyAt bodies r)) rows ≡ true → all isStorable (entriesIn rows bodies) ≡ true
+unfolding entriesIn all isStorable
+entries-storable [] bodies h = refl
+entries-storable (r ∷ rows) bodies h =
+    let a = and-true (isKey (keyAt bodies r)) (all (λ r. isKey (keyAt bodies r)) rows) h in
+    let k = parts-of (keyAt bodies r) (a .0) in
+    let few = le-leb (length (keyParts (keyAt bodies r))) mostParts (k .few) in
+    and-both (and-both (and-both (k .legal) (k .named)) few) (entries-storable rows bodies (a .1))
+
+-- they need the bytes used
+entries-used : (at : ℕ) (rows : List Row) (used : ℕ) (bodies : List ℕ) → packed at rows used ≡ true → used ≤ length bodies
+    → all (λ r. isKey (keyAt bodies r)) rows ≡ true → at + length (storeOf (entriesIn rows bodies)) ≡ used
+unfolding packed entriesIn all storeOf
+entries-used at [] used bodies p u h = omega (arith, eqb-true at used p)
+entries-used at (r ∷ rows) used bodies p u h =
+    let a = and-true (isKey (keyAt bodies r)) (all (λ r. isKey (keyAt bodies r)) rows) h in
+    let q = and-true (eqb (r .start) at) (packed (valueEnd r) rows used) p in
+    let key = keyOf (keyParts (keyAt bodies r)) in
+    let value = valueAt bodies r in
+    let rest = storeOf (entriesIn rows bodies) in
+    let e : length key ≡ length (keyAt bodies r) = ap length (parts-of (keyAt bodies r) (a .0) .written) in
+    let most = packed-most (valueEnd r) rows used (q .1) in
+    let k = length-slice (r .start) (keyEnd r) bodies (omega arith) in
+    let v = length-slice (keyEnd r) (valueEnd r) bodies (omega arith) in
+    let ih = entries-used (valueEnd r) rows used bodies (q .1) u (a .1) in
+    omega (arith, e, k, v, ih, eqb-true (r .start) at (q .0), length-append (key ++ value) rest, length-append key value)
+
+-- they are as many as the image says, and need the bytes that it says
+pub image-sizes : (contents bodies : List ℕ) → isImage contents bodies ≡ true
+    → let es = entriesIn (rowsIn contents) bodies in (length es ≡ countOf contents) × (length (storeOf es) ≡ usedOf contents)
+image-sizes contents bodies e =
+    let i = image-holds contents bodies e in
+    let rows = rowsIn contents in
+    let used = entries-used 0 rows (usedOf contents) bodies (i .is-packed) (omega (arith, i .used-most, i .bodies-long)) (i .are-keys) in
+    (entries-count rows bodies ∙ count-rows contents, omega (arith, used))
+
+-- entries that an image may hold
+pub record Held (es : List Entry) : Type 0 where
+  pub fit : all isStorable es ≡ true
+  pub few : length es ≤ mostEntries
+  pub small : length (storeOf es) ≤ bodyBytes
+
+pub image-held : (contents bodies : List ℕ) → isImage contents bodies ≡ true → Held (entriesIn (rowsIn contents) bodies)
+image-held contents bodies e =
+    let i = image-holds contents bodies e in
+    let s = image-sizes contents bodies e in
+    record {
+      fit = entries-storable (rowsIn contents) bodies (i .are-keys);
+      few = omega (arith, s .0, i .count-most);
+      small = omega (arith, s .1, i .used-most);
+    }

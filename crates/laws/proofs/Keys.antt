@@ -1,14 +1,15 @@
--- Laws of the parsers: each takes a byte or more, what it finds is legal, and a key reads back. Assumes nothing.
+-- Laws of the parsers: each takes a byte or more, what it finds is legal, a key reads back, and it is what its parts write. Assumes nothing.
 use mathlib.Core.Bool.{Bool, true, false, _&&_, _||_, not}
-use mathlib.Core.List.{List, [], _∷_, _++_}
+use mathlib.Core.List.{List, [], _∷_, _++_, append-nil}
 use mathlib.Core.Option.{Option, some, none}
-use mathlib.Core.Path.{_≡_, refl, ap, subst, _∙_}
+use mathlib.Core.Logic.{_⊎_, inl, inr, ⊎-elim}
+use mathlib.Core.Path.{_≡_, refl, sym, ap, subst, _∙_}
 use Prim.Native.Nat.{ℕ, zero, suc, _+_, _≤_, _<_}
 use native.Mathlib.Nat.{le-refl}
 use native.Mathlib.Omega.{arith}
 use lib.Dec.{eqb, leb}
 use lib.ListN.{length, take, drop, length-drop}
-use borrow.Author.Tests.{le-leb, ne-eqb}
+use borrow.Author.Tests.{le-leb, leb-true, ne-eqb, eqb-true}
 use Rattle.definition.specs.Lists.{if_then_else_, ascii, all, any, takeWhile, dropWhile, isEmpty, orElse}
 use Rattle.definition.specs.Parsing.{Parse, nothing, found, Parsed, parsed, continued, atMost, many, after}
 use Rattle.definition.specs.Limits.{mostParts}
@@ -20,6 +21,7 @@ use Rattle.definition.specs.Bytes.{
   backslash,
   letter-n,
   dot,
+  star,
   isDigit,
   isOctal,
   isName,
@@ -59,10 +61,10 @@ use Rattle.definition.specs.Text.{
   linesOf,
   lineAt,
 }
-use Rattle.definition.specs.Image.{bindingByte, componentBytes, keyOf, storedPartAt, isKey}
+use Rattle.definition.specs.Image.{bindingByte, componentBytes, keyOf, storedPartAt, keyParts, isKey}
 use Rattle.definition.specs.Query.{queryPartAt}
 use Rattle.definition.specs.Value.{Range, table, afterRow, firstRow, character, characterAt}
-use Rattle.laws.proofs.Lists.{not-both, and-true, and-both, all-takeWhile, dropWhile-le, takeWhile-append, dropWhile-append}
+use Rattle.laws.proofs.Lists.{not-both, and-true, and-both, all-takeWhile, takeWhile-dropWhile, dropWhile-le, takeWhile-append, dropWhile-append}
 use Rattle.laws.proofs.Parsing.{Shrinks, many-stop, many-more}
 
 -- ---- Legal parts
@@ -361,10 +363,10 @@ lines-legal = many-all lineAt isLegalLine legal
 -- ---- A key reads back
 
 -- a byte that passes a test is none that does not
-passes-not : (test : ℕ → Bool) (c d : ℕ) → test c ≡ true → test d ≡ false → eqb c d ≡ false
+pub passes-not : (test : ℕ → Bool) (c d : ℕ) → test c ≡ true → test d ≡ false → eqb c d ≡ false
 passes-not test c d p q = ne-eqb c d (λ e. not-both p (ap test e ∙ q))
 
-component-reads : (b : Binding) (c : Component) (t : List ℕ) → isLegalComponent c ≡ true → takeWhile isName t ≡ [] → dropWhile isName t ≡ t
+pub component-reads : (b : Binding) (c : Component) (t : List ℕ) → isLegalComponent c ≡ true → takeWhile isName t ≡ [] → dropWhile isName t ≡ t
     → componentAt b (componentBytes c ++ t) ≡ found (record { binding = b; component = c }) t
 unfolding componentAt isLegalComponent isEmpty all
 component-reads b wildcard t h p q = refl
@@ -374,33 +376,37 @@ component-reads b (name (d ∷ ds)) t h p q =
     let wild : eqb d question ≡ false = passes-not isName d question (k .0) (unfold isName isDigit in refl) in
     rw (wild, k .0, takeWhile-append isName ds t (k .1) p, dropWhile-append isName ds t (k .1), q) refl
 
--- a name ends where a key goes on
-key-takes : (ps : List Part) → takeWhile isName (keyOf ps) ≡ []
-unfolding keyOf takeWhile isName isDigit
-key-takes [] = refl
-key-takes (p ∷ ps) = at (p .binding)
-  where
-    at : (b : Binding) → takeWhile isName (bindingByte b ∷ componentBytes (p .component) ++ keyOf ps) ≡ []
-    at tight = refl
-    at loose = refl
+-- a name ends where a key goes on, and where it ends if none goes on there
+module _ (u : List ℕ) where
+  pub key-takes : (ps : List Part) → takeWhile isName u ≡ [] → takeWhile isName (keyOf ps ++ u) ≡ []
+  unfolding keyOf takeWhile isName isDigit
+  key-takes [] h = h
+  key-takes (p ∷ ps) h = at (p .binding)
+    where
+      at : (b : Binding) → takeWhile isName (bindingByte b ∷ componentBytes (p .component) ++ keyOf ps ++ u) ≡ []
+      at tight = refl
+      at loose = refl
 
-key-drops : (ps : List Part) → dropWhile isName (keyOf ps) ≡ keyOf ps
-unfolding keyOf dropWhile isName isDigit
-key-drops [] = refl
-key-drops (p ∷ ps) = at (p .binding)
-  where
-    at : (b : Binding) → let t = bindingByte b ∷ componentBytes (p .component) ++ keyOf ps in dropWhile isName t ≡ t
-    at tight = refl
-    at loose = refl
+  pub key-drops : (ps : List Part) → dropWhile isName u ≡ u → dropWhile isName (keyOf ps ++ u) ≡ keyOf ps ++ u
+  unfolding keyOf dropWhile isName isDigit
+  key-drops [] h = h
+  key-drops (p ∷ ps) h = at (p .binding)
+    where
+      at : (b : Binding) → let t = bindingByte b ∷ componentBytes (p .component) ++ keyOf ps ++ u in dropWhile isName t ≡ t
+      at tight = refl
+      at loose = refl
 
 stored-part-reads : (p : Part) (ps : List Part) → isLegal p ≡ true → storedPartAt (keyOf (p ∷ ps)) ≡ found p (keyOf ps)
-unfolding storedPartAt keyOf isLegal bindingOf isBinding any
+unfolding storedPartAt keyOf isLegal bindingOf isBinding any takeWhile dropWhile
 stored-part-reads p ps h = at (p .binding)
   where
+    reads : (b : Binding) → componentAt b (componentBytes (p .component) ++ keyOf ps) ≡ found (record { binding = b; component = p .component }) (keyOf ps)
+    reads b = component-reads b (p .component) (keyOf ps) h (rw append-nil at (key-takes [] ps refl)) (rw append-nil at (key-drops [] ps refl))
+
     at : (b : Binding) → storedPartAt (bindingByte b ∷ componentBytes (p .component) ++ keyOf ps)
         ≡ found (record { binding = b; component = p .component }) (keyOf ps)
-    at tight = component-reads tight (p .component) (keyOf ps) h (key-takes ps) (key-drops ps)
-    at loose = component-reads loose (p .component) (keyOf ps) h (key-takes ps) (key-drops ps)
+    at tight = reads tight
+    at loose = reads loose
 
 pub key-parts : (ps : List Part) → all isLegal ps ≡ true → many storedPartAt (keyOf ps) ≡ parsed ps []
 unfolding all
@@ -416,3 +422,89 @@ unfolding isKey isEmpty
 is-key ps h k e =
     ap (λ (r : Parsed Part). isEmpty (r .rest) && leb (length (r .items)) mostParts && endsInName (r .items)) (key-parts ps h)
     ∙ and-both (le-leb (length ps) mostParts k) e
+
+-- ---- A binding is no byte of a name
+
+pub binding-either : (c : ℕ) → isBinding c ≡ true → (c ≡ dot) ⊎ (c ≡ star)
+unfolding isBinding
+binding-either c e = at (eqb c dot) (eqb c star) refl refl e
+  where
+    at : (a b : Bool) → eqb c dot ≡ a → eqb c star ≡ b → (a || b) ≡ true → (c ≡ dot) ⊎ (c ≡ star)
+    at true b d s h = inl (eqb-true c dot d)
+    at false true d s h = inr (eqb-true c star s)
+    at false false d s h = absurd (not-both h refl)
+
+pub binding-no-name : (c : ℕ) → isBinding c ≡ true → isName c ≡ false
+unfolding isName isDigit
+binding-no-name c e = ⊎-elim (λ d. rw d refl) (λ d. rw d refl) (binding-either c e)
+
+pub name-no-binding : (c : ℕ) → isName c ≡ true → isBinding c ≡ false
+name-no-binding c e = at (isBinding c) refl
+  where
+    at : (b : Bool) → isBinding c ≡ b → isBinding c ≡ false
+    at true h = absurd (not-both e (binding-no-name c h))
+    at false h = h
+
+-- ---- A key is what its parts write
+
+binding-byte : (c : ℕ) → isBinding c ≡ true → bindingByte (bindingOf (c ∷ [])) ≡ c
+unfolding bindingOf any
+binding-byte c h = ⊎-elim (λ e. rw e refl) (λ e. rw e refl) (binding-either c h)
+
+abbrev Writes : List ℕ → Part → List ℕ → Type 0
+Writes t p u = bindingByte (p .binding) ∷ componentBytes (p .component) ++ u ≡ t
+
+component-writes : (c : ℕ) (b : Binding) (t : List ℕ) → bindingByte b ≡ c → Finds (Writes (c ∷ t)) (componentAt b t)
+unfolding componentAt
+component-writes c b [] e = tt
+component-writes c b (d ∷ t) e =
+    let P = Finds (Writes (c ∷ d ∷ t)) in
+    if-either P (eqb d question) (λ h. rw (e, eqb-true d question h) refl)
+    λ h. if-either P (isName d) (λ k. rw (e, takeWhile-dropWhile isName t) refl) λ k. tt
+
+part-writes : (t : List ℕ) → Finds (Writes t) (storedPartAt t)
+unfolding storedPartAt
+part-writes [] = tt
+part-writes (c ∷ t) =
+    if-either (Finds (Writes (c ∷ t))) (isBinding c) (λ h. component-writes c (bindingOf (c ∷ [])) t (binding-byte c h)) λ h. tt
+
+at-most-writes : (n : ℕ) (t : List ℕ) → atMost n storedPartAt t .rest ≡ [] → keyOf (atMost n storedPartAt t .items) ≡ t
+unfolding atMost continued keyOf
+at-most-writes zero t e = sym e
+at-most-writes (suc n) t e = at (storedPartAt t) (part-writes t) e (λ u. at-most-writes n u)
+  where
+    at : (r : Parse Part) → Finds (Writes t) r → continued r (atMost n storedPartAt) t .rest ≡ []
+        → ((u : List ℕ) → atMost n storedPartAt u .rest ≡ [] → keyOf (atMost n storedPartAt u .items) ≡ u)
+        → keyOf (continued r (atMost n storedPartAt) t .items) ≡ t
+    at nothing w e ih = sym e
+    at (found p u) w e ih = rw (ih u e) w
+
+empty : (t : List ℕ) → isEmpty t ≡ true → t ≡ []
+unfolding isEmpty
+empty [] e = refl
+empty (c ∷ t) e = absurd (not-both e refl)
+
+-- what a key is
+pub record Parts (key : List ℕ) (ps : List Part) : Type 0 where
+  pub written : keyOf ps ≡ key
+  pub legal : all isLegal ps ≡ true
+  pub few : length ps ≤ mostParts
+  pub named : endsInName ps ≡ true
+
+pub parts-of : (key : List ℕ) → isKey key ≡ true → Parts key (keyParts key)
+unfolding isKey many
+parts-of key h =
+    let a = and-true (isEmpty (many storedPartAt key .rest) && leb (length (keyParts key)) mostParts) (endsInName (keyParts key)) h in
+    let b = and-true (isEmpty (many storedPartAt key .rest)) (leb (length (keyParts key)) mostParts) (a .0) in
+    record {
+      written = at-most-writes (length key) key (empty (many storedPartAt key .rest) (b .0));
+      legal = stored-parts-legal key;
+      few = leb-true (length (keyParts key)) mostParts (b .1);
+      named = a .1;
+    }
+
+pub component-some : (c : Component) → isLegalComponent c ≡ true → 0 < length (componentBytes c)
+unfolding isLegalComponent isEmpty
+component-some wildcard h = omega arith
+component-some (name []) h = absurd (not-both h refl)
+component-some (name (c ∷ n)) h = omega arith

@@ -8,6 +8,8 @@ pub mod Limits
 pub mod Reading
 pub mod Keys
 pub mod Image
+pub mod Written
+pub mod Writing
 pub mod Ranking
 pub mod Ranks
 pub mod Lookup

@@ -13,7 +13,7 @@ use Rattle.definition.specs.Limits.{mostParts, mostEntries, bodyBytes, deepest}
 use Rattle.definition.specs.Archive.{filesOf, struckOff}
 use Rattle.definition.specs.Text.{Part, Entry, entry}
 use Rattle.definition.specs.Including.{Entered, entriesOf}
-use Rattle.definition.specs.Image.{storeOf, rowsIn, entriesIn, imageContents, imageBodies}
+use Rattle.definition.specs.Image.{storeOf, rowsIn, entriesIn, imageContents, imageBodies, isImage}
 use Rattle.definition.specs.Reading.{reading, readEntries, plain, met, start}
 use Rattle.definition.specs.Query.{Position, Query, positions, malformed, pastLimit, queryOf}
 use Rattle.definition.specs.Matching.{Aligned, Beats}
@@ -26,7 +26,7 @@ use Rattle.laws.proofs.Struck.{Lacks, eventsWithout, apart, eventsOfAll
 use Rattle.laws.proofs.Limits.{limits-fewer, used-store}
 use Rattle.laws.proofs.Reading.{Reads, accepted-reads, reads-outcome, eventsOfAll-good, few-parts}
 use Rattle.laws.proofs.Keys.{isLegalLine, lines-legal}
-use Rattle.laws.proofs.Image.{isStorable, image-is}
+use Rattle.laws.proofs.Image.{isStorable, image-is, image-entries}
 use Rattle.laws.proofs.Ranking.{best-beats, best-none, beats-one, beats-best, beats-kept, none-kept}
 use Rattle.laws.proofs.Lookup.{answer-image}
 
@@ -167,6 +167,13 @@ module _ (texts : List (List ℕ)) (archive contents bodies : List ℕ) (r : Rea
 
   small : length (storeOf es) ≤ bodyBytes
   small = omega (arith, r .limits .used-most, used-store (met texts archive))
+
+  -- it leaves an image of its entries
+  pub reading-image : isImage (reading texts archive contents bodies .contents) (reading texts archive contents bodies .bodies) ≡ true
+  reading-image = rw (reads-outcome texts archive contents bodies r) (image-is es contents bodies storable few small (r .long))
+
+  pub reading-entries : entriesIn (rowsIn (reading texts archive contents bodies .contents)) (reading texts archive contents bodies .bodies) ≡ es
+  reading-entries = rw (reads-outcome texts archive contents bodies r) (image-entries es contents bodies storable few small (r .long))
 
   pub reading-answers : (name class : List ℕ)
       → answerIn (reading texts archive contents bodies .bodies)

@@ -28,6 +28,9 @@ pub const ROW_WORDS: usize = 3;
 // The words of the lent contents.
 pub const CONTENTS_WORDS: usize = 2 + ROW_WORDS * MOST_ENTRIES;
 
+// The longest text of an image: document 02 (iv).
+pub const WRITTEN_BYTES: usize = 2 * BODY_BYTES + MOST_ENTRIES;
+
 // Of a query's name or class.
 pub const QUERY_BYTES: usize = 1024;
 

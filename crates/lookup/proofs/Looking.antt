@@ -23,6 +23,7 @@ use Rattle.query.specs.declared.Split.{Split}
 use Rattle.query.specs.declared.Shape.{Shape}
 use Rattle.query.proofs.Queries.{query-is}
 use Rattle.laws.proofs.Lists.{part-slice}
+use Rattle.laws.proofs.Image.{count-rows}
 use Rattle.laws.proofs.Ranking.{best-beats}
 use Rattle.marks.specs.Rows.{marksOf, bestIn, winsOver}
 use Rattle.positions.specs.Spans.{queried}
@@ -31,7 +32,7 @@ use Rattle.marks.proofs.Rows.{Long, rank-long, stands-row, wins-better}
 use Rattle.positions.proofs.Positions.{length-queried}
 use Rattle.image.specs.Rows.{rowStart, rowAt, rowsLeft, RowIs}
 use Rattle.image.specs.declared.Row.{Row}
-use Rattle.image.proofs.Rows.{rows-turn, row-is, count-rows}
+use Rattle.image.proofs.Rows.{rows-turn, row-is}
 use Rattle.image_judge.proofs.Judged.{judged}
 
 -- ---- One entry

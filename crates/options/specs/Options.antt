@@ -1,10 +1,10 @@
 -- What an argument says by itself.
-use mathlib.Core.Bool.{Bool, true, false, not}
-use mathlib.Core.List.{List, [], _∷_}
-use Prim.Native.Nat.{ℕ, _-_}
+use mathlib.Core.Bool.{Bool, true, not}
+use mathlib.Core.List.{List}
+use Prim.Native.Nat.{ℕ}
 use lib.Dec.{eqb}
 use Rattle.definition.specs.Lists.{if_then_else_, ascii, same}
-use Rattle.definition.specs.Bytes.{within}
+use Rattle.argument_words.specs.Words.{descriptor, formatOf}
 
 -- ---- What an argument is for
 
@@ -61,25 +61,15 @@ help = 14
 abbrev pub missing : ℕ
 missing = 15
 
+abbrev pub write : ℕ
+write = 16
+
 abbrev pub unknown : ℕ
-unknown = 16
+unknown = 17
 
 -- ---- Values
 
--- a digit from 3 to 9, or 0 for anything else
-unfoldable pub descriptor : List ℕ → ℕ
-descriptor [] = 0
-descriptor (c ∷ []) = if within 51 57 c then c - 48 else 0
-descriptor (c ∷ d ∷ t) = 0
-
--- a property's format, or 0 for anything else
-unfoldable pub formatOf : List ℕ → ℕ
-formatOf a =
-    if same a (ascii "8") then 8 else
-    if same a (ascii "16") then 16 else
-    if same a (ascii "32") then 32 else
-    0
-
+-- an argument is a value for that
 unfoldable pub takes : ℕ → List ℕ → Bool
 takes what a =
     if eqb what status then not (eqb (descriptor a) 0) else
@@ -87,12 +77,6 @@ takes what a =
     true
 
 -- ---- Options
-
--- it begins with `-` and has more
-unfoldable pub isOption : List ℕ → Bool
-isOption [] = false
-isOption (c ∷ []) = false
-isOption (c ∷ d ∷ t) = eqb c 45
 
 -- what follows an option of a chain
 unfoldable pub chainOption : List ℕ → ℕ
@@ -115,4 +99,5 @@ optionOf a =
     if same a (ascii "--help") then help else
     if same a (ascii "--") then operand else
     if same a (ascii "--missing") then missing else
+    if same a (ascii "--write") then write else
     chainOption a

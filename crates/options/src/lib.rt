@@ -1,8 +1,9 @@
 // What an argument of getres says by itself: which option it is, and whether it is a value that an option takes.
 ghost use mathlib.Core.Path.{_≡_};
-ghost use Rattle.definition.specs.Lists.{same};
-ghost use Rattle.options.specs.Options.{descriptor, formatOf, takes, isOption, chainOption, optionOf};
-use check::same;
+ghost use Rattle.options.specs.Options.{takes, chainOption, optionOf};
+use argument_words::descriptor;
+use argument_words::format_of;
+use argument_words::is_word;
 
 // What an argument is for: an operand, or the value of an option. A plan keeps the numbers of these arguments.
 pub const TEXT: usize = 0;
@@ -40,48 +41,9 @@ pub const HELP: usize = 14;
 
 pub const MISSING: usize = 15;
 
-pub const UNKNOWN: usize = 16;
+pub const WRITE: usize = 16;
 
-// ---- Values
-
-// A descriptor from 3 to 9, or 0: those below are taken, and more than a digit is not needed.
-pub fn descriptor(argument: &[u8]) -> u8
-    ensures { λ r. ⌜ r ≡ descriptor (now (argument .entry)) ⌝ }
-{
-    if argument.len() == 1 {
-        let digit = argument[0];
-        if digit < b'3' {
-            return 0;
-        }
-        if digit > b'9' {
-            return 0;
-        }
-        return digit - b'0';
-    }
-    0
-}
-
-fn is_word(argument: &[u8], word: &[u8]) -> bool
-    ensures { λ r. ⌜ r ≡ same (now (argument .entry)) (now (word .entry)) ⌝ }
-{
-    same(argument, word)
-}
-
-// A format that a property may have, or 0.
-pub fn format_of(argument: &[u8]) -> u8
-    ensures { λ r. ⌜ r ≡ formatOf (now (argument .entry)) ⌝ }
-{
-    if is_word(argument, b"8") {
-        return 8;
-    }
-    if is_word(argument, b"16") {
-        return 16;
-    }
-    if is_word(argument, b"32") {
-        return 32;
-    }
-    0
-}
+pub const UNKNOWN: usize = 17;
 
 // Is an argument a value for that?
 pub fn takes(what: usize, argument: &[u8]) -> bool
@@ -94,18 +56,6 @@ pub fn takes(what: usize, argument: &[u8]) -> bool
         return format_of(argument) != 0;
     }
     true
-}
-
-// ---- Options
-
-// An argument that begins with `-` and has more is an option.
-pub fn is_option(argument: &[u8]) -> bool
-    ensures { λ r. ⌜ r ≡ isOption (now (argument .entry)) ⌝ }
-{
-    if argument.len() < 2 {
-        return false;
-    }
-    argument[0] == b'-'
 }
 
 // What follows an option of a start-up chain.
@@ -157,6 +107,9 @@ pub fn option_of(argument: &[u8]) -> usize
     }
     if is_word(argument, b"--missing") {
         return MISSING;
+    }
+    if is_word(argument, b"--write") {
+        return WRITE;
     }
     chain_option(argument)
 }

@@ -5,36 +5,40 @@ use Prim.Native.Nat.{ℕ}
 use lib.Dec.{eqb, ltb}
 use lib.ListN.{getD, set, replicate}
 use Rattle.definition.specs.Lists.{if_then_else_}
-use Rattle.options.specs.Options.{text, name, class, anything, operand}
+use Rattle.options.specs.Options.{text, name, class, without, anything, operand}
 use Rattle.plans.specs.declared.Plan.{Plan}
 
 -- the numbers of the arguments given for each thing, 0 for none; the first that is not understood; what is next; is help asked for, the
--- includes that find no file, and a chain?
-abbrev pub plan : List ℕ → ℕ → ℕ → Bool → Bool → Bool → Plan
-plan given wrong next help missing chain = record { given = given; wrong = wrong; next = next; help = help; missing = missing; chain = chain }
+-- includes that find no file, the database written out, and a chain?
+abbrev pub plan : List ℕ → ℕ → ℕ → Bool → Bool → Bool → Bool → Plan
+plan given wrong next help missing write chain =
+    record { given = given; wrong = wrong; next = next; help = help; missing = missing; write = write; chain = chain }
 
 abbrev pub nothingAsked : Plan
-nothingAsked = plan (replicate 11 0) 0 anything false false false
+nothingAsked = plan (replicate 11 0) 0 anything false false false false
 
 -- the plan with one field more
 module _ (p : Plan) where
   abbrev pub toGiven : List ℕ → Plan
-  toGiven given = plan given (p .wrong) (p .next) (p .help) (p .missing) (p .chain)
+  toGiven given = plan given (p .wrong) (p .next) (p .help) (p .missing) (p .write) (p .chain)
 
   abbrev pub toWrong : ℕ → Plan
-  toWrong i = plan (p .given) i (p .next) (p .help) (p .missing) (p .chain)
+  toWrong i = plan (p .given) i (p .next) (p .help) (p .missing) (p .write) (p .chain)
 
   abbrev pub toNext : ℕ → Plan
-  toNext n = plan (p .given) (p .wrong) n (p .help) (p .missing) (p .chain)
+  toNext n = plan (p .given) (p .wrong) n (p .help) (p .missing) (p .write) (p .chain)
 
   abbrev pub toHelp : Plan
-  toHelp = plan (p .given) (p .wrong) (p .next) true (p .missing) (p .chain)
+  toHelp = plan (p .given) (p .wrong) (p .next) true (p .missing) (p .write) (p .chain)
 
   abbrev pub toMissing : Plan
-  toMissing = plan (p .given) (p .wrong) (p .next) (p .help) true (p .chain)
+  toMissing = plan (p .given) (p .wrong) (p .next) (p .help) true (p .write) (p .chain)
+
+  abbrev pub toWrite : Plan
+  toWrite = plan (p .given) (p .wrong) (p .next) (p .help) (p .missing) true (p .chain)
 
   abbrev pub toChain : Plan
-  toChain = plan (p .given) (p .wrong) (p .next) (p .help) (p .missing) true
+  toChain = plan (p .given) (p .wrong) (p .next) (p .help) (p .missing) (p .write) true
 
 -- the argument that was given for something
 unfoldable pub givenFor : Plan → ℕ → ℕ
@@ -52,12 +56,23 @@ once p what i = if eqb (getD (p .given) what 0) 0 then toGiven p (set (p .given)
 unfoldable pub inChain : List ℕ → List ℕ
 inChain given = set (set (set given text 0) name (getD given text 0)) class (getD given name 0)
 
-unfoldable pub settled : Plan → Plan
-settled p =
+unfoldable pub placed : Plan → Plan
+placed p =
     if p .chain
     then (if eqb (getD (p .given) class 0) 0 then toGiven p (inChain (p .given)) else misunderstood (toGiven p (inChain (p .given))) (getD (p .given) class 0))
     else p
 
--- the name is there, and no option lacks its value
+-- a database that is written out is asked no query: neither a name nor --without is understood
+unfoldable pub unasked : Plan → Plan
+unasked p = misunderstood (misunderstood p (givenFor p name)) (givenFor p without)
+
+unfoldable pub settled : Plan → Plan
+settled p = if p .write then unasked (placed p) else placed p
+
+-- the name is there; of a database that is written out, the text or a chain
+unfoldable pub hasOperands : Plan → Bool
+hasOperands p = if p .write then p .chain || not (eqb (givenFor p text) 0) else not (eqb (givenFor p name) 0)
+
+-- and no option lacks its value
 unfoldable pub isWhole : Plan → Bool
-isWhole p = not (eqb (givenFor p name) 0) && (eqb (p .next) anything || eqb (p .next) operand)
+isWhole p = hasOperands p && (eqb (p .next) anything || eqb (p .next) operand)

@@ -1,22 +1,24 @@
 // What getres is to do, as its arguments say it: a plan.
 ghost use mathlib.Core.Path.{_≡_};
 ghost use Prim.Native.Nat.{_<_};
-ghost use Rattle.plans.specs.Plans.{nothingAsked, givenFor, misunderstood, once, settled, isWhole};
+ghost use Rattle.plans.specs.Plans.{nothingAsked, givenFor, misunderstood, once, placed, unasked, settled, hasOperands, isWhole};
 use options::ANY;
 use options::CLASS;
 use options::NAME;
 use options::OPERAND;
 use options::TEXT;
+use options::WITHOUT;
 
 // Arguments by their numbers, of which 0, the program's own name, says that there is none. `given` has those that the options name,
 // from TEXT to HOST; `wrong` is the first that is not understood; `next` is what the next one is for; `help`, `missing`, the includes that
-// find no file, and `chain`, a start-up chain, are asked for or not.
+// find no file, `write`, the database written out, and `chain`, a start-up chain, are asked for or not.
 pub struct Plan {
     pub given: [usize; 11],
     pub wrong: usize,
     pub next: usize,
     pub help: bool,
     pub missing: bool,
+    pub write: bool,
     pub chain: bool,
 }
 
@@ -29,6 +31,7 @@ pub fn nothing_asked() -> Plan
         next: ANY,
         help: false,
         missing: false,
+        write: false,
         chain: false,
     }
 }
@@ -67,9 +70,9 @@ pub fn once(plan: Plan, what: usize, i: usize) -> Plan
     misunderstood(plan, i)
 }
 
-// The plan once all arguments are taken: a chain has no text among its operands, and one that is over is not understood.
-pub fn settled(plan: Plan) -> Plan
-    ensures { λ r. ⌜ r ≡ settled plan ⌝ }
+// A chain has no text among its operands, and one that is over is not understood.
+fn placed(plan: Plan) -> Plan
+    ensures { λ r. ⌜ r ≡ placed plan ⌝ }
 {
     if plan.chain {
         let mut more = plan;
@@ -84,11 +87,44 @@ pub fn settled(plan: Plan) -> Plan
     plan
 }
 
-// Is the name there, and does no option lack its value?
+// A database that is written out is asked no query: neither a name nor `--without` is understood. Where there is none, 0 changes
+// nothing.
+fn unasked(plan: Plan) -> Plan
+    ensures { λ r. ⌜ r ≡ unasked plan ⌝ }
+{
+    let more = misunderstood(plan, given(plan, NAME));
+    misunderstood(more, given(plan, WITHOUT))
+}
+
+// The plan once all arguments are taken.
+pub fn settled(plan: Plan) -> Plan
+    ensures { λ r. ⌜ r ≡ settled plan ⌝ }
+{
+    let more = placed(plan);
+    if plan.write {
+        return unasked(more);
+    }
+    more
+}
+
+// Is the name there, or, of a database that is written out, the text or a chain?
+fn has_operands(plan: Plan) -> bool
+    ensures { λ r. ⌜ r ≡ hasOperands plan ⌝ }
+{
+    if plan.write {
+        if plan.chain {
+            return true;
+        }
+        return given(plan, TEXT) != 0;
+    }
+    given(plan, NAME) != 0
+}
+
+// Are the operands there, and does no option lack its value?
 pub fn is_whole(plan: Plan) -> bool
     ensures { λ r. ⌜ r ≡ isWhole plan ⌝ }
 {
-    if given(plan, NAME) == 0 {
+    if !has_operands(plan) {
         return false;
     }
     if plan.next == ANY {

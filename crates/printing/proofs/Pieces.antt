@@ -1,71 +1,16 @@
--- Pieces put one after another. Assumes nothing.
-use mathlib.Core.List.{List, [], _++_}
-use mathlib.Core.Path.{_≡_, refl, ap, sym, _∙_}
-use Prim.Native.Nat.{ℕ, _+_, _≤_}
+-- Pieces put one after another: the laws of the copies, and how many bytes stand at a buffer's start. Assumes nothing.
+use mathlib.Core.List.{List}
+use mathlib.Core.Path.{sym}
+use Prim.Native.Nat.{ℕ, _≤_}
 use native.Mathlib.Omega.{arith}
-use lib.ListN.{length, length-append}
-use lib.Seq.{paste, paste-zero, length-paste, length-take-le}
+use lib.ListN.{length}
+use lib.Seq.{length-take-le}
 use Rattle.io.specs.Counts.{Counts}
-use Rattle.laws.proofs.Lists.{paste-append}
-use Rattle.printing.specs.Putting.{Appends}
-
--- the bytes by another name
-pub piece-of : {xs ys out out′ : List ℕ} {at end : ℕ} → xs ≡ ys → Appends xs out at out′ end → Appends ys out at out′ end
-piece-of {xs} {ys} {out} {out′} {at} {end} e p = rw e at p
-
--- the buffer is as long as before
-pub piece-long : {bytes out out′ : List ℕ} {at end : ℕ} → Appends bytes out at out′ end → length out′ ≡ length out
-piece-long {bytes} {out} {out′} {at} p =
-    let n : length bytes ≤ length bytes = omega arith in
-    ap length (p .leaves) ∙ length-paste out at bytes (length bytes) (p .fits) n
-
--- one piece after another
-pub then-piece : {xs ys out out₁ out₂ : List ℕ} {at end₁ end₂ : ℕ} → Appends xs out at out₁ end₁ → Appends ys out₁ end₁ out₂ end₂ → Appends (xs ++ ys) out at out₂ end₂
-then-piece {xs} {ys} {out} {out₁} {out₂} {at} {end₁} {end₂} p q = record {
-  fits = omega (arith, p .ends, q .fits, piece-long p, length-append xs ys);
-  ends = omega (arith, p .ends, q .ends, length-append xs ys);
-  leaves = q .leaves ∙ ap (λ (e : ℕ). paste out₁ e ys (length ys)) (p .ends)
-      ∙ ap (λ (o : List ℕ). paste o (at + length xs) ys (length ys)) (p .leaves) ∙ sym (paste-append out at xs ys (p .fits));
-}
+use Rattle.copies.specs.Appended.{Appends}
+pub use Rattle.copies.proofs.Pieces.{piece-of, piece-long, then-piece, Walk, walk-begun, walk-next, walk-room, walk-ended}
 
 -- what stands at the buffer's start is what was put there
 pub piece-counts : {bytes out out′ : List ℕ} {end : ℕ} → Appends bytes out 0 out′ end → Counts end out′
 piece-counts {bytes} {out} {out′} {end} p =
     let n : end ≤ length out′ = omega (arith, p .ends, p .fits, piece-long p) in
     (n, sym (length-take-le end out′ n))
-
--- ---- Pieces put in a loop
-
--- `left` is still to be put, from `end` on, of what is to stand from `at` on
-pub record Walk (whole out₀ : List ℕ) (at : ℕ) (left out : List ℕ) (end : ℕ) : Type 0 where
-  pub place : end + length left ≡ at + length whole
-  pub same-length : length out ≡ length out₀
-  pub leaves : paste out end left (length left) ≡ paste out₀ at whole (length whole)
-
-pub walk-begun : (whole out : List ℕ) (at : ℕ) → Walk whole out at whole out at
-walk-begun whole out at = record { place = refl; same-length = refl; leaves = refl }
-
--- one piece more
-pub walk-next : {whole out₀ left line more out out′ : List ℕ} {at end end′ : ℕ} → Walk whole out₀ at left out end → left ≡ line ++ more
-    → Appends line out end out′ end′ → Walk whole out₀ at more out′ end′
-walk-next {whole} {out₀} {left} {line} {more} {out} {out′} {at} {end} {end′} w e p =
-    let l : length left ≡ length line + length more = ap length e ∙ length-append line more in
-    record {
-      place = omega (arith, w .place, p .ends);
-      same-length = piece-long p ∙ w .same-length;
-      leaves = ap (λ (x : ℕ). paste out′ x more (length more)) (p .ends) ∙ ap (λ (o : List ℕ). paste o (end + length line) more (length more)) (p .leaves)
-          ∙ sym (paste-append out end line more (p .fits)) ∙ ap (λ (t : List ℕ). paste out end t (length t)) (sym e) ∙ w .leaves;
-    }
-
-pub walk-room : {whole out₀ left out : List ℕ} {at end : ℕ} (line more : List ℕ) → at + length whole ≤ length out₀ → Walk whole out₀ at left out end → left ≡ line ++ more
-    → end + length line ≤ length out
-walk-room line more h w e = omega (arith, h, w .place, w .same-length, ap length e ∙ length-append line more)
-
-pub walk-ended : {whole out₀ left out : List ℕ} {at end : ℕ} → at + length whole ≤ length out₀ → Walk whole out₀ at left out end → left ≡ [] → Appends whole out₀ at out end
-walk-ended {whole} {out₀} {left} {out} {at} {end} h w e =
-    let l : length left ≡ 0 = ap length e in
-    record {
-      fits = h;
-      ends = omega (arith, w .place);
-      leaves = paste-zero out end [] ∙ ap (λ (t : List ℕ). paste out end t (length t)) (sym e) ∙ w .leaves;
-    }

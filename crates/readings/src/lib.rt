@@ -7,10 +7,10 @@ ghost use Rattle.definition.specs.Value.{getString, getBool, getValue, bytesOr,
 ghost use Rattle.lookup.specs.Replies.{replied, LiesIn};
 ghost use Rattle.readings.specs.Replies.{truthReplied, valueReplied};
 ghost use Rattle.readings.specs.Showing.{shownAt};
-use interpret::Boolean;
-use interpret::Number;
-use interpret::parse_i64;
-use interpret::to_bool;
+use booleans::Boolean;
+use booleans::to_bool;
+use integers::Number;
+use integers::parse_i64;
 use lookup::Lookup;
 use lookup::get_bytes;
 use utf8::is_utf8;

@@ -1,4 +1,4 @@
--- Document 01's refusals, in words.
+-- The refusals of document 01's table, those of document 02 among them, in words.
 use mathlib.Core.List.{List}
 use Prim.Native.Nat.{ℕ}
 use lib.Dec.{eqb}
@@ -16,4 +16,5 @@ refusalOf k =
     if eqb k 8 then ascii "refused 8: the buffers hold no database" else
     if eqb k 9 then ascii "refused 9: the name or the class has more than 1,024 bytes" else
     if eqb k 10 then ascii "refused 10: the name or the class has more than 32 parts" else
+    if eqb k 11 then ascii "refused 11: the buffer is shorter than the text" else
     ascii "refused"

@@ -1,11 +1,11 @@
-// Document 01's refusals, in words.
+// The refusals of document 01's table, those of document 02 among them, in words.
 ghost use Prim.Native.Nat.{_+_, _≤_};
 ghost use lib.ListN.{length};
 ghost use Rattle.printing.specs.Putting.{Appends};
 ghost use Rattle.refusals.specs.Refusals.{refusalOf};
 use printing::put;
 
-// Puts the words of a refusal at `at`. 1, 3 and 8 do not come up: the buffers are long enough and hold what was read, and the
+// Puts the words of a refusal at `at`. 1, 3, 8 and 11 do not come up: the buffers are long enough and hold what was read, and the
 // archive is laid out.
 pub fn put_reason(number: u8, out: &mut [u8], at: usize) -> usize
     requires { ⌜ at + 60 ≤ length (now out) ⌝ }
@@ -42,6 +42,7 @@ pub fn put_reason(number: u8, out: &mut [u8], at: usize) -> usize
             out,
             at,
         ),
+        11 => put(b"refused 11: the buffer is shorter than the text", out, at),
         _ => put(b"refused", out, at),
     }
 }

@@ -27,7 +27,7 @@ pub const REPORT_BYTES: usize = 2 * (BODY_BYTES + 4096) + 64;
 
 // A refusal by its number.
 pub fn refuse(number: u8, out: &mut [u8]) -> Report
-    requires { ⌜ reportBytes ≤ length (now out) ⌝ }
+    requires { ⌜ 69 ≤ length (now out) ⌝ }
     ensures { λ r. ⌜ Reports (refused number) (now (out .entry)) (now (out .exit)) r ⌝ }
 {
     let mut end = put(b"getres: ", out, 0);

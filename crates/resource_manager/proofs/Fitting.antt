@@ -1,11 +1,17 @@
--- The place that a lookup finds is small enough for its code, and what the boundary makes of each answer. Assumes nothing.
+-- The place that a lookup finds, and the length of a text, are small enough for their codes; and what the boundary makes of each answer.
+-- Assumes nothing.
 use mathlib.Core.List.{List}
 use mathlib.Core.Path.{_≡_, refl, ap, _∙_}
 use Prim.Native.Nat.{ℕ}
+use native.Mathlib.Omega.{arith}
+use lib.ListN.{length}
+use lib.Seq.{length-take-le}
 use Rattle.definition.specs.Reading.{Outcome, outcome, reading}
 use Rattle.laws.proofs.Reading.{accepted-small}
+use Rattle.laws.proofs.Writing.{image-text-long, written-text}
 use Rattle.definition.specs.Lookup.{getBytes}
 use Rattle.definition.specs.Value.{getString}
+use Rattle.definition.specs.Writing.{Filled, filled, writing}
 use Rattle.definition.specs.ThirdTerm.{Case, withFile, withoutFile}
 use Rattle.comparison.specs.declared.Compared.{Compared}
 use Rattle.comparison.specs.declared.Compared.the-variants.{Both, NoFile, Refused as RefusedCall}
@@ -20,8 +26,11 @@ use Rattle.reader.specs.declared.Answer.{Answer}
 use Rattle.reader.specs.declared.Answer.the-variants.{Accepted, Refused as RefusedReading}
 use Rattle.reader.specs.Said.{said}
 use Rattle.readings.proofs.Readings.{string-found}
-use Rattle.codes.specs.Codes.{readCode, Few, Small, Numbers, comparisonNumbers, SmallBoth}
-use Rattle.resource_manager.specs.Boundary.{crossed, crossing, compares, carried, Crosses}
+use Rattle.writer.specs.declared.Written.{Written}
+use Rattle.writer.specs.declared.Written.the-variants.{Done, Refused as RefusedText}
+use Rattle.writer.specs.Extents.{extentOf}
+use Rattle.codes.specs.Codes.{readCode, Few, Small, Numbers, comparisonNumbers, SmallBoth, writeCode, Bounded}
+use Rattle.resource_manager.specs.Boundary.{crossed, crossing, filling, fillCode, compares, carried, Crosses}
 
 -- ---- Readings and lookups, once the answer is told
 
@@ -43,6 +52,18 @@ module _ (contents bodies name class : List ℕ) where
   string-small (Found p n) e = found-placed contents bodies name class p n (string-found contents bodies name class p n e) .0
   string-small Nothing e = tt
   string-small (Refused k) e = tt
+
+-- ---- A writing
+
+module _ (contents bodies buffer t : List ℕ) where
+  pub write-bounded : (r : Written) → filled (extentOf r) t ≡ writing contents bodies buffer → Bounded r
+  write-bounded (Done n) e =
+      let w = written-text n t contents bodies buffer e in
+      omega (arith, image-text-long contents bodies (w .is-image), ap length (w .text), length-take-le n t (w .inside))
+  write-bounded (RefusedText k) e = tt
+
+pub write-fills : (r : Written) (n : ℕ) (t : List ℕ) (f : Filled) → filled (extentOf r) t ≡ f → n ≡ writeCode (extentOf r) → filling n t ≡ fillCode f
+write-fills r n t f e g = rw (← e, g) refl
 
 -- ---- A comparing call
 

@@ -7,8 +7,9 @@ use lib.Dec.{eqb}
 use lib.ListN.{length}
 use Rattle.definition.specs.Reading.{Outcome}
 use Rattle.definition.specs.ThirdTerm.{Case, withFile, withoutFile, lookup, Given, ThirdTerm}
+use Rattle.definition.specs.Writing.{Filled}
 use Rattle.compare.specs.Comparing.{Left, bothRead, comparing}
-use Rattle.codes.specs.Codes.{readCode, placeCode, Numbers, numbers, comparisonNumbers}
+use Rattle.codes.specs.Codes.{readCode, placeCode, Numbers, numbers, comparisonNumbers, writeCode}
 
 -- a flag is no if it is 0, else yes
 abbrev pub yes : ℕ → Bool
@@ -27,6 +28,19 @@ crossing n c b = record { code = n; contents = c; bodies = b }
 
 abbrev pub crossed : Outcome → Crossing
 crossed o = crossing (readCode (o .answer)) (o .contents) (o .bodies)
+
+-- ---- Writings
+
+-- a call's number and the buffer afterwards
+pub record Filling : Type 0 where
+  pub code : ℕ
+  pub buffer : List ℕ
+
+abbrev pub filling : ℕ → List ℕ → Filling
+filling n t = record { code = n; buffer = t }
+
+abbrev pub fillCode : Filled → Filling
+fillCode f = filling (writeCode (f .answer)) (f .buffer)
 
 -- ---- The comparing call
 

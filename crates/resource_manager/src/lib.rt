@@ -8,14 +8,16 @@ ghost use Rattle.definition.specs.StartUp.{starting};
 ghost use Rattle.definition.specs.Lookup.{getBytes};
 ghost use Rattle.definition.specs.Value as definition;
 ghost use Rattle.definition.specs.Value.{getString, getBool, getValue};
+ghost use Rattle.definition.specs.Writing.{writing};
 ghost use Rattle.sources.specs.Lending.{lending, startUp};
 ghost use Rattle.codes.specs.Codes.{placeCode, boolCode, taking, taken};
-ghost use Rattle.resource_manager.specs.Boundary.{yes, crossed, crossing};
+ghost use Rattle.resource_manager.specs.Boundary.{yes, crossed, crossing, filling, fillCode};
 ghost use Rattle.readings.specs.Showing.{shownAt};
 use codes::bool_code;
 use codes::place_code;
 use codes::read_code;
 use codes::value_code;
+use codes::write_code;
 
 // Document 01's reading call. The low 16 bits are 0, or the number of the refusal and that alone; entries stand in bits 16 to 31
 // and opens in bits 32 to 47.
@@ -145,4 +147,14 @@ pub extern "C" fn resource_manager_get_value(
 {
     let value = readings::get_value(contents, bodies, name, class);
     value_code(value, out)
+}
+
+// The text of an image's entries, at the front of `text`: its length from bit 32 on; or the refusal, with `text` as it was. Bytes past
+// the text stay.
+#[no_mangle]
+pub extern "C" fn resource_manager_write(contents: &[u16], bodies: &[u8], text: &mut [u8]) -> u64
+    ensures { λ r. ⌜ filling r (now (text .exit)) ≡ fillCode (writing (now (contents .entry)) (now (bodies .entry)) (now (text .entry))) ⌝ }
+{
+    let answer = writer::write(contents, bodies, text);
+    write_code(answer)
 }

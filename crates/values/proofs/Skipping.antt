@@ -12,6 +12,7 @@ use Rattle.definition.specs.Lists.{if_then_else_}
 use Rattle.definition.specs.Bytes.{newline, backslash, isBlank}
 use Rattle.definition.specs.Text.{afterBlanks}
 use Rattle.laws.proofs.Lists.{part-rest, Suffix, suffix-whole}
+use Rattle.laws.proofs.Written.{blank-first, other-first}
 use Rattle.scan.proofs.Suffixes.{suffix-cons, suffix-none}
 use Rattle.values.specs.Decoded.{blanksAt}
 
@@ -24,17 +25,6 @@ pub record Dropping (t : List ℕ) (i : ℕ) : Type 0 where
 
 pub dropping-none : (t : List ℕ) → Dropping t 0
 dropping-none t = record { same = refl; inside = omega arith }
-
-blank-first : (c : ℕ) (t : List ℕ) → isBlank c ≡ true → afterBlanks (c ∷ t) ≡ afterBlanks t
-unfolding afterBlanks
-blank-first c [] e = rw e refl
-blank-first c (d ∷ t) e = rw e refl
-
--- no blank and no backslash before a newline: nothing is dropped
-other-first : (c : ℕ) (t : List ℕ) → isBlank c ≡ false → (c ≡ backslash → ⊥) → afterBlanks (c ∷ t) ≡ c ∷ t
-unfolding afterBlanks
-other-first c [] e h = rw e refl
-other-first c (d ∷ t) e h = rw (e, ne-eqb c backslash h) refl
 
 module _ {t : List ℕ} {i : ℕ} (d : Dropping t i) where
   over : afterBlanks (drop i t) ≡ drop i t → i ≡ blanksAt t

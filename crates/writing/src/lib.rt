@@ -1,8 +1,6 @@
-// What getres writes: answers to standard output, all else to standard error.
+// What getres writes beside answers: what went wrong, its help and its status.
 use io::write_all;
 use libc::STDERR_FILENO;
-use libc::STDOUT_FILENO;
-use reports::Report;
 
 // Says why a call of the system failed on what.
 pub fn fail(what: &[u8]) {
@@ -18,32 +16,23 @@ pub fn complain(what: &[u8], why: &[u8]) {
     write_all(STDERR_FILENO, b"\n");
 }
 
-// Writes a report, and answers its status, which is 2 if an answer cannot be written.
-pub fn tell(report: Report, bytes: &[u8]) -> u8 {
-    if report.wrong {
-        write_all(STDERR_FILENO, bytes);
-        return report.status;
-    }
-    if write_all(STDOUT_FILENO, bytes) {
-        return report.status;
-    }
-    fail(b"standard output");
-    2
-}
-
 pub fn write_help(fd: i32) {
     write_all(
         fd,
         b"usage: getres [--file [NAME=]PATH].. [--without NAME] [--missing] [--] TEXT NAME [CLASS]\n\
         \x20      getres [--file [NAME=]PATH].. [--without NAME] [--missing] CHAIN.. [--] NAME [CLASS]\n\
+        \x20      getres [--file [NAME=]PATH].. --write [--missing] [--] TEXT\n\
+        \x20      getres [--file [NAME=]PATH].. --write [--missing] CHAIN..\n\
         \n\
         Prints the value that the X resources of the file TEXT give to a name and a class; or those of a\n\
         start-up chain, with a line for each of its two steps that says which text is used.\n\
+        With --write prints all these resources, those of included files among them, as one resource text.\n\
         A TEXT, or a PATH of a chain, of - is standard input.\n\
         \n\
         \x20 --file [NAME=]PATH  a file that includes find by NAME, or else by PATH as it is written\n\
         \x20 --without NAME      two answers, with that file and without it, and whether they differ\n\
         \x20 --missing           says on standard error which includes found no file, and what they looked for\n\
+        \x20 --write             the resources themselves, as a text that gives every query the same answer\n\
         \x20 --status-fd N       writes the status to descriptor N, 3 to 9\n\
         \x20 --help              prints this\n\
         \n\
@@ -57,7 +46,7 @@ pub fn write_help(fd: i32) {
         \x20 --xenvironment PATH   what XENVIRONMENT names; without it XENVIRONMENT is not set\n\
         \x20 --host PATH           the .Xdefaults of the host\n\
         \n\
-        Status: 0 a value, 1 none; with --without 0 equal, 1 different; 2 refused, or an error.\n",
+        Status: 0 a value, 1 none; with --without 0 equal, 1 different; with --write 0; 2 refused, or an error.\n",
     );
 }
 

@@ -102,6 +102,14 @@ impl Both {
         Ok(Some(read))
     }
 
+    /// Compares what a text is read as with the entries that it was written for.
+    pub fn read_again(&mut self, text: &[u8], entries: &[(Vec<u8>, Vec<u8>)]) -> Result<(), String> {
+        match self.read(&Source::plain(text))? {
+            Some(read) if read.entries != entries => Err(format!("not the entries of \"{}\"", text.escape_ascii())),
+            _ => Ok(()),
+        }
+    }
+
     /// Compares what a process of its own reads of a chain, laid before it like this.
     pub fn start(&mut self, start_up: &StartUp, archive: &[u8], setting: Setting) -> Result<(), String> {
         let case = Case::read(Source::chain(start_up.clone(), archive.to_vec()));

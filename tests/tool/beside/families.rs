@@ -9,13 +9,14 @@ use cases::limits::edges;
 use cases::readings::Extent;
 use cases::texts::aligned_key;
 use cases::words::{each_word, keys, queries};
-use cases::{archives, dotted, named_chains, realistic, struck, texts};
+use cases::{archives, dotted, images, named_chains, realistic, struck, texts};
 use model::archive::{judge, lay_out, File};
+use model::writing;
 use records::{archive_of, Query, Source};
 
 type Family = fn(&mut Both, u64) -> Result<(), String>;
 
-const FAMILIES: [(&str, Family); 26] = [
+const FAMILIES: [(&str, Family); 27] = [
     ("texts", every_text),
     ("values", every_value),
     ("keys", every_key),
@@ -37,6 +38,7 @@ const FAMILIES: [(&str, Family); 26] = [
     ("realistic", like_real_files),
     ("damaged", damaged_copies),
     ("struck-off", struck_off),
+    ("written-out", written_out),
     ("start-ups", every_start_up),
     ("chains-by-name", named_chains),
     ("chain-limits", chains_at_the_limits),
@@ -285,6 +287,18 @@ fn struck_off(both: &mut Both, seed: u64) -> Result<(), String> {
         (0..count).try_for_each(|which| both.strike(&source, which, &queries))
     })?;
     both.counts.some_moved()
+}
+
+/// The texts of all images, which must read as the entries that they were written for. Those over 32,768 bytes are left out.
+fn written_out(both: &mut Both, seed: u64) -> Result<(), String> {
+    images::FAMILIES.iter().try_for_each(|(_, family)| {
+        family(Extent { seed, times: 1 }, &mut |image| {
+            let Some(entries) = image.entries() else { return Ok(()) };
+            let text =
+                writing::text(&image.contents, &image.bodies).map_err(|refusal| format!("refused {}", refusal.number()))?;
+            both.read_again(&text, &entries)
+        })
+    })
 }
 
 /// Every combination of texts to choose from, each by a process of its own. Of the texts that cannot be read every one is once a

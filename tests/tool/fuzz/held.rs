@@ -1,7 +1,9 @@
 //! The crate's answers held to the model's, and to the Rust's by `rusts.rs`.
 
 use model::image;
+use model::limits::TEXT_BYTES;
 use model::lookup::{get_bool, get_bytes, get_string, get_value, show, Number};
+use model::writing;
 use records::{Query, Source, Start};
 use resource_manager::{Database, Error, ValueError};
 use std::any::Any;
@@ -22,6 +24,8 @@ pub struct Counts {
     /// Readings of the texts of a start-up.
     pub starts: usize,
     pub refused_starts: usize,
+    /// Databases written out, and read again.
+    pub texts: usize,
     pub lookups: usize,
     pub refused_lookups: usize,
     pub comparisons: usize,
@@ -37,14 +41,14 @@ impl Counts {
     /// What was compared; an error if some of it was not.
     pub fn report(&self) -> Result<String, String> {
         let Self { archives, refused_files, readings, refused_readings, starts, refused_starts, .. } = self;
-        let Self { lookups, refused_lookups, comparisons, moved, .. } = self;
+        let Self { texts, lookups, refused_lookups, comparisons, moved, .. } = self;
         let reading_counts = [archives, refused_files, readings, refused_readings, starts, refused_starts];
-        if reading_counts.contains(&&0) || [lookups, refused_lookups, comparisons, moved].contains(&&0) {
+        if reading_counts.contains(&&0) || [texts, lookups, refused_lookups, comparisons, moved].contains(&&0) {
             return Err("too little was compared".to_string());
         }
         Ok(format!(
             "{archives} archives built ({refused_files} files refused), {readings} readings ({refused_readings} refused), \
-             {starts} start-ups ({refused_starts} refused), {lookups} lookups ({refused_lookups} refused) and {comparisons} \
+             {starts} start-ups ({refused_starts} refused), {texts} databases written out, {lookups} lookups ({refused_lookups} refused) and {comparisons} \
              comparisons ({moved} moved) beside the model, {}",
             self.beside_the_rust()?
         ))
@@ -150,6 +154,7 @@ impl Held {
             last = read.ok();
             if let Some(database) = &last {
                 same("entries", files::listed(database), records::listed(&self.contents, &self.bodies))?;
+                self.write(database)?;
             }
         }
         let is_start = matches!(source.start, Start::Chain(_));
@@ -160,6 +165,16 @@ impl Held {
             *(if is_start { &mut self.counts.rusts_starts } else { &mut self.counts.rusts_readings }) += compared;
         }
         Ok(last)
+    }
+
+    /// Compares the text that a database is written out as, and what that is read as.
+    fn write(&mut self, database: &Database) -> Result<(), String> {
+        let text = database.to_text();
+        same("text", Ok(&text), writing::text(&self.contents, &self.bodies).map_err(|r| r.number()).as_ref())?;
+        let again = Database::new_from_data(&text).map(|again| files::listed(&again)).map_err(Error::number);
+        same("text read again", again, if text.len() > TEXT_BYTES { Err(2) } else { Ok(files::listed(database)) })?;
+        self.counts.texts += 1;
+        Ok(())
     }
 
     fn look_up(&mut self, database: &Database, _source: &Source, name: &str, class: &str) -> Result<(), String> {

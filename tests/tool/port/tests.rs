@@ -8,6 +8,7 @@ use crate::fenced::zero_bytes;
 use crate::run::Run;
 use crate::{
     comparing, comparing_faults, comparing_tests, lookup_faults, lookup_tests, path_faults, start_up_faults, start_up_tests,
+    writing_faults, writing_tests,
 };
 use cases::archives;
 use cases::draw::Draw;
@@ -95,7 +96,8 @@ pub fn names() -> Vec<&'static str> {
     let start_ups = start_up_tests::names().chain(["faults of start-ups"]);
     let lookups = lookup_tests::names().into_iter().chain(["faults of lookups"]);
     let comparing = comparing_tests::names().chain(["faults of the comparing call"]);
-    readings.chain(start_ups).chain(lookups).chain(comparing).collect()
+    let writing = writing_tests::names().chain(["faults of the writing call"]);
+    readings.chain(start_ups).chain(lookups).chain(comparing).chain(writing).collect()
 }
 
 pub fn test(name: &str, room: &str) -> Result<String, String> {
@@ -114,10 +116,16 @@ pub fn test(name: &str, room: &str) -> Result<String, String> {
     if name == "faults of the comparing call" {
         return comparing_faults::all_seen(room);
     }
+    if name == "faults of the writing call" {
+        return writing_faults::all_seen(room);
+    }
     if let Some(result) = lookup_tests::test(name, asking::PORTS, room) {
         return result;
     }
     if let Some(result) = comparing_tests::test(name, comparing::PORTS) {
+        return result;
+    }
+    if let Some(result) = writing_tests::test(name, port::write_word) {
         return result;
     }
     if let Some(test) = TESTS.iter().chain(&start_up_tests::TESTS).find(|(of, _)| *of == name).map(|(_, test)| *test) {

@@ -23,7 +23,7 @@ no-file-requires : tie.Need-no-file-requires
 no-file-requires c κs = start-of (c .before .before .before .before .before .before .before .before) .pre
 
 refuse-requires : tie.Need-refuse-requires
-refuse-requires c κs = start-of (c .before .before .before .before .before .before .before .before .before) .pre .1
+refuse-requires c κs = omega (arith, start-of (c .before .before .before .before .before .before .before .before .before) .pre .1)
 
 returns : tie.Need-returns
 unfolding zeroes

@@ -24,23 +24,33 @@ returns-4 : tie.Need-returns-4
 unfolding withOption
 returns-4 c =
     rw
-    (ne-eqb _ _ (c .before .before .before .if1 .left), ne-eqb _ _ (c .before .before .if2 .left), ne-eqb _ _ (c .before .if3 .left), below-range format anything _ (c .if4 .taken))
+    (ne-eqb _ _ (c .before .before .before .if1 .left), ne-eqb _ _ (c .before .before .if2 .left), ne-eqb _ _ (c .before .if3 .left), eq-eqb _ _ (c .if4 .taken))
     refl
 
 returns-5 : tie.Need-returns-5
 unfolding withOption
 returns-5 c =
+    let e = c .before .before in
     rw
-    (ne-eqb _ _ (c .before .before .before .before .if1 .left), ne-eqb _ _ (c .before .before .before .if2 .left), ne-eqb _ _ (c .before .before .if3 .left), above-range format anything _ (c .if5 .taken))
+    (ne-eqb _ _ (e .before .before .if1 .left), ne-eqb _ _ (e .before .if2 .left), ne-eqb _ _ (e .if3 .left), ne-eqb _ _ (c .before .if4 .left), below-range format anything _ (c .if5 .taken))
     refl
 
 returns-6 : tie.Need-returns-6
 unfolding withOption
 returns-6 c =
+    let e = c .before .before .before in
     rw
-    (ne-eqb _ _ (c .before .before .before .before .if1 .left), ne-eqb _ _ (c .before .before .before .if2 .left), ne-eqb _ _ (c .before .before .if3 .left), in-range format anything _ (c .before .if4 .left) (c .if5 .left))
+    (ne-eqb _ _ (e .before .before .if1 .left), ne-eqb _ _ (e .before .if2 .left), ne-eqb _ _ (e .if3 .left), ne-eqb _ _ (c .before .before .if4 .left), above-range format anything _ (c .if6 .taken))
+    refl
+
+returns-7 : tie.Need-returns-7
+unfolding withOption
+returns-7 c =
+    let e = c .before .before .before in
+    rw
+    (ne-eqb _ _ (e .before .before .if1 .left), ne-eqb _ _ (e .before .if2 .left), ne-eqb _ _ (e .if3 .left), ne-eqb _ _ (c .before .before .if4 .left), in-range format anything _ (c .before .if5 .left) (c .if6 .left))
     refl
 
 pub with-option-spec : {M : Type 1} → statement M
 with-option-spec =
-    tie.close (tie.spec (λ c κs. search needs) returns returns-2 returns-3 returns-4 returns-5 returns-6)
+    tie.close (tie.spec (λ c κs. search needs) returns returns-2 returns-3 returns-4 returns-5 returns-6 returns-7)

@@ -3,7 +3,7 @@ use Prim.Native.Nat.{_-_, _≤_, _<_}
 use native.Mathlib.Omega.{arith}
 use lib.ListN.{length}
 use Rattle.definition.specs.Limits.{mostParts}
-use Rattle.key.proofs.Keys.{parts-of}
+use Rattle.laws.proofs.Keys.{parts-of}
 use Rattle.key.proofs.Bounding.{Bounding, begun, room, next-inside, more, ended}
 use borrow.Author.Needs.{needs}
 use Rattle.key.proofs.split_key.Statement.{statement}

@@ -25,6 +25,9 @@ up₄ c = c .before .before .before
 abbrev up₅ : tie.Else6 → tie.Else5
 up₅ c = c .before .before .before
 
+abbrev up₆ : tie.Else7 → tie.Else6
+up₆ c = c .before .before .before
+
 abbrev given : tie.Else1 → List ℕ
 given c = c .before .before .before .before .args .argument .now
 
@@ -46,6 +49,9 @@ not-rest c = sym (c .before .is-word5 .ensures) ∙ c .if5 .left
 
 not-missing : (c : tie.Else6) → same (given (up₁ (up₂ (up₃ (up₄ (up₅ c)))))) (ascii "--missing") ≡ false
 not-missing c = sym (c .before .is-word6 .ensures) ∙ c .if6 .left
+
+not-write : (c : tie.Else7) → same (given (up₁ (up₂ (up₃ (up₄ (up₅ (up₆ c))))))) (ascii "--write") ≡ false
+not-write c = sym (c .before .is-word7 .ensures) ∙ c .if7 .left
 
 returns : tie.Need-returns
 unfolding optionOf
@@ -86,14 +92,22 @@ returns-6 c =
 returns-7 : tie.Need-returns-7
 unfolding optionOf
 returns-7 c =
-    let m : tie.Else6 = c .before in
-    let e : tie.Else5 = up₅ m in
+    let e : tie.Else6 = c .before .before .before in
     rw
-    (not-file (up₁ (up₂ (up₃ (up₄ e)))), not-without (up₂ (up₃ (up₄ e))), not-status (up₃ (up₄ e)), not-help (up₄ e), not-rest e, not-missing m)
+    (not-file (up₁ (up₂ (up₃ (up₄ (up₅ e))))), not-without (up₂ (up₃ (up₄ (up₅ e)))), not-status (up₃ (up₄ (up₅ e))), not-help (up₄ (up₅ e)), not-rest (up₅ e), not-missing e, ← c .before .is-word7 .ensures, c .if7 .taken)
+    refl
+
+returns-8 : tie.Need-returns-8
+unfolding optionOf
+returns-8 c =
+    let w : tie.Else7 = c .before in
+    let e : tie.Else6 = up₆ w in
+    rw
+    (not-file (up₁ (up₂ (up₃ (up₄ (up₅ e))))), not-without (up₂ (up₃ (up₄ (up₅ e)))), not-status (up₃ (up₄ (up₅ e))), not-help (up₄ (up₅ e)), not-rest (up₅ e), not-missing e, not-write w)
     (c .chain-option .ensures)
 
 pub option-of-spec : {M : Type 1} → statement M
 option-of-spec =
     tie.close
     (tie.spec
-    (λ c. search needs) (λ c κs. search needs) returns (λ c. search needs) (λ c κs. search needs) returns-2 (λ c. search needs) (λ c κs. search needs) returns-3 (λ c. search needs) (λ c κs. search needs) returns-4 (λ c. search needs) (λ c κs. search needs) returns-5 (λ c. search needs) (λ c κs. search needs) returns-6 (λ c κs. search needs) returns-7)
+    (λ c. search needs) (λ c κs. search needs) returns (λ c. search needs) (λ c κs. search needs) returns-2 (λ c. search needs) (λ c κs. search needs) returns-3 (λ c. search needs) (λ c κs. search needs) returns-4 (λ c. search needs) (λ c κs. search needs) returns-5 (λ c. search needs) (λ c κs. search needs) returns-6 (λ c. search needs) (λ c κs. search needs) returns-7 (λ c κs. search needs) returns-8)

@@ -1,22 +1,17 @@
 -- `plans::settled` meets its contract. Assumes nothing.
-use borrow.Author.Tests.{eq-eqb, ne-eqb}
-use mathlib.Core.Path.{refl, _∙_}
-use Rattle.plans.specs.Plans.{inChain, settled}
+use mathlib.Core.Path.{refl, _∙_, ap}
+use Rattle.plans.specs.Plans.{unasked, settled}
 use borrow.Author.Needs.{needs}
 use Rattle.plans.proofs.settled.Statement.{statement}
 use Rattle.plans.proofs.settled.Tie as tie
 
 returns : tie.Need-returns
-unfolding settled inChain
-returns c = rw (c .before .before .before .before .if1 .taken, eq-eqb _ _ (c .if2 .taken)) refl
+unfolding settled
+returns c = c .unasked .ensures ∙ ap unasked (c .before .before .placed .ensures) ∙ rw (c .before .if1 .taken) refl
 
 returns-2 : tie.Need-returns-2
-unfolding settled inChain
-returns-2 c = c .misunderstood .ensures ∙ rw (c .before .before .before .before .before .before .if1 .taken, ne-eqb _ _ (c .before .before .if2 .left)) refl
-
-returns-3 : tie.Need-returns-3
 unfolding settled
-returns-3 c = rw (c .if1 .left) refl
+returns-2 c = c .before .placed .ensures ∙ rw (c .if1 .left) refl
 
 pub settled-spec : {M : Type 1} → statement M
-settled-spec = tie.close (tie.spec (λ c. search needs) (λ c. search needs) (λ c. search needs) (λ c. search needs) (λ c. search needs) (λ c. search needs) returns (λ c. search needs) (λ c κs. search needs) returns-2 returns-3)
+settled-spec = tie.close (tie.spec (λ c κs. search needs) (λ c κs. search needs) returns returns-2)

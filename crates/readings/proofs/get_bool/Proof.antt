@@ -4,7 +4,7 @@ use mathlib.Core.Option.{Option, some, none}
 use mathlib.Core.Path.{_≡_, sym, ap, _∙_}
 use Rattle.definition.specs.Lookup.{given, Place}
 use Rattle.definition.specs.Value.{toBool, replied, getString, getBool}
-use Rattle.interpret.specs.Readings.{booleanIn}
+use Rattle.booleans.specs.Readings.{booleanIn}
 use Rattle.readings.proofs.Readings.{read-refused, read-none, read-given, string-inside}
 use borrow.Author.Needs.{needs}
 use Rattle.readings.proofs.get_bool.Statement.{statement}

@@ -7,7 +7,7 @@ use mir.Syntax.{w64}
 use mir.Facts.{toZ-ofZ}
 use Rattle.definition.specs.Lookup.{given, Place}
 use Rattle.definition.specs.Value.{i64Of, numberOf, replied, getString, getValue}
-use Rattle.interpret.specs.Readings.{numberIn}
+use Rattle.integers.specs.Readings.{numberIn}
 use Rattle.readings.proofs.Readings.{read-refused, read-none, read-given, string-inside}
 use borrow.Author.Needs.{needs}
 use Rattle.readings.proofs.get_value.Statement.{statement}

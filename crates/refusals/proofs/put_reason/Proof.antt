@@ -47,11 +47,15 @@ returns-10 c = rw (c .before .before .before .before .before .match .keys10) (c 
 
 returns-11 : tie.Need-returns-11
 unfolding refusalOf
-returns-11 c =
-    let put11 = c .before .before in
-    let m5 = put11 .before .before .before in
+returns-11 c = rw (c .before .before .before .before .before .match .keys11) (c .before .before .put11 .ensures)
+
+returns-12 : tie.Need-returns-12
+unfolding refusalOf
+returns-12 c =
+    let put12 = c .before .before in
+    let m5 = put12 .before .before .before in
     let s = m5 .before .before in
-    rw (ne-eqb (s .args .number) 1 (m5 .match .rest .0 .0 .0 .0 .0 .0 .0 .0 .0 .1), ne-eqb (s .args .number) 2 (m5 .match .rest .0 .0 .0 .0 .0 .0 .0 .0 .1), ne-eqb (s .args .number) 3 (m5 .match .rest .0 .0 .0 .0 .0 .0 .0 .1), ne-eqb (s .args .number) 4 (m5 .match .rest .0 .0 .0 .0 .0 .0 .1), ne-eqb (s .args .number) 5 (m5 .match .rest .0 .0 .0 .0 .0 .1), ne-eqb (s .args .number) 6 (m5 .match .rest .0 .0 .0 .0 .1), ne-eqb (s .args .number) 7 (m5 .match .rest .0 .0 .0 .1), ne-eqb (s .args .number) 8 (m5 .match .rest .0 .0 .1), ne-eqb (s .args .number) 9 (m5 .match .rest .0 .1), ne-eqb (s .args .number) 10 (m5 .match .rest .1)) (put11 .put11 .ensures)
+    rw (ne-eqb (s .args .number) 1 (m5 .match .rest .0 .0 .0 .0 .0 .0 .0 .0 .0 .0 .1), ne-eqb (s .args .number) 2 (m5 .match .rest .0 .0 .0 .0 .0 .0 .0 .0 .0 .1), ne-eqb (s .args .number) 3 (m5 .match .rest .0 .0 .0 .0 .0 .0 .0 .0 .1), ne-eqb (s .args .number) 4 (m5 .match .rest .0 .0 .0 .0 .0 .0 .0 .1), ne-eqb (s .args .number) 5 (m5 .match .rest .0 .0 .0 .0 .0 .0 .1), ne-eqb (s .args .number) 6 (m5 .match .rest .0 .0 .0 .0 .0 .1), ne-eqb (s .args .number) 7 (m5 .match .rest .0 .0 .0 .0 .1), ne-eqb (s .args .number) 8 (m5 .match .rest .0 .0 .0 .1), ne-eqb (s .args .number) 9 (m5 .match .rest .0 .0 .1), ne-eqb (s .args .number) 10 (m5 .match .rest .0 .1), ne-eqb (s .args .number) 11 (m5 .match .rest .1)) (put12 .put12 .ensures)
 
 pub put-reason-spec : {M : Type 1} → statement M
 put-reason-spec =
@@ -61,7 +65,7 @@ put-reason-spec =
     (λ c κs. search needs) (λ c. search needs) (λ c κs. search needs) (λ c. search needs) (λ c κs. search needs)
     (λ c. search needs) (λ c κs. search needs) (λ c. search needs) (λ c κs. search needs) (λ c. search needs)
     (λ c κs. search needs) (λ c. search needs) (λ c κs. search needs) (λ c. search needs) (λ c κs. search needs)
-    (λ c. search needs) (λ c κs. search needs) (λ c. search needs) returns (λ c. search needs) returns-2 (λ c. search needs)
+    (λ c. search needs) (λ c κs. search needs) (λ c. search needs) (λ c κs. search needs) (λ c. search needs) returns (λ c. search needs) returns-2 (λ c. search needs)
     returns-3 (λ c. search needs) returns-4 (λ c. search needs) returns-5 (λ c. search needs) returns-6 (λ c. search needs)
     returns-7 (λ c. search needs) returns-8 (λ c. search needs) returns-9 (λ c. search needs) returns-10 (λ c. search needs)
-    returns-11)
+    returns-11 (λ c. search needs) returns-12)

@@ -30,7 +30,7 @@ put-requires-3 : tie.Need-put-requires-3
 put-requires-3 c κs = omega (arith, c .before .before .before .before .before .before .pre .2)
 
 refuse-requires : tie.Need-refuse-requires
-refuse-requires c κs = c .before .before .before .before .before .before .pre .2
+refuse-requires c κs = omega (arith, c .before .before .before .before .before .before .pre .2)
 
 returns : tie.Need-returns
 returns c =

@@ -1,0 +1,2 @@
+-- Laws of a database that getres writes out.
+pub mod Telling

@@ -1,0 +1,2 @@
+-- Laws of an entry's text.
+pub mod Texts

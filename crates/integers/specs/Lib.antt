@@ -1,0 +1,2 @@
+-- What the code's answers say of a value's bytes.
+pub mod Readings

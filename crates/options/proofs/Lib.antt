@@ -1,2 +1,0 @@
--- Laws of getres's options.
-pub mod Words

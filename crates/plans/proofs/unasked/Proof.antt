@@ -1,0 +1,16 @@
+-- `plans::unasked` meets its contract. Assumes nothing.
+use mathlib.Core.Path.{refl, _∙_}
+use Rattle.plans.specs.Plans.{unasked}
+use borrow.Author.Needs.{needs}
+use Rattle.plans.proofs.unasked.Statement.{statement}
+use Rattle.plans.proofs.unasked.Tie as tie
+
+returns : tie.Need-returns
+unfolding unasked
+returns c =
+    let second = c .before in
+    let first = second .before in
+    c .misunderstood2 .ensures ∙ rw (first .misunderstood .ensures, first .before .given .ensures, second .given2 .ensures) refl
+
+pub unasked-spec : {M : Type 1} → statement M
+unasked-spec = tie.close (tie.spec (λ c κs. search needs) (λ c κs. search needs) (λ c κs. search needs) (λ c κs. search needs) returns)

@@ -1,0 +1,3 @@
+-- Laws of the writing call.
+pub mod Sizes
+pub mod Texts
