@@ -1,5 +1,5 @@
 /*
- * X resource texts read into a database image, looked up in it, and written out again.
+ * X resource texts read into a database image, looked up and listed in it, added to it, and written out again.
  *
  * The functions stand in the static library libresource_manager.a, for x86-64 Linux. Their contracts, which
  * crates/resource_manager states and proves, are here in words. They allocate nothing, keep nothing between calls,
@@ -43,22 +43,23 @@ extern "C" {
 /* Includes nest this deep. A deeper one adds nothing, and is no refusal. */
 #define RESOURCE_MANAGER_DEPTH 100
 
-/* The low 16 bits of every answer. 1 to 11 are refusals, and then all higher bits are 0. */
+/* The low 16 bits of every answer. 1 to 12 are refusals, and then all higher bits are 0. */
 enum resource_manager_status {
     RESOURCE_MANAGER_OK = 0,
     RESOURCE_MANAGER_SHORT_BUFFERS = 1,      /* contents or bodies too short for an image */
-    RESOURCE_MANAGER_LONG_TEXT = 2,          /* main text, or a text that a start-up uses, too long */
+    RESOURCE_MANAGER_LONG_TEXT = 2,          /* main text, a text that a start-up uses, or an added text too long */
     RESOURCE_MANAGER_BAD_SHELF = 3,          /* shelf not laid out as below */
     RESOURCE_MANAGER_MANY_OPENS = 4,         /* too many included files opened */
     RESOURCE_MANAGER_MANY_ENTRY_PARTS = 5,   /* an entry has too many parts */
     RESOURCE_MANAGER_MANY_ENTRIES = 6,       /* too many entries */
     RESOURCE_MANAGER_FULL_STORE = 7,         /* keys and values too large in all */
-    RESOURCE_MANAGER_NO_IMAGE = 8,           /* the buffers of a lookup, or of a writing, hold no database image */
+    RESOURCE_MANAGER_NO_IMAGE = 8,           /* the buffers that a call lends hold no database image */
     RESOURCE_MANAGER_LONG_QUERY = 9,         /* name or class too long */
     RESOURCE_MANAGER_MANY_QUERY_PARTS = 10,  /* name or class of too many parts */
     RESOURCE_MANAGER_SHORT_TEXT_BUFFER = 11, /* the buffer of a writing is shorter than the text */
+    RESOURCE_MANAGER_NOT_ONE_ENTRY = 12,     /* the text of an addition makes no entry or more than one */
     RESOURCE_MANAGER_NOT_A_NUMBER = 65534,   /* get_value: the value is no 64-bit decimal number */
-    RESOURCE_MANAGER_NONE = 65535            /* no such value; of a comparing call: no such file */
+    RESOURCE_MANAGER_NONE = 65535            /* no such value; the end of a walk; of a comparing call: no such file */
 };
 
 /* The status of any answer. */
@@ -204,6 +205,73 @@ uint64_t resource_manager_write(const uint16_t *contents, size_t contents_count,
 static inline size_t resource_manager_written_of(uint64_t answer)
 {
     return (size_t)(answer >> 32);
+}
+
+/*
+ * A walk lists the entries that align with a query, lowest number first, a step at a time; numbers count from 0. Its state
+ * is the caller's: the number that it comes to next, and the entry count of the image when it began. Entries that are added
+ * meanwhile do not show in it: an entry shows in a walk that is begun after it.
+ *
+ *     uint16_t next, count;
+ *     uint64_t answer = resource_manager_walk_start(.., &next, &count);
+ *     if (resource_manager_status_of(answer) == RESOURCE_MANAGER_OK)
+ *         while (resource_manager_status_of(answer = resource_manager_walk_step(.., &next, count)) == RESOURCE_MANAGER_OK)
+ *             .. resource_manager_number_of(answer) ..
+ *
+ * Begins a walk: OK with 0 in *next and the image's entry count in *count, for a malformed query too; or refused by 8, 9
+ * or 10, with both as they were.
+ */
+uint64_t resource_manager_walk_start(const uint16_t *contents, size_t contents_count, const uint8_t *bodies,
+                                     size_t bodies_count, const uint8_t *name, size_t name_count,
+                                     const uint8_t *class_name, size_t class_count, uint16_t *next, uint16_t *count);
+
+/*
+ * A step of a walk: OK with the least number of an entry that aligns, not below *next and below both count and the image's
+ * own entry count, and *next is then one more than that number; or NONE at the end, which a malformed query is at always;
+ * or refused by 8, 9 or 10. With NONE and with a refusal *next is as it was. Every *next and count are taken.
+ */
+uint64_t resource_manager_walk_step(const uint16_t *contents, size_t contents_count, const uint8_t *bodies,
+                                    size_t bodies_count, const uint8_t *name, size_t name_count,
+                                    const uint8_t *class_name, size_t class_count, uint16_t *next, uint16_t count);
+
+/*
+ * Adds a line to a database image: the entry that the text makes, read with a shelf of no files, behind those that are
+ * there. Comments, includes, and lines that are no resource may stand beside it.
+ *
+ * OK: the entry's number is in the answer. Its row of three words, the bytes of its key and its value, and the first two
+ * words of contents are written, and nothing else is: what stood behind the image stays there.
+ * Refused, the first that holds: 8; 2; 12 if the text makes no entry or more than one, whatever they are; 5 if the entry
+ * has too many parts; 6 or 7 if the image has no room for it. Both buffers are as they were.
+ */
+uint64_t resource_manager_add(uint16_t *contents, size_t contents_count, uint8_t *bodies, size_t bodies_count,
+                              const uint8_t *text, size_t text_count);
+
+/* The number of the entry that a step came to, or that was added. */
+static inline size_t resource_manager_number_of(uint64_t answer)
+{
+    return (size_t)(answer >> 16);
+}
+
+/* The key of an entry of an image that holds it: where it stands in the bodies, each part with '.' or '*' before it. */
+static inline struct resource_manager_bytes resource_manager_key_of(const uint16_t *contents, const uint8_t *bodies,
+                                                                    size_t number)
+{
+    const uint16_t *row = contents + 2 + 3 * number;
+    struct resource_manager_bytes key;
+    key.start = bodies + row[0];
+    key.count = row[1];
+    return key;
+}
+
+/* The value of an entry of an image that holds it. */
+static inline struct resource_manager_bytes resource_manager_value_of(const uint16_t *contents, const uint8_t *bodies,
+                                                                      size_t number)
+{
+    const uint16_t *row = contents + 2 + 3 * number;
+    struct resource_manager_bytes value;
+    value.start = bodies + row[0] + row[1];
+    value.count = row[2];
+    return value;
 }
 
 /*

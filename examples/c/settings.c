@@ -1,5 +1,6 @@
 /*
- * Reads a text of X resources with a shelf of two files, looks values up, and writes all settings out as one text.
+ * Reads a text of X resources with a shelf of two files, looks values up, lists the entries of a settings page while a
+ * line is added, and writes all settings out as one text.
  *
  *     rt staticlib resource_manager
  *     cc -std=c99 -I include examples/c/settings.c -L target/staticlib -lresource_manager -o settings
@@ -137,6 +138,43 @@ static void show_number(const char *name, const char *class_name)
     }
 }
 
+static void add(const char *line)
+{
+    uint64_t answer = resource_manager_add(contents, RESOURCE_MANAGER_CONTENTS_WORDS, bodies,
+                                           RESOURCE_MANAGER_BODIES_BYTES, bytes_of(line), strlen(line));
+    if (resource_manager_status_of(answer) == RESOURCE_MANAGER_OK) {
+        printf("added as entry %zu: %s\n", resource_manager_number_of(answer), line);
+    } else {
+        printf("refused %d: %s\n", (int)resource_manager_status_of(answer), line);
+    }
+}
+
+/* A settings page: each entry that aligns with the query. A line that is added after its first entry shows in the next page. */
+static void show_page(const char *name, const char *class_name, const char *line)
+{
+    uint16_t next, count;
+    uint64_t answer = resource_manager_walk_start(contents, RESOURCE_MANAGER_CONTENTS_WORDS, bodies,
+                                                  RESOURCE_MANAGER_BODIES_BYTES, bytes_of(name), strlen(name),
+                                                  bytes_of(class_name), strlen(class_name), &next, &count);
+    printf("%s, as a page:\n", name);
+    while (resource_manager_status_of(answer) == RESOURCE_MANAGER_OK) {
+        answer = resource_manager_walk_step(contents, RESOURCE_MANAGER_CONTENTS_WORDS, bodies,
+                                            RESOURCE_MANAGER_BODIES_BYTES, bytes_of(name), strlen(name),
+                                            bytes_of(class_name), strlen(class_name), &next, count);
+        if (resource_manager_status_of(answer) == RESOURCE_MANAGER_OK) {
+            size_t number = resource_manager_number_of(answer);
+            struct resource_manager_bytes key = resource_manager_key_of(contents, bodies, number);
+            struct resource_manager_bytes value = resource_manager_value_of(contents, bodies, number);
+            printf("%zu %.*s: %.*s\n", number, (int)key.count, (const char *)key.start, (int)value.count,
+                   (const char *)value.start);
+        }
+        if (line != NULL) {
+            add(line);
+            line = NULL;
+        }
+    }
+}
+
 static void write_out(void)
 {
     uint64_t answer = resource_manager_write(contents, RESOURCE_MANAGER_CONTENTS_WORDS, bodies,
@@ -181,6 +219,8 @@ int main(void)
     show_number("reader.font.size", "Reader.Font.Size");
     show_number("reader.font.family", "Reader.Font.Family");
     show_number("a.a.a.a.a.a.a.a.a.a.a.a.a.a.a.a.a.a.a.a.a.a.a.a.a.a.a.a.a.a.a.a.a", "");
+    show_page("reader.search.range", "Reader.Search.Range", "*range: page");
+    show_page("reader.search.range", "Reader.Search.Range", "no resource");
     write_out();
     return 0;
 }

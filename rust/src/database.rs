@@ -1,17 +1,17 @@
-//! A database: read from a text, looked up, and written out.
+//! A database: read from a text, looked up, listed, added to, and written out.
 
 use crate::error::{Error, NotANumber, ValueError};
 use crate::ffi::{self, Image, ImageMut, Question, Room};
 use crate::limits::{BODIES_BYTES, CONTENTS_WORDS, WRITTEN_BYTES};
-use crate::Archive;
+use crate::{Aligned, Archive, Walk};
 use std::fmt;
 use std::io;
 use std::slice::ChunksExact;
 use std::str::FromStr;
 
 /// The low 16 bits of an answer that is a value, and of one that is none.
-const FOUND: u64 = 0;
-const NONE: u64 = 65_535;
+pub(crate) const FOUND: u64 = 0;
+pub(crate) const NONE: u64 = 65_535;
 /// Of `get_value`: there is a value, and it is not a number.
 const NOT_A_NUMBER: u64 = 65_534;
 
@@ -19,8 +19,8 @@ const NOT_A_NUMBER: u64 = 65_534;
 ///
 /// It is made from a text by [`new_from_data`](Self::new_from_data), with files for its includes by
 /// [`new_from_data_with_archive`](Self::new_from_data_with_archive), or from the default places of X by
-/// [`new_from_default`](Self::new_from_default), and written out again by [`to_text`](Self::to_text). It owns its memory, some 35
-/// kilobytes.
+/// [`new_from_default`](Self::new_from_default). Lines are added by [`add`](Self::add), and all of it is written out again by
+/// [`to_text`](Self::to_text). It owns its memory, some 35 kilobytes.
 ///
 /// # Queries
 ///
@@ -32,7 +32,7 @@ const NOT_A_NUMBER: u64 = 65_534;
 /// A query over [`QUERY_BYTES`](crate::limits::QUERY_BYTES) or [`QUERY_PARTS`](crate::limits::QUERY_PARTS) is refused, and
 /// that is not the same as finding nothing. The `get_` methods have the shape of x11rb's, with no room for a refusal:
 /// there it is a panic. A program whose queries are constants uses these. One whose queries are made as it runs uses the
-/// `try_get_` methods, which return the refusal.
+/// `try_get_` methods, which return the refusal. It is the same with [`aligned`](Self::aligned) and [`walk`](Self::walk).
 #[derive(Clone)]
 pub struct Database {
     contents: Box<[u16]>,
@@ -252,6 +252,89 @@ impl Database {
         Entries { rows: self.contents[2..2 + 3 * count].chunks_exact(3), bodies: &self.bodies }
     }
 
+    /// The entry of a number, from 0, in the order in which they were read and added; none if there are no more than so many.
+    ///
+    /// ```
+    /// # use resource_manager::{Database, Entry};
+    /// let database = Database::new_from_data(b"a.b: x\n*c: yes")?;
+    /// assert_eq!(database.entry(1), Some(Entry { key: b"*c", value: b"yes" }));
+    /// assert_eq!(database.entry(2), None);
+    /// # Ok::<(), resource_manager::Error>(())
+    /// ```
+    pub fn entry(&self, number: usize) -> Option<Entry<'_>> {
+        self.entries().nth(number)
+    }
+
+    /// The entries that align with a query, lowest number first, each with its number: all that a settings page would list, and
+    /// not only the one whose value counts.
+    ///
+    /// The database is borrowed meanwhile. To list while lines are added, begin a [`walk`](Self::walk).
+    ///
+    /// ```
+    /// # use resource_manager::Database;
+    /// let database = Database::new_from_data(b"*range: page\nreader.font: Serif\nreader*range: book")?;
+    /// let listed: Vec<String> =
+    ///     database.aligned("reader.search.range", "").map(|(number, entry)| format!("{number} {entry:?}")).collect();
+    /// assert_eq!(listed, ["0 \"*range: page\"", "2 \".reader*range: book\""]);
+    /// assert_eq!(database.get_string("reader.search.range", ""), Some("book"));
+    /// # Ok::<(), resource_manager::Error>(())
+    /// ```
+    ///
+    /// # Panics
+    ///
+    /// If the query is [refused](Self#refused-lookups).
+    #[track_caller]
+    pub fn aligned(&self, resource_name: &str, resource_class: &str) -> Aligned<'_> {
+        unrefused(self.try_aligned(resource_name, resource_class))
+    }
+
+    /// As [`aligned`](Self::aligned), with the refusal if the query is refused.
+    pub fn try_aligned(&self, resource_name: &str, resource_class: &str) -> Result<Aligned<'_>, Error> {
+        Ok(Aligned { walk: self.try_walk(resource_name, resource_class)?, database: self })
+    }
+
+    /// Begins a walk over the entries that align with a query, which goes on while lines are added: see [`Walk`].
+    ///
+    /// # Panics
+    ///
+    /// If the query is [refused](Self#refused-lookups).
+    #[track_caller]
+    pub fn walk(&self, resource_name: &str, resource_class: &str) -> Walk {
+        unrefused(self.try_walk(resource_name, resource_class))
+    }
+
+    /// As [`walk`](Self::walk), with the refusal if the query is refused.
+    pub fn try_walk(&self, resource_name: &str, resource_class: &str) -> Result<Walk, Error> {
+        Walk::begin(self, resource_name, resource_class)
+    }
+
+    /// Adds a line: the entry that a text makes is put behind those of the database, and its number is returned. An include finds
+    /// nothing. Comments, and lines that are no resource, may stand beside the entry.
+    ///
+    /// ```
+    /// # use resource_manager::{Database, Error};
+    /// let mut database = Database::new_from_data(b"*size: 12")?;
+    /// assert_eq!(database.add(b"! larger print\nreader*size: 18"), Ok(1));
+    /// assert_eq!(database.get_string("reader.font.size", ""), Some("18"));
+    /// assert_eq!(database.add(b"*size: 12\n*size: 18"), Err(Error::NotOneEntry));
+    /// assert_eq!(database.add(b"not a resource"), Err(Error::NotOneEntry));
+    /// # Ok::<(), Error>(())
+    /// ```
+    ///
+    /// # Errors
+    ///
+    /// The database is then as it was. Of these the first that holds: [`LongText`](Error::LongText);
+    /// [`NotOneEntry`](Error::NotOneEntry) for no entry or more than one, whatever they are;
+    /// [`ManyEntryParts`](Error::ManyEntryParts); [`ManyEntries`](Error::ManyEntries) or [`FullStore`](Error::FullStore) if the
+    /// database has no room for it.
+    pub fn add(&mut self, text: &[u8]) -> Result<usize, Error> {
+        let answer = ffi::add(self.image_mut(), text);
+        if answer & 0xFFFF != FOUND {
+            return Err(Error::of_answer(answer));
+        }
+        Ok((answer >> 16) as usize)
+    }
+
     /// How many times the reading read an included file.
     pub fn opens(&self) -> usize {
         self.opens
@@ -366,7 +449,7 @@ impl Database {
         ImageMut { contents: &mut self.contents, bodies: &mut self.bodies }
     }
 
-    fn image(&self) -> Image<'_> {
+    pub(crate) fn image(&self) -> Image<'_> {
         Image { contents: &self.contents, bodies: &self.bodies }
     }
 
@@ -431,10 +514,11 @@ impl<'a> Iterator for Entries<'a> {
     type Item = Entry<'a>;
 
     fn next(&mut self) -> Option<Entry<'a>> {
-        let row = self.rows.next()?;
-        let [start, key, value] = [row[0], row[1], row[2]].map(usize::from);
-        let (key, value) = self.bodies[start..start + key + value].split_at(key);
-        Some(Entry { key, value })
+        self.rows.next().map(|row| Entry::of(row, self.bodies))
+    }
+
+    fn nth(&mut self, n: usize) -> Option<Entry<'a>> {
+        self.rows.nth(n).map(|row| Entry::of(row, self.bodies))
     }
 
     fn size_hint(&self) -> (usize, Option<usize>) {
@@ -451,6 +535,15 @@ pub struct Entry<'a> {
     pub key: &'a [u8],
     /// The value, with its escapes undone.
     pub value: &'a [u8],
+}
+
+impl<'a> Entry<'a> {
+    /// The entry of a row: its start, and the lengths of its key and of its value.
+    fn of(row: &[u16], bodies: &'a [u8]) -> Self {
+        let [start, key, value] = [row[0], row[1], row[2]].map(usize::from);
+        let (key, value) = bodies[start..start + key + value].split_at(key);
+        Self { key, value }
+    }
 }
 
 impl fmt::Debug for Entry<'_> {

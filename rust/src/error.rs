@@ -4,13 +4,13 @@ use crate::limits;
 use std::error;
 use std::fmt;
 
-/// Why a reading, a lookup or a writing was refused. Each refusal has a number, the same in every language.
+/// Why a reading, a lookup, a walk, an addition or a writing was refused. Each refusal has a number, the same in every language.
 #[derive(Clone, Copy, Debug, PartialEq, Eq, Hash)]
 #[repr(u8)]
 pub enum Error {
     /// The buffers of a reading are too short. The buffers of a [`Database`](crate::Database) never are.
     ShortBuffers = 1,
-    /// The text has more than [`TEXT_BYTES`](limits::TEXT_BYTES): a main text, or one that a start-up uses.
+    /// The text has more than [`TEXT_BYTES`](limits::TEXT_BYTES): a main text, one that a start-up uses, or one that is added.
     LongText = 2,
     /// The archive is not laid out as one. An [`Archive`](crate::Archive) always is.
     BadArchive = 3,
@@ -22,7 +22,7 @@ pub enum Error {
     ManyEntries = 6,
     /// Keys and values have more than [`BODIES_BYTES`](limits::BODIES_BYTES).
     FullStore = 7,
-    /// The buffers of a lookup or of a writing hold no database. Those of a [`Database`](crate::Database) always do.
+    /// The buffers hold no database. Those of a [`Database`](crate::Database) always do.
     NoImage = 8,
     /// The name or the class of a query has more than [`QUERY_BYTES`](limits::QUERY_BYTES).
     LongQuery = 9,
@@ -30,9 +30,11 @@ pub enum Error {
     ManyQueryParts = 10,
     /// The buffer of a writing is shorter than the text. That of [`Database::to_text`](crate::Database::to_text) never is.
     ShortTextBuffer = 11,
+    /// The text of an addition makes no entry, or more than one: see [`Database::add`](crate::Database::add).
+    NotOneEntry = 12,
 }
 
-const ALL: [Error; 11] = [
+const ALL: [Error; 12] = [
     Error::ShortBuffers,
     Error::LongText,
     Error::BadArchive,
@@ -44,10 +46,11 @@ const ALL: [Error; 11] = [
     Error::LongQuery,
     Error::ManyQueryParts,
     Error::ShortTextBuffer,
+    Error::NotOneEntry,
 ];
 
 impl Error {
-    /// The refusal's number, 1 to 11.
+    /// The refusal's number, 1 to 12.
     pub fn number(self) -> u8 {
         self as u8
     }
@@ -77,6 +80,7 @@ impl fmt::Display for Error {
             Error::LongQuery => write!(f, "a query whose name or class has more than {} bytes", limits::QUERY_BYTES),
             Error::ManyQueryParts => write!(f, "a query whose name or class has more than {} parts", limits::QUERY_PARTS),
             Error::ShortTextBuffer => write!(f, "a buffer that is shorter than the text"),
+            Error::NotOneEntry => write!(f, "a text to be added that makes no entry or more than one"),
         }?;
         write!(f, " (refused by {})", self.number())
     }
@@ -136,8 +140,8 @@ mod tests {
     }
 
     #[test]
-    #[should_panic(expected = "gave 12, which is no answer")]
+    #[should_panic(expected = "gave 13, which is no answer")]
     fn no_other_number_is_a_refusal() {
-        Error::of_answer(12);
+        Error::of_answer(13);
     }
 }

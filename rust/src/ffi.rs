@@ -101,6 +101,41 @@ extern "C" {
         text_count: usize,
     ) -> u64;
 
+    fn resource_manager_walk_start(
+        contents: *const u16,
+        contents_count: usize,
+        bodies: *const u8,
+        bodies_count: usize,
+        name: *const u8,
+        name_count: usize,
+        class: *const u8,
+        class_count: usize,
+        next: *mut u16,
+        count: *mut u16,
+    ) -> u64;
+
+    fn resource_manager_walk_step(
+        contents: *const u16,
+        contents_count: usize,
+        bodies: *const u8,
+        bodies_count: usize,
+        name: *const u8,
+        name_count: usize,
+        class: *const u8,
+        class_count: usize,
+        next: *mut u16,
+        count: u16,
+    ) -> u64;
+
+    fn resource_manager_add(
+        contents: *mut u16,
+        contents_count: usize,
+        bodies: *mut u8,
+        bodies_count: usize,
+        text: *const u8,
+        text_count: usize,
+    ) -> u64;
+
     fn resource_manager_compare_without(
         text: *const u8,
         text_count: usize,
@@ -332,6 +367,61 @@ pub(crate) fn write(Image { contents, bodies }: Image, text: &mut [u8]) -> u64 {
     // SAFETY: as for the lookups; `text` is borrowed for writing, and is all that the call writes.
     unsafe {
         resource_manager_write(contents.as_ptr(), contents.len(), bodies.as_ptr(), bodies.len(), text.as_mut_ptr(), text.len())
+    }
+}
+
+/// The state of a walk: the number that it comes to next, and the entry count from its start.
+#[derive(Clone, Copy, Debug, Default, PartialEq, Eq)]
+pub(crate) struct State {
+    pub next: u16,
+    pub count: u16,
+}
+
+/// 0 with the state of a walk that begins; or the refusal's number, with the state as it was.
+pub(crate) fn walk_start(Image { contents, bodies }: Image, name: &[u8], class: &[u8], state: &mut State) -> u64 {
+    // SAFETY: as for the lookups; both numbers of the state are borrowed for writing.
+    unsafe {
+        resource_manager_walk_start(
+            contents.as_ptr(),
+            contents.len(),
+            bodies.as_ptr(),
+            bodies.len(),
+            name.as_ptr(),
+            name.len(),
+            class.as_ptr(),
+            class.len(),
+            &mut state.next,
+            &mut state.count,
+        )
+    }
+}
+
+/// 0 in bits 0 to 15 and the entry's number from bit 16 on, with one more in the state; or, with the state as it was, 65535 at the
+/// end, or the refusal's number.
+pub(crate) fn walk_step(Image { contents, bodies }: Image, name: &[u8], class: &[u8], state: &mut State) -> u64 {
+    // SAFETY: as for the lookups; the next number is borrowed for writing.
+    unsafe {
+        resource_manager_walk_step(
+            contents.as_ptr(),
+            contents.len(),
+            bodies.as_ptr(),
+            bodies.len(),
+            name.as_ptr(),
+            name.len(),
+            class.as_ptr(),
+            class.len(),
+            &mut state.next,
+            state.count,
+        )
+    }
+}
+
+/// 0 in bits 0 to 15 and the new entry's number from bit 16 on; or the refusal's number, with both buffers as they were.
+pub(crate) fn add(ImageMut { contents, bodies }: ImageMut, text: &[u8]) -> u64 {
+    // SAFETY: each pointer and count are those of a slice that is borrowed for the call, the first two for writing. The call is
+    // proved to stay within them and to keep nothing.
+    unsafe {
+        resource_manager_add(contents.as_mut_ptr(), contents.len(), bodies.as_mut_ptr(), bodies.len(), text.as_ptr(), text.len())
     }
 }
 
@@ -575,7 +665,61 @@ mod tests {
         }
     }
 
+    /// A walk from any state, with what it leaves.
+    fn stepped(image: Image, name: &[u8], next: u16, count: u16) -> (u64, u16) {
+        let mut state = State { next, count };
+        let answer = walk_step(image, name, b"", &mut state);
+        assert_eq!(state.count, count);
+        (answer, state.next)
+    }
+
+    #[test]
+    fn a_walk_from_any_state() {
+        let (mut contents, mut bodies) = buffers(CONTENTS_WORDS, BODIES_BYTES);
+        assert_eq!(read(b"a:\nb:\n*a:", NO_FILES, &mut contents, &mut bodies), 3 << 16);
+        let image = Image { contents: &contents, bodies: &bodies };
+        let mut state = State { next: 7, count: 7 };
+        assert_eq!((walk_start(image, b"a", b"", &mut state), state), (0, State { next: 0, count: 3 }));
+        assert_eq!(stepped(image, b"a", 0, 3), (0, 1));
+        assert_eq!(stepped(image, b"a", 1, u16::MAX), (2 << 16, 3));
+        for (next, count) in [(1, 2), (3, 3), (0, 0), (3, u16::MAX), (u16::MAX, u16::MAX)] {
+            assert_eq!(stepped(image, b"a", next, count), (65_535, next));
+        }
+        let mut state = State { next: 7, count: 7 };
+        for (name, number) in [(vec![b'a'; 1_025], 9), (b"a.".repeat(33), 10)] {
+            assert_eq!((walk_start(image, &name, b"", &mut state), state), (number, State { next: 7, count: 7 }));
+            assert_eq!(stepped(image, &name, 1, 3), (number, 1));
+        }
+    }
+
+    #[test]
+    fn an_addition_in_buffers_just_long_enough_and_longer() {
+        for more in [0, 1, 100] {
+            let (mut contents, mut bodies) = buffers(CONTENTS_WORDS + more, BODIES_BYTES + more);
+            (contents[0], contents[1]) = (0, 0);
+            let mut add = |text: &[u8]| add(ImageMut { contents: &mut contents, bodies: &mut bodies }, text);
+            assert_eq!(add(b"a:1"), 0);
+            assert_eq!(add(b"*b:22"), 1 << 16);
+            assert_eq!(add(b"a:1\nb:"), 12);
+            let (mut words, mut bytes) = buffers(CONTENTS_WORDS + more, BODIES_BYTES + more);
+            words[..8].copy_from_slice(&[2, 7, 0, 2, 1, 3, 2, 2]);
+            bytes[..7].copy_from_slice(b".a1*b22");
+            assert_eq!((contents, bodies), (words, bytes));
+        }
+    }
+
+    /// Neither is a walk begun, nor does it go on, nor is anything added.
+    fn no_image_to_walk(image: Image) {
+        let mut state = State { next: 7, count: 7 };
+        assert_eq!((walk_start(image, b"a", b"", &mut state), state), (8, State { next: 7, count: 7 }));
+        assert_eq!(stepped(image, b"a", 0, 7), (8, 0));
+        let (mut contents, mut bodies) = (image.contents.to_vec(), image.bodies.to_vec());
+        assert_eq!(add(ImageMut { contents: &mut contents, bodies: &mut bodies }, b"a:1"), 8);
+        assert_eq!((&contents[..], &bodies[..]), (image.contents, image.bodies));
+    }
+
     fn no_image(image: Image) {
+        no_image_to_walk(image);
         let mut text = [0xA5; 3];
         assert_eq!((write(image, &mut text), text), (8, [0xA5; 3]));
         assert_eq!(write(image, &mut []), 8);

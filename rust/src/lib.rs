@@ -28,8 +28,10 @@
 //! What x11rb has no limits for has [`limits`] here, and what is past them is refused by an [`Error`]. A reading returns
 //! it. A lookup panics with it, or returns it from the `try_get_` methods: it never passes for "no value". No included file
 //! is opened: what a text includes is in an [`Archive`]. [`Database::new_from_default`] opens the files of the default
-//! places, as x11rb does, and [`StartUp::texts`] says which of these texts count. [`Database::to_text`] and
-//! [`Database::write_to`], which x11rb has not, write a database out as a text.
+//! places, as x11rb does, and [`StartUp::texts`] says which of these texts count.
+//!
+//! What x11rb has not: [`Database::aligned`] lists every entry that aligns with a query, and a [`Walk`] does so while
+//! [`Database::add`] adds lines; [`Database::to_text`] and [`Database::write_to`] write a database out as a text.
 //!
 //! # Proved, and not
 //!
@@ -51,12 +53,14 @@ mod error;
 mod ffi;
 pub mod limits;
 mod start_up;
+mod walk;
 
 pub use archive::{Archive, ArchiveError, ArchiveErrorKind};
 pub use database::{Comparison, Database, Entries, Entry};
 pub use directory::DirectoryError;
 pub use error::{Error, NotANumber, ValueError};
 pub use start_up::{GetPropertyReply, Source, StartUp};
+pub use walk::{Aligned, Walk};
 
 /// The example of the README is a test too.
 #[cfg(doctest)]

@@ -19,6 +19,7 @@
 /* Where the room for each thing that is lent ends. */
 static uint8_t *text_end, *second_end, *shelf_end, *contents_end, *bodies_end, *name_end, *class_end;
 static uint8_t *struck_end, *contents_without_end, *bodies_without_end, *default_end, *written_end;
+static uint8_t *next_end, *count_end;
 static size_t text_count, second_count, shelf_count;
 static size_t contents_count = RESOURCE_MANAGER_CONTENTS_WORDS, bodies_count = RESOURCE_MANAGER_BODIES_BYTES;
 static int checks;
@@ -260,8 +261,48 @@ static uint64_t show(const uint16_t *contents, size_t words, const uint8_t *bodi
     return answer;
 }
 
+/* The state of a walk ends at fences too. */
+static uint16_t *lent_next(void)
+{
+    return (uint16_t *)(void *)next_end - 1;
+}
+
+static uint16_t *lent_count(void)
+{
+    return (uint16_t *)(void *)count_end - 1;
+}
+
+static void set_state(size_t next, size_t count)
+{
+    *lent_next() = (uint16_t)next;
+    *lent_count() = (uint16_t)count;
+}
+
+/* resource_manager_walk_start in the shape of the others. */
+static uint64_t walk_start(const uint16_t *contents, size_t words, const uint8_t *bodies, size_t bytes,
+                           const uint8_t *name, size_t name_count, const uint8_t *class_name, size_t class_count)
+{
+    return resource_manager_walk_start(contents, words, bodies, bytes, name, name_count, class_name, class_count,
+                                       lent_next(), lent_count());
+}
+
+/* resource_manager_walk_step in the shape of the others, from the state that is lent, which moves with a number alone. */
+static uint64_t walk_step(const uint16_t *contents, size_t words, const uint8_t *bodies, size_t bytes,
+                          const uint8_t *name, size_t name_count, const uint8_t *class_name, size_t class_count)
+{
+    uint16_t before = *lent_next();
+    uint64_t answer = resource_manager_walk_step(contents, words, bodies, bytes, name, name_count, class_name,
+                                                 class_count, lent_next(), *lent_count());
+    if (resource_manager_status_of(answer) == RESOURCE_MANAGER_OK) {
+        expect("the next number", *lent_next(), resource_manager_number_of(answer) + 1);
+    } else {
+        expect("a next number that stays", *lent_next(), before);
+    }
+    return answer;
+}
+
 static lookup *const lookups[] = {resource_manager_get_bytes, resource_manager_get_string, resource_manager_get_bool,
-                                  get_value, show};
+                                  get_value, show, walk_step};
 
 /* How much too short the buffers of a comparison are that no other call takes. */
 static size_t short_struck, short_contents, short_bodies;
@@ -463,6 +504,7 @@ static void queries(void)
     set_shelf(NULL, 0);
     set_text("", 0, "b:1");
     expect("a reading", read_it(), accepted(1, 0));
+    set_state(0, 65535);
     for (n = 0; n < sizeof lookups / sizeof lookups[0]; n++) {
         expect("the longest name", ask(lookups[n], longest, ""), RESOURCE_MANAGER_NONE);
         expect("a longer name", ask(lookups[n], longer, ""), RESOURCE_MANAGER_LONG_QUERY);
@@ -721,6 +763,261 @@ static void writings(void)
     no_images_written();
 }
 
+/* ---- Walks */
+
+#define UNTOUCHED 7777
+
+static void begins(const char *name, const char *class_name, size_t count)
+{
+    set_state(UNTOUCHED, UNTOUCHED);
+    expect("a walk begins", ask(walk_start, name, class_name), RESOURCE_MANAGER_OK);
+    expect("its next number", *lent_next(), 0);
+    expect("its count", *lent_count(), count);
+}
+
+/* A start that is refused leaves both numbers. */
+static void begins_not(const char *what, const char *name, const char *class_name, uint64_t wanted)
+{
+    set_state(UNTOUCHED, UNTOUCHED);
+    expect(what, ask(walk_start, name, class_name), wanted);
+    expect("a next number that stays", *lent_next(), UNTOUCHED);
+    expect("a count that stays", *lent_count(), UNTOUCHED);
+}
+
+/* A step from a state of its own. */
+static void steps(size_t next, size_t count, const char *name, uint64_t wanted)
+{
+    set_state(next, count);
+    expect("a step", ask(walk_step, name, ""), wanted);
+}
+
+static uint64_t numbered(size_t number_of_entry)
+{
+    return (uint64_t)number_of_entry << 16;
+}
+
+static void walk_states(void)
+{
+    const size_t most = 65535;
+    size_t n;
+    set_shelf(NULL, 0);
+    set_text("", 0, "a.b:0\n*b:1\nc:2\na*b:3\n?.b:4");
+    expect("a reading", read_it(), accepted(5, 0));
+    begins("a.b", "", 5);
+    for (n = 0; n < 5; n++) {
+        if (n != 2) {
+            expect("a step", ask(walk_step, "a.b", ""), numbered(n));
+        }
+    }
+    expect("the end", ask(walk_step, "a.b", ""), RESOURCE_MANAGER_NONE);
+    expect("the end again", ask(walk_step, "a.b", ""), RESOURCE_MANAGER_NONE);
+    begins("", "x.b", 5);
+    expect("a step by class", ask(walk_step, "", "x.b"), numbered(1));
+    steps(2, most, "a.b", numbered(3));
+    steps(2, 4, "a.b", numbered(3));
+    steps(2, 3, "a.b", RESOURCE_MANAGER_NONE);
+    steps(0, 0, "a.b", RESOURCE_MANAGER_NONE);
+    steps(5, most, "a.b", RESOURCE_MANAGER_NONE);
+    steps(most, most, "a.b", RESOURCE_MANAGER_NONE);
+    steps(most, 5, "a.b", RESOURCE_MANAGER_NONE);
+    begins(".a", "", 5);
+    expect("a malformed query", ask(walk_step, ".a", ""), RESOURCE_MANAGER_NONE);
+}
+
+/* 8, 9, malformed, 10, as a lookup. */
+static void walks_refused(void)
+{
+    const char *longer = repeated("", 'a', RESOURCE_MANAGER_QUERY_BYTES + 1, "");
+    const char *more = parts(RESOURCE_MANAGER_QUERY_PARTS + 1, "");
+    begins(repeated("", 'a', RESOURCE_MANAGER_QUERY_BYTES, ""), parts(RESOURCE_MANAGER_QUERY_PARTS, ""), 5);
+    begins_not("a longer name", longer, "", RESOURCE_MANAGER_LONG_QUERY);
+    begins_not("a longer class", ".a", longer, RESOURCE_MANAGER_LONG_QUERY);
+    begins_not("a part more", more, "", RESOURCE_MANAGER_MANY_QUERY_PARTS);
+    begins_not("a part more in the class", "", more, RESOURCE_MANAGER_MANY_QUERY_PARTS);
+    begins(".a", more, 5);
+    contents_count--;
+    begins_not("contents one word short", longer, "", RESOURCE_MANAGER_NO_IMAGE);
+    contents_count++;
+    bodies_count--;
+    begins_not("bodies one byte short", ".a", "", RESOURCE_MANAGER_NO_IMAGE);
+    bodies_count++;
+    lent_contents()[0] = RESOURCE_MANAGER_ENTRIES + 1;
+    begins_not("no image", "a", "", RESOURCE_MANAGER_NO_IMAGE);
+}
+
+static void longest_walk(void)
+{
+    size_t n;
+    set_shelf(NULL, 0);
+    set_text("a:\n", RESOURCE_MANAGER_ENTRIES, "");
+    expect("the most entries", read_it(), accepted(RESOURCE_MANAGER_ENTRIES, 0));
+    begins("a", "", RESOURCE_MANAGER_ENTRIES);
+    for (n = 0; n < RESOURCE_MANAGER_ENTRIES; n++) {
+        expect("a step", ask(walk_step, "a", ""), numbered(n));
+    }
+    expect("the end", ask(walk_step, "a", ""), RESOURCE_MANAGER_NONE);
+}
+
+/* ---- Additions */
+
+static uint16_t words_before[RESOURCE_MANAGER_CONTENTS_WORDS];
+static uint8_t bytes_before[RESOURCE_MANAGER_BODIES_BYTES];
+
+/* The bytes of two slices are the same. */
+static void stays(const char *what, const void *now, const void *before, size_t count)
+{
+    expect(what, (uint64_t)memcmp(now, before, count), 0);
+}
+
+/* All that an addition must leave: both buffers but for a row, its bytes and the first two words. */
+static void else_as_it_was(size_t entry)
+{
+    const uint16_t *contents = lent_contents();
+    const uint8_t *bodies = lent_bodies();
+    size_t row = 2 + 3 * entry, used = words_before[1], end = contents[1];
+    expect("the number is the old count", entry, words_before[0]);
+    expect("the new count", contents[0], entry + 1);
+    expect("where the entry starts", contents[row], used);
+    expect("where it ends", used + contents[row + 1] + contents[row + 2], end);
+    stays("the rows before", contents + 2, words_before + 2, 2 * (row - 2));
+    stays("what is behind its row", contents + row + 3, words_before + row + 3, 2 * (contents_count - row - 3));
+    stays("the bytes before", bodies, bytes_before, used);
+    stays("what is behind its bytes", bodies + end, bytes_before + end, bodies_count - end);
+}
+
+/* Adds the text to the image. A refusal leaves every word and byte. */
+static uint64_t add(void)
+{
+    uint64_t answer;
+    memcpy(words_before, lent_contents(), 2 * contents_count);
+    memcpy(bytes_before, lent_bodies(), bodies_count);
+    answer = resource_manager_add(lent_contents(), contents_count, lent_bodies(), bodies_count, text_end - text_count,
+                                  text_count);
+    if (resource_manager_status_of(answer) == RESOURCE_MANAGER_OK) {
+        else_as_it_was(resource_manager_number_of(answer));
+    } else {
+        stays("contents", lent_contents(), words_before, 2 * contents_count);
+        stays("bodies", lent_bodies(), bytes_before, bodies_count);
+    }
+    return answer;
+}
+
+static void adds(const char *text, uint64_t wanted)
+{
+    set_text("", 0, text);
+    expect(text, add(), wanted);
+}
+
+static void holds(size_t entry, const char *key, const char *value)
+{
+    struct resource_manager_bytes seen = resource_manager_key_of(lent_contents(), lent_bodies(), entry);
+    expect("a key's length", seen.count, strlen(key));
+    stays("a key", seen.start, key, seen.count);
+    seen = resource_manager_value_of(lent_contents(), lent_bodies(), entry);
+    expect("a value's length", seen.count, strlen(value));
+    stays("a value", seen.start, value, seen.count);
+}
+
+/* The image of a text, with garbage behind it. */
+static void set_image(const char *piece, size_t times, const char *last)
+{
+    uint16_t *contents = lent_contents();
+    size_t words;
+    set_shelf(NULL, 0);
+    set_text(piece, times, last);
+    expect("a reading's status", resource_manager_status_of(read_it()), RESOURCE_MANAGER_OK);
+    words = 2 + 3 * (size_t)contents[0];
+    memset(contents + words, FILLED, 2 * (contents_count - words));
+    memset(lent_bodies() + contents[1], FILLED, bodies_count - contents[1]);
+}
+
+static void entries_added(void)
+{
+    set_image("", 0, "");
+    adds("a:1", numbered(0));
+    adds("! a comment\n\n#include \"p\"\nno resource\n*b..c :\t y\\nz\na.?:none\n", numbered(1));
+    adds("d:", numbered(2));
+    holds(0, ".a", "1");
+    holds(1, "*b.c", "y\nz");
+    holds(2, ".d", "");
+    expect("a lookup", resource_manager_length_of(ask(resource_manager_get_bytes, "x.b.c", "")), 3);
+    adds("", RESOURCE_MANAGER_NOT_ONE_ENTRY);
+    adds("! a:1\n#include \"p\"\n a:1", RESOURCE_MANAGER_NOT_ONE_ENTRY);
+    adds("a:1\na:1", RESOURCE_MANAGER_NOT_ONE_ENTRY);
+    set_text("a:\n", RESOURCE_MANAGER_ENTRIES + 1, "");
+    expect("many entries", add(), RESOURCE_MANAGER_NOT_ONE_ENTRY);
+}
+
+/* 8, 2, 12, 5, 6, 7. */
+static void additions_refused(void)
+{
+    const char *wide = parts(RESOURCE_MANAGER_ENTRY_PARTS + 1, ":");
+    set_image("", 0, "a:1");
+    adds(parts(RESOURCE_MANAGER_ENTRY_PARTS, ":"), numbered(1));
+    adds(wide, RESOURCE_MANAGER_MANY_ENTRY_PARTS);
+    adds(parts(RESOURCE_MANAGER_ENTRY_PARTS + 1, ":\nb:"), RESOURCE_MANAGER_NOT_ONE_ENTRY);
+    set_text("\n", RESOURCE_MANAGER_TEXT_BYTES - 3, "b:1");
+    expect("the longest text", add(), numbered(2));
+    set_text("\n", RESOURCE_MANAGER_TEXT_BYTES - 2, "b:1");
+    expect("a byte more", add(), RESOURCE_MANAGER_LONG_TEXT);
+    set_text("\n", RESOURCE_MANAGER_TEXT_BYTES + 1, "");
+    expect("a long text of no entry", add(), RESOURCE_MANAGER_LONG_TEXT);
+    set_image("a:\n", RESOURCE_MANAGER_ENTRIES - 1, "");
+    adds("b:", numbered(RESOURCE_MANAGER_ENTRIES - 1));
+    adds("b:", RESOURCE_MANAGER_MANY_ENTRIES);
+    adds(wide, RESOURCE_MANAGER_MANY_ENTRY_PARTS);
+    set_text("", 0, repeated("b:", 'z', RESOURCE_MANAGER_BODIES_BYTES - 2, ""));
+    expect("neither an entry nor its bytes", add(), RESOURCE_MANAGER_MANY_ENTRIES);
+    set_image("", 0, repeated("a:", 'z', RESOURCE_MANAGER_BODIES_BYTES - 5, ""));
+    adds("b:12", RESOURCE_MANAGER_FULL_STORE);
+    adds("b:1", numbered(1));
+    adds("b:", RESOURCE_MANAGER_FULL_STORE);
+}
+
+/* 8 comes first. */
+static void no_images_added_to(void)
+{
+    set_image("", 0, "a:1");
+    set_text("\n", RESOURCE_MANAGER_TEXT_BYTES + 1, "");
+    contents_count--;
+    expect("contents one word short", add(), RESOURCE_MANAGER_NO_IMAGE);
+    contents_count++;
+    bodies_count--;
+    expect("bodies one byte short", add(), RESOURCE_MANAGER_NO_IMAGE);
+    bodies_count++;
+    lent_contents()[0] = RESOURCE_MANAGER_ENTRIES + 1;
+    expect("no image", add(), RESOURCE_MANAGER_NO_IMAGE);
+}
+
+/* An added entry shows in a walk that is begun after it. */
+static void added_under_way(void)
+{
+    set_image("", 0, "a:0\nb:1\na:2");
+    begins("a", "", 3);
+    expect("a step", ask(walk_step, "a", ""), numbered(0));
+    adds("a:3", numbered(3));
+    expect("a step", ask(walk_step, "a", ""), numbered(2));
+    adds("*a:4", numbered(4));
+    expect("the end", ask(walk_step, "a", ""), RESOURCE_MANAGER_NONE);
+    begins("a", "", 5);
+    expect("a step", ask(walk_step, "a", ""), numbered(0));
+    expect("a step", ask(walk_step, "a", ""), numbered(2));
+    expect("a step", ask(walk_step, "a", ""), numbered(3));
+    expect("a step", ask(walk_step, "a", ""), numbered(4));
+    expect("the end", ask(walk_step, "a", ""), RESOURCE_MANAGER_NONE);
+}
+
+static void walks_and_additions(void)
+{
+    walk_states();
+    walks_refused();
+    longest_walk();
+    entries_added();
+    additions_refused();
+    no_images_added_to();
+    added_under_way();
+}
+
 /* ---- A start-up of two texts */
 
 /* Every text has an entry whose key is the text's letter. Used are those with these letters. */
@@ -895,6 +1192,7 @@ static void *all(void *unused)
     booleans();
     shows();
     writings();
+    walks_and_additions();
     which_texts();
     for (lent_as = 0; lent_as < MAIN; lent_as++) {
         readings();
@@ -910,7 +1208,8 @@ int main(void)
     pthread_attr_t small;
     pthread_t thread;
     uint8_t **rooms[] = {&text_end, &second_end, &shelf_end, &contents_end, &bodies_end, &name_end, &class_end,
-                         &struck_end, &contents_without_end, &bodies_without_end, &default_end, &written_end};
+                         &struck_end, &contents_without_end, &bodies_without_end, &default_end, &written_end,
+                         &next_end, &count_end};
     size_t n;
     for (n = 0; n < sizeof rooms / sizeof rooms[0]; n++) {
         *rooms[n] = fenced();

@@ -209,7 +209,7 @@ fn near_the_limits(extent: Extent, see: See) -> Seen {
 }
 
 /// An image of so many entries, or so many bytes, that none goes into it.
-fn full(draw: &mut Draw) -> Image {
+pub(crate) fn full(draw: &mut Draw) -> Image {
     let most = [20, 60, 120, 3_000][draw.below(4)];
     let mut entries = Vec::new();
     let mut room = BODIES_BYTES;

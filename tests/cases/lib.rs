@@ -17,4 +17,5 @@ pub mod realistic;
 pub mod slips;
 pub mod struck;
 pub mod texts;
+pub mod walks;
 pub mod words;

@@ -33,6 +33,7 @@ pub enum Refusal {
     LongQuery,
     ManyQueryParts,
     ShortTextBuffer,
+    NotOneEntry,
 }
 
 impl Refusal {

@@ -1,22 +1,33 @@
 //! The lookups in an image. They test 8, 9, malformed, 10, and change no lent byte.
 
-use crate::image::{judge, Place};
+use crate::image::{judge, Place, Row};
 use crate::limits::{Refusal, QUERY_BYTES, QUERY_PARTS};
-use crate::matching::{positions, winner};
+use crate::matching::{positions, winner, Position};
 use crate::query::split;
 use crate::value;
 
-/// The place of the value that beats the rest, or none.
-pub fn get_bytes(contents: &[u16], bodies: &[u8], name: &[u8], class: &[u8]) -> Result<Option<Place>, Refusal> {
+/// The rows of an image, and the positions of a query, or none for a malformed one: 8, 9, malformed, 10.
+pub fn ask<'a>(
+    contents: &[u16],
+    bodies: &[u8],
+    name: &'a [u8],
+    class: &'a [u8],
+) -> Result<(Vec<Row>, Option<Vec<Position<'a>>>), Refusal> {
     let rows = judge(contents, bodies).ok_or(Refusal::NoImage)?;
     if name.len() > QUERY_BYTES || class.len() > QUERY_BYTES {
         return Err(Refusal::LongQuery);
     }
-    let (Some(name), Some(class)) = (split(name), split(class)) else { return Ok(None) };
+    let (Some(name), Some(class)) = (split(name), split(class)) else { return Ok((rows, None)) };
     if name.len() > QUERY_PARTS || class.len() > QUERY_PARTS {
         return Err(Refusal::ManyQueryParts);
     }
-    let best = winner(rows.iter().map(|row| &row.key[..]), &positions(&name, &class));
+    Ok((rows, Some(positions(&name, &class))))
+}
+
+/// The place of the value that beats the rest, or none.
+pub fn get_bytes(contents: &[u16], bodies: &[u8], name: &[u8], class: &[u8]) -> Result<Option<Place>, Refusal> {
+    let (rows, Some(positions)) = ask(contents, bodies, name, class)? else { return Ok(None) };
+    let best = winner(rows.iter().map(|row| &row.key[..]), &positions);
     Ok(best.map(|number| rows[number].value))
 }
 

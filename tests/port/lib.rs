@@ -111,6 +111,38 @@ extern "C" {
         text_length: usize,
     ) -> u64;
 
+    fn resource_manager_walk_start(
+        contents: *const u16,
+        contents_count: usize,
+        bodies: *const u8,
+        bodies_count: usize,
+        name: *const u8,
+        name_count: usize,
+        class: *const u8,
+        class_count: usize,
+        next: *mut u16,
+        count: *mut u16,
+    ) -> u64;
+    fn resource_manager_walk_step(
+        contents: *const u16,
+        contents_count: usize,
+        bodies: *const u8,
+        bodies_count: usize,
+        name: *const u8,
+        name_count: usize,
+        class: *const u8,
+        class_count: usize,
+        next: *mut u16,
+        count: u16,
+    ) -> u64;
+    fn resource_manager_add(
+        contents: *mut u16,
+        contents_count: usize,
+        bodies: *mut u8,
+        bodies_count: usize,
+        text: *const u8,
+        text_count: usize,
+    ) -> u64;
     fn resource_manager_compare_without(
         text: *const u8,
         text_length: usize,
@@ -342,6 +374,54 @@ pub fn write_word(contents: &[u16], bodies: &[u8], text: &mut [u8]) -> u64 {
     // SAFETY: as for the lookups; `text` is borrowed for writing.
     unsafe {
         resource_manager_write(contents.as_ptr(), contents.len(), bodies.as_ptr(), bodies.len(), text.as_mut_ptr(), text.len())
+    }
+}
+
+/// Begins a walk: 0 with 0 in `next` and the image's entry count in `count`; or the refusal's number, with both as they were.
+pub fn walk_start_word(contents: &[u16], bodies: &[u8], name: &[u8], class: &[u8], next: &mut u16, count: &mut u16) -> u64 {
+    // SAFETY: as for the lookups; `next` and `count` are borrowed for writing.
+    unsafe {
+        resource_manager_walk_start(
+            contents.as_ptr(),
+            contents.len(),
+            bodies.as_ptr(),
+            bodies.len(),
+            name.as_ptr(),
+            name.len(),
+            class.as_ptr(),
+            class.len(),
+            next,
+            count,
+        )
+    }
+}
+
+/// A step of a walk: the number of an entry from bit 16 on, with one more in `next`; or, with `next` as it was, 65535 at the end,
+/// or the refusal's number.
+pub fn walk_step_word(contents: &[u16], bodies: &[u8], name: &[u8], class: &[u8], next: &mut u16, count: u16) -> u64 {
+    // SAFETY: as for the lookups; `next` is borrowed for writing.
+    unsafe {
+        resource_manager_walk_step(
+            contents.as_ptr(),
+            contents.len(),
+            bodies.as_ptr(),
+            bodies.len(),
+            name.as_ptr(),
+            name.len(),
+            class.as_ptr(),
+            class.len(),
+            next,
+            count,
+        )
+    }
+}
+
+/// Adds the entry that a text makes to an image: its number from bit 16 on; or the refusal's number, with both buffers as they
+/// were.
+pub fn add_word(contents: &mut [u16], bodies: &mut [u8], text: &[u8]) -> u64 {
+    // SAFETY: as for the reading; the buffers are borrowed for writing.
+    unsafe {
+        resource_manager_add(contents.as_mut_ptr(), contents.len(), bodies.as_mut_ptr(), bodies.len(), text.as_ptr(), text.len())
     }
 }
 

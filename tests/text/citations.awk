@@ -6,7 +6,7 @@
 #   `crate/F: a, b`      specs/F.antt or proofs/F.antt of that crate does
 #   `F: a FRAGMENT`      the same, and the fragment stands in a's declaration; an example is cited so, or as `F: a ..` for all of it
 #   `crate::a`           src/lib.rt or src/main.rt of that crate declares a; `crate::m::a`: src/m.rt
-#   `crate/a.edit`       crates/crate/must-fail/a.edit
+#   `crate/a.edit`       crates/crate/must-fail/a.edit, or the wrong program `a` in an edit there
 #   `suite: a test`      a test of that name (`suite` below)
 #   `a/path`, `file.md`  a file or a folder, by its path from the root
 #   `path: a`            the file there declares a
@@ -18,12 +18,13 @@ BEGIN {
     for (i in words)
         citing[words[i]] = 1
     # files of examples, which are cited with the line that is meant
-    split("Examples Manual Numbers NameBytes Starts bounds/Bounds bounds/Lookups listing/Examples arguments/Examples", words, " ")
+    split("Examples Manual Numbers NameBytes Starts Walks bounds/Bounds bounds/Lookups bounds/Walks listing/Examples arguments/Examples " \
+        "answers_listed/Examples", words, " ")
     for (i in words)
         examples[words[i]] = 1
     # what the names of a suite's tests are quoted in
     suite["model"] = "^tests/tool/model_tests.rs$"
-    suite["port"] = "^tests/(tool/port/[a-z_]*|cases/(readings|lookups|limits|dotted|struck|chains|named_chains|images)).rs$"
+    suite["port"] = "^tests/(tool/port/[a-z_]*|cases/(readings|lookups|limits|dotted|struck|chains|named_chains|images|walks)).rs$"
     suite["beside"] = "^tests/(cases/(readings|lookups|chains)|tool/beside/families).rs$"
     suite["list"] = "^tests/list$"
     suite["getres"] = "^tests/getres$"

@@ -1,6 +1,6 @@
 //! The port, the Rust, Xlib and xcb-xrm side by side, on the same inputs, in one run.
 //!
-//!     bench time ROOM                times and memory, as tables of readings, of lookups and of writings
+//!     bench time ROOM                times and memory, as tables of readings, of lookups, of walks and of writings
 //!     bench cases ROOM               lists what can be counted, as CASE/SIDE, and how many calls that is
 //!     bench count CASE/SIDE ROOM     those calls in `measured`, for an instruction counter
 //!     bench counted FILE ROOM        tables of what was counted: lines of CASE/SIDE and a number
@@ -24,6 +24,8 @@ mod readings;
 mod table;
 #[path = "bench/timing.rs"]
 mod timing;
+#[path = "bench/walks.rs"]
+mod walks;
 #[path = "bench/writings.rs"]
 mod writings;
 
@@ -112,6 +114,7 @@ fn case_and_side(what: &str) -> (&str, Side) {
 fn show_all(room: &str) {
     readings::time_all(room);
     let compared = lookups::time_all(room);
+    walks::time_all();
     writings::time_all(room);
     children::say_held(room);
     let lines: Vec<String> = readings::differing(room).into_iter().chain(compared.lines()).collect();
@@ -128,6 +131,7 @@ fn list_cases(room: &str) {
         let sides = Side::ALL.into_iter().filter(|side| asking.tried(*side, room).is_ok());
         sides.for_each(|side| println!("{}/{} {}", asking.name(), side.name(), asking.counted()));
     }
+    walks::all().for_each(|walk| println!("{}/{} {}", walk.name, Side::Port.name(), walk.calls));
     for writing in writings::all(room) {
         let sides = [Side::Port].into_iter().chain(writings::OTHERS).filter(|side| writing.tried(*side).is_ok());
         sides.for_each(|side| println!("{}/{} 1", writing.name, side.name()));
@@ -144,6 +148,11 @@ fn with_work(case: &str, side: Side, room: &str, hand_on: &mut dyn FnMut(&mut dy
         };
         call();
         return hand_on(&mut call);
+    }
+    if let Some(walk) = walks::find(case) {
+        let mut work = walk.work();
+        work();
+        return hand_on(&mut work);
     }
     if let Some(writing) = writings::find(case, room) {
         let mut work = writing.work(side).expect("a side that is there");
@@ -175,6 +184,8 @@ fn show_counted(file: &str, room: &str) {
     readings::all(room).for_each(|reading| row(reading.case.what, reading.case.name, &readings::OTHERS));
     table::head("Lookup", "instructions", &lookups::OTHERS);
     lookups::all().for_each(|asking| row(&asking.what(), asking.name(), &lookups::OTHERS));
+    table::head("Walks and additions", "instructions", &[]);
+    walks::all().for_each(|walk| row(&walk.what, walk.name, &[]));
     table::head("Writing out", "instructions", &writings::OTHERS);
     writings::all(room).for_each(|writing| row(&writing.what, writing.name, &writings::OTHERS));
 }

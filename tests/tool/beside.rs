@@ -9,6 +9,7 @@
 
 #[path = "beside/both.rs"]
 mod both;
+mod ending;
 #[path = "beside/families.rs"]
 mod families;
 #[path = "beside/recording.rs"]
@@ -30,16 +31,7 @@ fn main() -> ExitCode {
         ["start", format, property] => start(format, property),
         _ => Err("usage: as the top of beside.rs says".to_string()),
     };
-    match result {
-        Ok(report) => {
-            println!("{report}");
-            ExitCode::SUCCESS
-        }
-        Err(why) => {
-            eprintln!("{why}");
-            ExitCode::FAILURE
-        }
-    }
+    ending::told(result)
 }
 
 fn number<T: std::str::FromStr>(word: &str) -> Result<T, String> {

@@ -11,6 +11,7 @@
 mod both;
 #[path = "fuzz/drawn.rs"]
 mod drawn;
+mod ending;
 #[path = "fuzz/files.rs"]
 mod files;
 #[path = "fuzz/held.rs"]
@@ -36,16 +37,7 @@ fn main() -> ExitCode {
         [seconds, seed, room] => fuzz(seconds, seed, room),
         _ => Err("usage: fuzz SECONDS SEED ROOM".to_string()),
     };
-    match result {
-        Ok(report) => {
-            println!("{report}");
-            ExitCode::SUCCESS
-        }
-        Err(why) => {
-            eprintln!("{why}");
-            ExitCode::FAILURE
-        }
-    }
+    ending::told(result)
 }
 
 fn number(word: &str) -> Result<u64, String> {

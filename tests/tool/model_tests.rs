@@ -1,5 +1,5 @@
-//! Tests of the model by itself: document 01's examples and limits, those of the start-up chain, of names with dots and of
-//! writing out, written out by hand.
+//! Tests of the model by itself: document 01's examples and limits, those of the start-up chain, of names with dots, of
+//! writing out, and of walks and additions, written out by hand.
 //!
 //!     model_tests NAME    runs one test
 //!     model_tests list    lists the tests
@@ -12,6 +12,7 @@ use cases::images::{self, Image};
 use cases::limits::{edges, Edge};
 use cases::named_chains::{at_limits, named};
 use cases::readings::Extent;
+use cases::walks;
 use cases::words::{keys, queries};
 use model::archive::{judge, lay_out, strike};
 use model::image::{self, Accepted};
@@ -23,14 +24,15 @@ use model::paths::{follow, target, Outside};
 use model::query::split;
 use model::reading;
 use model::startup::StartUp;
-use model::writing;
+use model::walking::{self, Walk};
+use model::{adding, writing};
 use records::Source;
 use std::collections::{BTreeMap, BTreeSet};
 use std::process::ExitCode;
 
 type Test = fn() -> Result<String, String>;
 
-const TESTS: [(&str, Test); 16] = [
+const TESTS: [(&str, Test); 19] = [
     ("examples", examples),
     ("booleans", booleans),
     ("limits", limits),
@@ -47,6 +49,9 @@ const TESTS: [(&str, Test); 16] = [
     ("striking-off", striking_off),
     ("written-texts", written_texts),
     ("read-again", read_again),
+    ("walks", walks_listed),
+    ("additions", additions),
+    ("walks-with-additions", walks_with_additions),
 ];
 
 fn main() -> ExitCode {
@@ -576,4 +581,113 @@ fn read_again() -> Result<String, String> {
         })?;
     }
     Ok(format!("{count} images, {} texts, {long} of them too long to be read", texts.len()))
+}
+
+impl Lent {
+    fn start(&self, name: &[u8], class: &[u8]) -> Result<Walk, u8> {
+        walking::start(&self.contents, &self.bodies, name, class).map_err(|refusal| refusal.number())
+    }
+
+    /// What a step gives, and the state that it leaves.
+    fn step(&self, name: &[u8], mut walk: Walk) -> (Result<Option<usize>, u8>, Walk) {
+        let answer = walking::step(&self.contents, &self.bodies, name, b"", &mut walk);
+        (answer.map_err(|refusal| refusal.number()), walk)
+    }
+
+    fn add(&mut self, text: &[u8]) -> Result<usize, u8> {
+        adding::add(&mut self.contents, &mut self.bodies, text).map_err(|refusal| refusal.number())
+    }
+}
+
+/// Entries 0, 1, 3 and 4 align with the name `a.b`.
+const SIX: &[u8] = b"a.b:0\n*b:1\nc:2\na*b:3\n?.b:4\nb.a:5";
+
+/// The sentences of document 02 (v) that speak of a walk.
+fn walks_listed() -> Result<String, String> {
+    let lent = image_of(SIX);
+    same("a start", lent.start(b"a.b", b""), Ok(Walk { next: 0, count: 6 }))?;
+    same("a malformed start", lent.start(b".a", b""), Ok(Walk { next: 0, count: 6 }))?;
+    let long = [b'a'; 1_025];
+    let wide = b"a.".repeat(33);
+    same("9", lent.start(b".a", &long), Err(9))?;
+    same("10", lent.start(&wide, b""), Err(10))?;
+    same("malformed before 10", lent.start(&wide, b".a"), Ok(Walk { next: 0, count: 6 }))?;
+    let steps: [(usize, usize, Option<usize>); 12] = [
+        (0, 6, Some(0)),
+        (1, 6, Some(1)),
+        (2, 6, Some(3)),
+        (4, 6, Some(4)),
+        (5, 6, None),
+        (2, 4, Some(3)),
+        (2, 3, None),
+        (0, 0, None),
+        (5, 4, None),
+        (0, 65_535, Some(0)),
+        (6, 65_535, None),
+        (65_535, 65_535, None),
+    ];
+    for (next, count, expected) in steps {
+        let left = Walk { next: expected.map_or(next, |number| number + 1), count };
+        same("a step", lent.step(b"a.b", Walk { next, count }), (Ok(expected), left))?;
+        same("a malformed step", lent.step(b".a", Walk { next, count }), (Ok(None), Walk { next, count }))?;
+        same("a refused step", lent.step(&wide, Walk { next, count }), (Err(10), Walk { next, count }))?;
+    }
+    let mut fewer = image_of(SIX);
+    (fewer.contents[0], fewer.contents[1]) = (1, 5);
+    same("below the image's count", fewer.step(b"a.b", Walk { next: 1, count: 6 }).0, Ok(None))?;
+    fewer.contents[0] = 513;
+    same("8", (fewer.start(&long, b""), fewer.step(b".a", Walk { next: 0, count: 6 }).0), (Err(8), Err(8)))?;
+    Ok(format!("{} steps", steps.len()))
+}
+
+/// The sentences that speak of an addition, and each limit, with what is left.
+fn additions() -> Result<String, String> {
+    let limits = walks::at_limits();
+    for walks::AtLimit { label, image, text, expected } in &limits {
+        let mut lent = Lent::new();
+        let (rows, used) = (2 + 3 * usize::from(image.contents[0]).min(512), usize::from(image.contents[1]));
+        lent.contents[..rows].copy_from_slice(&image.contents[..rows]);
+        lent.bodies[..used].copy_from_slice(&image.bodies[..used]);
+        let before = (lent.contents.clone(), lent.bodies.clone());
+        same(label, lent.add(text), *expected)?;
+        if expected.is_err() {
+            same(label, lent.contents == before.0 && lent.bodies == before.1, true)?;
+            continue;
+        }
+        let end = usize::from(lent.contents[1]);
+        same(label, &lent.contents[2..rows], &before.0[2..rows])?;
+        same(label, lent.contents[rows + 3..] == before.0[rows + 3..], true)?;
+        same(label, lent.bodies[..used] == before.1[..used] && lent.bodies[end..] == before.1[end..], true)?;
+        same(label, image::judge(&lent.contents, &lent.bodies).is_some(), true)?;
+    }
+    let mut lent = image_of(b"a:1");
+    lent.contents[5..].fill(WORD);
+    lent.bodies[3..].fill(BYTE);
+    same("an addition", lent.add(b"! more\n*b..c : y\\nz\n"), Ok(1))?;
+    same("its row", &lent.contents[..9], &[2, 10, 0, 2, 1, 3, 4, 3, WORD])?;
+    same("its bytes", &lent.bodies[..11], b".a1*b.cy\nzZ")?;
+    Ok(format!("{} additions at limits", limits.len()))
+}
+
+/// A walk with additions under way lists, of the entries below its start's count, those that align, each once, and ends.
+fn walks_with_additions() -> Result<String, String> {
+    let mut count = 0;
+    for place in 0..=4 {
+        let mut lent = image_of(SIX);
+        for expected in [&[0, 1, 3, 4][..], &[0, 1, 3, 4, 6], &[0, 1, 3, 4, 6, 7]] {
+            let mut walk = lent.start(b"a.b", b"").map_err(|number| format!("refused {number}"))?;
+            let mut listed = Vec::new();
+            for step in 0..9 {
+                if step == place {
+                    lent.add(b"*b:").map_err(|number| format!("refused {number}"))?;
+                }
+                let (answer, left) = lent.step(b"a.b", walk);
+                listed.extend(answer.map_err(|number| format!("refused {number}"))?);
+                walk = left;
+            }
+            same("listed", &listed[..], expected)?;
+            count += 1;
+        }
+    }
+    Ok(format!("{count} walks"))
 }

@@ -9,6 +9,8 @@
 //!     port_beside strikes                           lists the families of archives
 //!     port_beside write FAMILY SEED TIMES ROOM      compares the writing of one family of images
 //!     port_beside writings                          lists the families of images
+//!     port_beside walk FAMILY SEED TIMES ROOM       compares the walks and additions of one family
+//!     port_beside walks                             lists the families of walks and additions
 //!     port_beside test NAME ROOM                    runs one test
 //!     port_beside tests                             lists the tests
 //!     port_beside fault LABEL both|rust|third|start-ups ROOM   compares a faulty port: 'faults' asks that this fails
@@ -25,6 +27,7 @@ mod comparing;
 mod comparing_faults;
 #[path = "port/comparing_tests.rs"]
 mod comparing_tests;
+mod ending;
 #[path = "port/faults.rs"]
 mod faults;
 #[path = "port/fenced.rs"]
@@ -57,6 +60,12 @@ mod start_up_tests;
 mod tests;
 #[path = "port/third.rs"]
 mod third;
+#[path = "port/walking.rs"]
+mod walking;
+#[path = "port/walking_faults.rs"]
+mod walking_faults;
+#[path = "port/walking_tests.rs"]
+mod walking_tests;
 #[path = "port/writing.rs"]
 mod writing;
 #[path = "port/writing_faults.rs"]
@@ -69,6 +78,7 @@ use cases::images;
 use cases::lookups;
 use cases::readings::{self, Extent};
 use cases::struck;
+use cases::walks;
 use comparing::Comparing;
 use inquiry::Inquiry;
 use records::Start;
@@ -76,6 +86,7 @@ use run::Run;
 use std::collections::BTreeSet;
 use std::process::ExitCode;
 use third::Third;
+use walking::Walking;
 use writing::Writing;
 
 fn main() -> ExitCode {
@@ -91,21 +102,14 @@ fn main() -> ExitCode {
         ["strikes"] => Ok(names(&strikes())),
         ["write", family, seed, times, _] => write(family, seed, times),
         ["writings"] => Ok(names(&images::FAMILIES)),
+        ["walk", family, seed, times, _] => walk(family, seed, times),
+        ["walks"] => Ok(names(&walks::FAMILIES)),
         ["test", name, room] => tests::test(name, room),
         ["tests"] => Ok(tests::names().join("\n")),
         ["fault", label, with, room] => faults::one(label, with, room),
         _ => Err("usage: as the top of port_beside.rs says".to_string()),
     };
-    match result {
-        Ok(report) => {
-            println!("{report}");
-            ExitCode::SUCCESS
-        }
-        Err(why) => {
-            eprintln!("{why}");
-            ExitCode::FAILURE
-        }
-    }
+    ending::told(result)
 }
 
 fn number<T: std::str::FromStr>(word: &str) -> Result<T, String> {
@@ -177,4 +181,11 @@ fn write(family: &str, seed: &str, times: &str) -> Result<String, String> {
     let mut writing = Writing::new(port::write_word);
     family(extent(seed, times)?, &mut |image| writing.see(image))?;
     writing.counts.report()
+}
+
+fn walk(family: &str, seed: &str, times: &str) -> Result<String, String> {
+    let family = find(&walks::FAMILIES, family)?;
+    let mut walking = Walking::new(walking::PORTS);
+    family(extent(seed, times)?, &mut |image, turns| walking.see(image, turns))?;
+    walking.counts.report()
 }

@@ -3,6 +3,8 @@
 //!     recorded check FILE..    every line of the files is well formed and is what the model answers
 //!     recorded antt FILE       the lines of a file as a module for the prover, on standard output
 
+mod ending;
+
 use model::lookup::Number;
 use records::{model_answer, parse_line, write_line, Answer, Case, Kind, Start};
 use std::process::ExitCode;
@@ -14,16 +16,7 @@ fn main() -> ExitCode {
         Some((command, [file])) if command == "antt" => antt(file),
         _ => Err("usage: recorded check FILE.. | recorded antt FILE".to_string()),
     };
-    match result {
-        Ok(report) => {
-            println!("{report}");
-            ExitCode::SUCCESS
-        }
-        Err(why) => {
-            eprintln!("{why}");
-            ExitCode::FAILURE
-        }
-    }
+    ending::told(result)
 }
 
 fn read_lines(file: &str) -> Result<Vec<String>, String> {

@@ -1,5 +1,5 @@
-// What the arguments of getres ask, answered: what is told of a query is in `answers` and `answers_without`, and of a database that is
-// written out in `database_text`; it is written here.
+// What the arguments of getres ask, answered: what is told of a query is in `answers` and `answers_without`, of the entries that align with
+// it in `answers_listed`, and of a database that is written out in `database_text`; it is written here.
 ghost use mathlib.Core.Path.{_≡_};
 ghost use mathlib.Core.Bool.{true};
 ghost use Prim.Native.Nat.{_≤_};
@@ -8,6 +8,8 @@ ghost use Rattle.definition.specs.Archive.{laidOut};
 ghost use Rattle.io.specs.Counts.{Counts};
 ghost use Rattle.reports.specs.Telling.{reportBytes};
 use answers::answer;
+use answers_listed::LISTED_BYTES;
+use answers_listed::list_entries;
 use answers_without::answer_twice;
 use command_line::argument;
 use database_text::write_database;
@@ -80,7 +82,14 @@ fn write_out(texts: &[&[u8]], archive: &[u8]) -> u8 {
     tell(report, &out[..size])
 }
 
-// Writes the database of these texts out, or answers the query that the arguments name with them, and gives the status.
+fn list_out(texts: &[&[u8]], archive: &[u8], name: &[u8], class: &[u8]) -> u8 {
+    let mut out = [0; LISTED_BYTES];
+    let report = list_entries(texts, archive, name, class, &mut out);
+    let size = report.size;
+    tell(report, &out[..size])
+}
+
+// Writes the database of these texts out, or lists or answers the query that the arguments name with them, and gives the status.
 pub fn answer_plan(plan: Plan, texts: &[&[u8]], archive: &[u8]) -> u8
     requires { ⌜ laidOut (now archive) ≡ true ⌝ }
 {
@@ -91,6 +100,9 @@ pub fn answer_plan(plan: Plan, texts: &[&[u8]], archive: &[u8]) -> u8
     let n = argument(given(plan, options::NAME), &mut name);
     let mut class = io::buffer();
     let m = class_argument(given(plan, options::CLASS), &mut class);
+    if plan.list {
+        return list_out(texts, archive, &name[..n], &class[..m]);
+    }
     answer_query(
         given(plan, options::WITHOUT),
         texts,

@@ -8,10 +8,10 @@ use lib.ListN.{length}
 use Rattle.definition.specs.Lists.{if_then_else_, takeWhile}
 use Rattle.definition.specs.Bytes.{within}
 use Rattle.io.specs.Counts.{Counts}
-use Rattle.options.specs.Options.{text, name, class, format, anything, operand, help as helpAsked, missing as missingAsked, write as writeAsked, unknown, takes, optionOf}
+use Rattle.options.specs.Options.{text, name, class, format, anything, operand, help as helpAsked, missing as missingAsked, write as writeAsked, list as listAsked, takes, optionOf}
 use Rattle.argument_words.specs.Words.{isOption}
 use Rattle.plans.specs.declared.Plan.{Plan}
-use Rattle.plans.specs.Plans.{nothingAsked, toNext, toHelp, toMissing, toWrite, toChain, givenFor, misunderstood, once, settled}
+use Rattle.plans.specs.Plans.{nothingAsked, toNext, toHelp, toMissing, toWrite, toList, toChain, givenFor, misunderstood, once, settled}
 
 -- text, name, class
 unfoldable pub withOperand : Plan → ℕ → Plan
@@ -27,13 +27,19 @@ withValue p a i =
     then (if takes (p .next) a then once (toNext p anything) (p .next) i else misunderstood (toNext p anything) i)
     else toNext p anything
 
+-- an option that nothing follows, or one that is not known; of --write and --list the second is not understood
+unfoldable pub withFlag : Plan → ℕ → ℕ → Plan
+withFlag p what i =
+    if eqb what helpAsked then toHelp p else
+    if eqb what missingAsked then toMissing p else
+    if eqb what writeAsked then (if p .list then misunderstood p i else toWrite p) else
+    if eqb what listAsked then (if p .write then misunderstood p i else toList p) else
+    misunderstood p i
+
 -- an option, by what follows it; those of a chain ask for it
 unfoldable pub withOption : Plan → ℕ → ℕ → Plan
 withOption p what i =
-    if eqb what unknown then misunderstood p i else
-    if eqb what helpAsked then toHelp p else
-    if eqb what missingAsked then toMissing p else
-    if eqb what writeAsked then toWrite p else
+    if ltb operand what then withFlag p what i else
     if within format anything what then toChain (toNext p what) else
     toNext p what
 

@@ -1,16 +1,16 @@
 // What getres's arguments ask for, taken one at a time.
 ghost use mathlib.Core.Path.{_≡_};
-ghost use Rattle.arguments.specs.Planning.{withOperand, withValue, withOption, withArgument, NameEnds};
+ghost use Rattle.arguments.specs.Planning.{withOperand, withValue, withFlag, withOption, withArgument, NameEnds};
 use argument_words::is_option;
 use options::ANY;
 use options::CLASS;
 use options::FORMAT;
 use options::HELP;
+use options::LIST;
 use options::MISSING;
 use options::NAME;
 use options::OPERAND;
 use options::TEXT;
-use options::UNKNOWN;
 use options::WRITE;
 use options::option_of;
 use options::takes;
@@ -48,14 +48,11 @@ fn with_value(plan: Plan, argument: &[u8], i: usize) -> Plan
     more
 }
 
-// An option, by what follows it.
-fn with_option(plan: Plan, what: usize, i: usize) -> Plan
-    ensures { λ r. ⌜ r ≡ withOption plan what i ⌝ }
+// An option that nothing follows, or one that is not known. A database is written out or listed: the second of the two is not understood.
+fn with_flag(plan: Plan, what: usize, i: usize) -> Plan
+    ensures { λ r. ⌜ r ≡ withFlag plan what i ⌝ }
 {
     let mut more = plan;
-    if what == UNKNOWN {
-        return misunderstood(plan, i);
-    }
     if what == HELP {
         more.help = true;
         return more;
@@ -65,9 +62,30 @@ fn with_option(plan: Plan, what: usize, i: usize) -> Plan
         return more;
     }
     if what == WRITE {
+        if plan.list {
+            return misunderstood(plan, i);
+        }
         more.write = true;
         return more;
     }
+    if what == LIST {
+        if plan.write {
+            return misunderstood(plan, i);
+        }
+        more.list = true;
+        return more;
+    }
+    misunderstood(plan, i)
+}
+
+// An option, by what follows it.
+fn with_option(plan: Plan, what: usize, i: usize) -> Plan
+    ensures { λ r. ⌜ r ≡ withOption plan what i ⌝ }
+{
+    if what > OPERAND {
+        return with_flag(plan, what, i);
+    }
+    let mut more = plan;
     more.next = what;
     if what < FORMAT {
         return more;

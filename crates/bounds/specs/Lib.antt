@@ -1,3 +1,4 @@
 -- Examples of the definition at document 01's limits.
 mod Lookups
+mod Walks
 mod Bounds

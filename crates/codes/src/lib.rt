@@ -1,16 +1,23 @@
 // Answers as numbers of 64 bits, as the boundary to C gives them.
 ghost use mathlib.Core.Path.{_≡_};
+ghost use Prim.Native.Nat.{ℕ};
+ghost use Rattle.definition.specs.Walking.{walk};
+ghost use Rattle.adding.specs.Appending.{replied as addReplied};
 ghost use Rattle.comparison.specs.Answering.{compared};
 ghost use Rattle.lookup.specs.Replies.{replied};
 ghost use Rattle.reader.specs.Said.{said};
 ghost use Rattle.readings.specs.Replies.{truthReplied, valueReplied};
+ghost use Rattle.walk.specs.Replies.{startReplied, stepReplied};
 ghost use Rattle.writer.specs.Extents.{extentOf};
-ghost use Rattle.codes.specs.Codes.{readCode, Few, placeCode, Small, boolCode, taking, taken, SmallBoth, numbers, comparisonNumbers, writeCode, Bounded};
+ghost use Rattle.codes.specs.Codes.{readCode, Few, placeCode, Small, boolCode, taking, taken, beginning, startNumbers, stepping, stepNumbers, Numbered, SmallBoth, numbers, comparisonNumbers, writeCode, Bounded, addCode, Addable};
+use adding::Added;
 use comparison::Compared;
 use lookup::Lookup;
 use reader::Answer;
 use readings::Truth;
 use readings::Value;
+use walk::Started;
+use walk::Stepped;
 use writer::Written;
 
 // The parts of an answer above its status, from bit 16 on and from bit 32 on.
@@ -77,6 +84,35 @@ pub fn value_code(value: Value, out: &mut i64) -> u64
     }
 }
 
+// 0 with the walk's first numbers in `next` and `count`; or the number of the refusal, with both as they were.
+pub fn start_code(answer: Started, next: &mut u16, count: &mut u16) -> u64
+    ensures { λ r. ⌜ beginning r (now (next .exit)) (now (count .exit)) ≡ startNumbers (startReplied answer) (now (next .entry)) (now (count .entry)) ⌝ }
+{
+    match answer {
+        Started::Begun(entries) => {
+            *next = 0;
+            *count = entries;
+            0
+        }
+        Started::Refused(number) => number as u64,
+    }
+}
+
+// The entry's number from bit 16 on, with one more in `next`; none at the end, or the number of the refusal, with `next` as it was.
+pub fn step_code(answer: Stepped, next: &mut u16) -> u64
+    requires { ⌜ Numbered answer ⌝ }
+    ensures { λ r. ⌜ ((count : ℕ) → stepping r (now (next .exit)) ≡ stepNumbers (stepReplied answer) (walk (now (next .entry)) count)) ⌝ }
+{
+    match answer {
+        Stepped::Listed(entry) => {
+            *next = entry as u16 + 1;
+            FROM_16 * (entry as u64)
+        }
+        Stepped::End => NONE,
+        Stepped::Refused(number) => number as u64,
+    }
+}
+
 // 0 with the numbers of both lookups in `with_it` and `without`; none if the archive has no such file, or the number of the refusal, with
 // both as they were.
 pub fn compare_code(answer: Compared, with_it: &mut u64, without: &mut u64) -> u64
@@ -102,5 +138,16 @@ pub fn write_code(answer: Written) -> u64
     match answer {
         Written::Done(size) => FROM_32 * (size as u64),
         Written::Refused(number) => number as u64,
+    }
+}
+
+// The new entry's number from bit 16 on, or the number of the refusal.
+pub fn add_code(answer: Added) -> u64
+    requires { ⌜ Addable answer ⌝ }
+    ensures { λ r. ⌜ r ≡ addCode (addReplied answer) ⌝ }
+{
+    match answer {
+        Added::Number(number) => FROM_16 * (number as u64),
+        Added::Refused(number) => number as u64,
     }
 }

@@ -12,8 +12,7 @@ use Rattle.definition.specs.Text.{Entry}
 use Rattle.definition.specs.Image.{isImage}
 use Rattle.definition.specs.Reading.{accepted, refused, Outcome, outcome, reading, plain, readEntries}
 use Rattle.definition.specs.Writing.{textOf, entriesOfImage, imageText, written, refused as refusedWriting, Filled, filled, writing}
-use Rattle.laws.proofs.Reading.{Reads, accepted-reads}
-use Rattle.laws.proofs.ThirdTerm.{reading-image, reading-entries}
+use Rattle.laws.proofs.ThirdTerm.{read-holds}
 use Rattle.laws.proofs.Writing.{image-text-long, bound-suffices}
 use Rattle.printing.specs.Putting.{Appends}
 use Rattle.printing.proofs.Pieces.{piece-counts}
@@ -50,18 +49,12 @@ module _ (texts : List (List ℕ)) (archive : List ℕ) where
   read = reading texts archive (zeroes contentsWords) (zeroes bodyBytes)
 
   module _ {c b : List ℕ} (n o : ℕ) (e : outcome (accepted n o) c b ≡ read) where
-    reads : Reads texts archive (zeroes contentsWords) (zeroes bodyBytes)
-    reads = accepted-reads texts archive (zeroes contentsWords) (zeroes bodyBytes) (rw (← e) refl)
-
     pub read-image : isImage c b ≡ true
-    read-image = rw (← e) at (reading-image texts archive (zeroes contentsWords) (zeroes bodyBytes) reads)
-
-    read-entries : entriesOfImage c b ≡ plain (readEntries texts archive)
-    read-entries = rw (← e) at (reading-entries texts archive (zeroes contentsWords) (zeroes bodyBytes) reads)
+    read-image = read-holds texts archive (zeroes contentsWords) (zeroes bodyBytes) c b n o e .0
 
     pub text-told : {out out′ : List ℕ} {r : Report} → Reports (output 0 (imageText c b)) out out′ r → Reports (databaseTold texts archive) out out′ r
     unfolding databaseTold entriesTold
-    text-told p = reports-of (ap (λ (es : List Entry). output 0 (textOf es)) read-entries ∙ rw (← e) refl) p
+    text-told p = reports-of (ap (λ (es : List Entry). output 0 (textOf es)) (read-holds texts archive (zeroes contentsWords) (zeroes bodyBytes) c b n o e .1) ∙ rw (← e) refl) p
 
   pub refused-told : {c b : List ℕ} (k : ℕ) → outcome (refused k) c b ≡ read → {out out′ : List ℕ} {r : Report} → Reports (refusalTold k) out out′ r
       → Reports (databaseTold texts archive) out out′ r

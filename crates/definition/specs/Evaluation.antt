@@ -19,6 +19,8 @@ use Rattle.definition.specs.Matching.{equals, matchAt, markOf, markAt}
 use Rattle.definition.specs.Ranking.{meetRow, skipRow, rankOf, better, bestFrom, bestOf}
 use Rattle.definition.specs.Lookup.{valueOf, answerOf, placeOf, lookup, getBytes, answerIn}
 use Rattle.definition.specs.Value.{Number, table, afterRow, firstRow, character, characterAt, isUtf8, naturalOf, signed, i64Of, lowercase, wordOf, nonZero, toBool, replied, readAs, numberOf, bytesOr, getString, getBool, getValue, shown}
+use Rattle.definition.specs.Walking.{hasRow, aligns, alignedFrom, firstOf, nextOf, begun, walkStart, numberOr, stepped, walkStep, afterStep}
+use Rattle.definition.specs.Adding.{entriesAdded, over, appended, judged, addedOne, adding, listedAfter, turned, played, stepsIn, numbersFrom}
 
 -- an example unfolds all of the definition
 unfoldable pub definition : ℕ
@@ -34,6 +36,8 @@ unfolding
     queryPartAt namesOf positionsOf countedQuery queryOf equals matchAt markOf markAt meetRow skipRow rankOf better bestFrom bestOf
     valueOf answerOf placeOf lookup getBytes answerIn table afterRow firstRow character characterAt isUtf8 naturalOf signed i64Of lowercase
     wordOf nonZero toBool replied readAs numberOf bytesOr getString getBool getValue shown flatten
+    hasRow aligns alignedFrom firstOf nextOf begun walkStart numberOr stepped walkStep afterStep
+    entriesAdded over appended judged addedOne adding listedAfter turned played stepsIn numbersFrom
 definition = 0
 
 -- ---- What an example looks at

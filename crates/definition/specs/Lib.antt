@@ -16,6 +16,8 @@ pub mod Matching
 pub mod Ranking
 pub mod Lookup
 pub mod Value
+pub mod Walking
+pub mod Adding
 pub mod ThirdTerm
 pub mod Evaluation
 mod Examples
@@ -24,5 +26,6 @@ mod Manual
 mod Starts
 mod Paths
 mod Texts
+mod Walks
 mod Numbers
 mod Recorded

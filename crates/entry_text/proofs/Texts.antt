@@ -19,7 +19,7 @@ use Rattle.copies.specs.Appended.{Appends}
 use Rattle.copies.specs.Plain.{isPlain}
 use Rattle.copies.proofs.Copying.{plain-byte, newline-ends, backslash-ends}
 use Rattle.copies.proofs.Pieces.{piece-of, piece-first, then-piece, Walk, walk-begun, walk-next, walk-room, walk-ended}
-use Rattle.entry_text.specs.Lines.{markOf, bytesOf, Escapes, lineOf}
+use Rattle.entry_text.specs.Lines.{leadingEscape, bytesOf, Escapes, lineOf}
 
 -- ---- A byte
 
@@ -43,9 +43,9 @@ module _ (c : ℕ) where
       at false e = absurd (not-both (plain-byte c n (λ f. not-both (rw f refl) e)) h)
 
   -- a backslash more, or none
-  pub escaped-long : length (escaped c) ≡ 1 + bitOf (eqb c newline || eqb c backslash)
+  pub escaped-size : length (escaped c) ≡ 1 + bitOf (eqb c newline || eqb c backslash)
   unfolding escaped
-  escaped-long = at (eqb c backslash) (eqb c newline)
+  escaped-size = at (eqb c backslash) (eqb c newline)
     where
       at : (a b : Bool) → length (if a then backslash ∷ backslash ∷ [] else if b then backslash ∷ letter-n ∷ [] else c ∷ []) ≡ 1 + bitOf (b || a)
       at true true = refl
@@ -55,7 +55,7 @@ module _ (c : ℕ) where
 
   pub escaped-two : isPlain c ≡ false → length (escaped c) ≡ 2
   unfolding isPlain either
-  escaped-two h = escaped-long ∙ at (eqb c newline || eqb c backslash) h
+  escaped-two h = escaped-size ∙ at (eqb c newline || eqb c backslash) h
     where
       at : (b : Bool) → not b ≡ false → 1 + bitOf b ≡ 2
       at true e = refl
@@ -96,7 +96,7 @@ module _ (v : List ℕ) where
       p .begun,
       p .same,
       ap length (bytes-next v i h) ∙ length-append (escaped (getD v i 0)) (bytesOf (drop (i + 1) v)),
-      escaped-long (getD v i 0),
+      escaped-size (getD v i 0),
     );
   }
     where
@@ -118,33 +118,33 @@ run-stops p (c ∷ t) h = at (p c) refl h (run-stops p t)
 pub bytes-least : (t : List ℕ) → length t ≤ length (bytesOf t)
 unfolding bytesOf flatten
 bytes-least [] = omega arith
-bytes-least (c ∷ t) = omega (arith, escaped-long c, length-append (escaped c) (bytesOf t), bytes-least t)
+bytes-least (c ∷ t) = omega (arith, escaped-size c, length-append (escaped c) (bytesOf t), bytes-least t)
 
 -- ---- The value
 
 module _ (v : List ℕ) where
-  pub value-parts : markOf v ++ bytesOf v ≡ valueText v
-  unfolding valueText markOf bytesOf
+  pub value-parts : leadingEscape v ++ bytesOf v ≡ valueText v
+  unfolding valueText leadingEscape bytesOf
   value-parts = refl
 
-  pub marked : beginsBlank v ≡ true → backslash ∷ [] ≡ markOf v
-  unfolding markOf
-  marked e = rw e refl
+  pub a-leading-escape : beginsBlank v ≡ true → backslash ∷ [] ≡ leadingEscape v
+  unfolding leadingEscape
+  a-leading-escape e = rw e refl
 
-  pub unmarked : beginsBlank v ≡ false → [] ≡ markOf v
-  unfolding markOf
-  unmarked e = rw e refl
+  pub no-leading-escape : beginsBlank v ≡ false → [] ≡ leadingEscape v
+  unfolding leadingEscape
+  no-leading-escape e = rw e refl
 
-  pub mark-long : length (markOf v) ≡ bitOf (beginsBlank v)
-  unfolding markOf
-  mark-long = at (beginsBlank v)
+  pub leading-escape-long : length (leadingEscape v) ≡ bitOf (beginsBlank v)
+  unfolding leadingEscape
+  leading-escape-long = at (beginsBlank v)
     where
       at : (b : Bool) → length (if b then backslash ∷ [] else []) ≡ bitOf b
       at true = refl
       at false = refl
 
-pub value-long : (v : List ℕ) → length (valueText v) ≡ length (markOf v) + length (bytesOf v)
-value-long v = ap length (sym (value-parts v)) ∙ length-append (markOf v) (bytesOf v)
+pub value-long : (v : List ℕ) → length (valueText v) ≡ length (leadingEscape v) + length (bytesOf v)
+value-long v = ap length (sym (value-parts v)) ∙ length-append (leadingEscape v) (bytesOf v)
 
 pub nothing-begins : (v : List ℕ) → length v ≡ 0 → false ≡ beginsBlank v
 unfolding beginsBlank
@@ -227,7 +227,7 @@ module _ (key value : List ℕ) where
   unfolding lineOf
   line-long = simp length-append
 
-  pub line-put : {out o₁ o₂ o₃ o₄ o₅ : List ℕ} {at e₁ e₂ e₃ e₄ e₅ : ℕ} → Appends key out at o₁ e₁ → Appends (ascii ": ") o₁ e₁ o₂ e₂ → Appends (markOf value) o₂ e₂ o₃ e₃
+  pub line-put : {out o₁ o₂ o₃ o₄ o₅ : List ℕ} {at e₁ e₂ e₃ e₄ e₅ : ℕ} → Appends key out at o₁ e₁ → Appends (ascii ": ") o₁ e₁ o₂ e₂ → Appends (leadingEscape value) o₂ e₂ o₃ e₃
       → Appends (bytesOf value) o₃ e₃ o₄ e₄ → Appends (newline ∷ []) o₄ e₄ o₅ e₅ → Appends (lineOf key value) out at o₅ e₅
   unfolding lineOf
   line-put k c m b n = then-piece (then-piece (then-piece k c) (piece-of (value-parts value) (then-piece m b))) n

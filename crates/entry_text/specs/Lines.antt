@@ -8,8 +8,8 @@ use Rattle.definition.specs.Bytes.{newline, backslash}
 use Rattle.definition.specs.Writing.{escaped, beginsBlank, valueText}
 
 -- what stands before a value
-unfoldable pub markOf : List ℕ → List ℕ
-markOf v = if beginsBlank v then backslash ∷ [] else []
+unfoldable pub leadingEscape : List ℕ → List ℕ
+leadingEscape v = if beginsBlank v then backslash ∷ [] else []
 
 -- its bytes, each as it is written
 unfoldable pub bytesOf : List ℕ → List ℕ

@@ -6,7 +6,7 @@ ghost use lib.ListN.{length};
 ghost use Rattle.definition.specs.Writing.{escaped, beginsBlank};
 ghost use Rattle.copies.specs.Appended.{Appends};
 ghost use Rattle.copies.specs.Plain.{isPlain};
-ghost use Rattle.entry_text.specs.Lines.{markOf, bytesOf, Escapes, lineOf};
+ghost use Rattle.entry_text.specs.Lines.{leadingEscape, bytesOf, Escapes, lineOf};
 use blocks::bit;
 use copies::copy_in;
 use copies::copy_plain;
@@ -54,9 +54,9 @@ pub fn escapes_in(bytes: &[u8]) -> usize
 }
 
 // Writes the backslash before a value, if there is one, at `at`: where the value begins.
-fn write_mark(value: &[u8], text: &mut [u8], at: usize) -> usize
-    requires { ⌜ at + length (markOf (now value)) ≤ length (now text) ⌝ }
-    ensures { λ r. ⌜ Appends (markOf (now (value .entry))) (now (text .entry)) at (now (text .exit)) r ⌝ }
+fn write_leading_escape(value: &[u8], text: &mut [u8], at: usize) -> usize
+    requires { ⌜ at + length (leadingEscape (now value)) ≤ length (now text) ⌝ }
+    ensures { λ r. ⌜ Appends (leadingEscape (now (value .entry))) (now (text .entry)) at (now (text .exit)) r ⌝ }
 {
     if !begins_blank(value) {
         return at;
@@ -104,7 +104,7 @@ pub fn write_entry(key: &[u8], value: &[u8], text: &mut [u8], at: usize) -> usiz
     let colon = at + key.len();
     text[colon] = b':';
     text[colon + 1] = b' ';
-    let start = write_mark(value, text, colon + 2);
+    let start = write_leading_escape(value, text, colon + 2);
     let end = write_bytes(value, text, start);
     text[end] = b'\n';
     end + 1

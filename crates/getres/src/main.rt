@@ -1,6 +1,6 @@
 // getres: the value that a query gets from a main text or a start-up chain and their files, and whether striking a file off changes
-// it; or the whole database that these give, written out. Its arguments come from `command_line`, what they name from `loading` and
-// `chain_input`; `answering` and `tell_missing` tell what there is to tell.
+// it; the entries that align with it; or the whole database that these give, written out. Its arguments come from `command_line`, what
+// they name from `loading` and `chain_input`; `answering` and `tell_missing` tell what there is to tell.
 ghost use mathlib.Core.Path.{_≡_};
 ghost use mathlib.Core.Bool.{true};
 ghost use Rattle.definition.specs.Archive.{laidOut};
@@ -143,7 +143,7 @@ fn refuse_argument(i: usize) {
     complain(&buffer[..n], b"not understood");
 }
 
-// The status: 0 for a value, equal answers or a database, 1 for none or different answers, 2 for what is refused or fails.
+// The status: 0 for a value, entries, equal answers or a database, 1 for none or different answers, 2 for what is refused or fails.
 fn run(plan: Plan) -> u8 {
     if plan.help {
         write_help(STDOUT_FILENO);

@@ -24,11 +24,11 @@ use Rattle.include_lines.specs.declared.Next.{Next}
 use Rattle.include_lines.specs.declared.Next.the-variants.{Include as NextInclude, End}
 use Rattle.include_lines.proofs.Passing.{entry-found, line-is, line-takes, line-turn, looking-first, looking-done}
 
-lines-end : linesOf [] ≡ []
+pub lines-end : linesOf [] ≡ []
 unfolding linesOf lineAt
 lines-end = ap (λ p. p .items) (many-stop lineAt line-shrinks [] refl)
 
-lines-step : (t : List ℕ) (l : text.Line) (u : List ℕ) → lineAt t ≡ found l u → linesOf t ≡ l ∷ linesOf u
+pub lines-step : (t : List ℕ) (l : text.Line) (u : List ℕ) → lineAt t ≡ found l u → linesOf t ≡ l ∷ linesOf u
 unfolding linesOf
 lines-step t l u e = ap (λ p. p .items) (many-more lineAt line-shrinks t l u e)
 

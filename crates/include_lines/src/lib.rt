@@ -53,7 +53,7 @@ fn value_length(classes: &[u8; 256], text: &[u8]) -> usize
 }
 
 // Where the line after an entry starts, whose value's text starts at `value`.
-fn line_after(classes: &[u8; 256], text: &[u8], value: usize) -> usize
+pub fn line_after(classes: &[u8; 256], text: &[u8], value: usize) -> usize
     requires { ⌜ (now classes ≡ byteClasses) × (value ≤ length (now text)) ⌝ }
     ensures { λ r. ⌜ r ≡ lineAfter (now (text .entry)) value ⌝ }
 {

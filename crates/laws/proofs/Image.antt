@@ -1,12 +1,12 @@
 -- Laws of the image: written from entries, it is an image and gives the entries back; and the entries of any image may be stored. Assumes nothing.
 use mathlib.Core.Bool.{Bool, true, false, _&&_, _||_, not}
 use mathlib.Core.List.{List, [], _∷_, _++_, append-assoc}
-use mathlib.Core.Path.{_≡_, refl, ap, _∙_}
+use mathlib.Core.Path.{_≡_, refl, sym, ap, _∙_}
 use Prim.Native.Nat.{ℕ, zero, suc, _+_, _*_, _-_, _≤_}
 use native.Mathlib.Omega.{arith}
 use lib.Dec.{eqb, leb, ltb}
 use lib.ListN.{length, drop, length-append, length-drop, length-replicate}
-use lib.Seq.{length-slice}
+use lib.Seq.{slice, slice-empty, length-slice}
 use borrow.Author.Tests.{ltb-false, leb-true, le-leb, eqb-true, eq-eqb, not-true}
 use Rattle.definition.specs.Lists.{all, zeroes, beyond}
 use Rattle.definition.specs.Parsing.{Parsed}
@@ -36,7 +36,7 @@ use Rattle.definition.specs.Image.{
   tooShort,
   isImage,
 }
-use Rattle.laws.proofs.Lists.{not-both, and-true, and-both, slice-at}
+use Rattle.laws.proofs.Lists.{not-both, and-true, and-both, slice-at, slice-join}
 use Rattle.laws.proofs.Keys.{isLegal, key-parts, is-key, parts-of}
 
 -- what a reading may store
@@ -257,23 +257,18 @@ entries-storable (r ∷ rows) bodies h =
     let few = le-leb (length (keyParts (keyAt bodies r))) mostParts (k .few) in
     and-both (and-both (and-both (k .legal) (k .named)) few) (entries-storable rows bodies (a .1))
 
--- they need the bytes used
-entries-used : (at : ℕ) (rows : List Row) (used : ℕ) (bodies : List ℕ) → packed at rows used ≡ true → used ≤ length bodies
-    → all (λ r. isKey (keyAt bodies r)) rows ≡ true → at + length (storeOf (entriesIn rows bodies)) ≡ used
+-- together they are the bytes used
+pub store-is : (at : ℕ) (rows : List Row) (used : ℕ) (bodies : List ℕ) → packed at rows used ≡ true
+    → all (λ r. isKey (keyAt bodies r)) rows ≡ true → storeOf (entriesIn rows bodies) ≡ slice at used bodies
 unfolding packed entriesIn all storeOf
-entries-used at [] used bodies p u h = omega (arith, eqb-true at used p)
-entries-used at (r ∷ rows) used bodies p u h =
+store-is at [] used bodies p h = sym (slice-empty at bodies) ∙ ap (λ (n : ℕ). slice at n bodies) (eqb-true at used p)
+store-is at (r ∷ rows) used bodies p h =
     let a = and-true (isKey (keyAt bodies r)) (all (λ r. isKey (keyAt bodies r)) rows) h in
     let q = and-true (eqb (r .start) at) (packed (valueEnd r) rows used) p in
-    let key = keyOf (keyParts (keyAt bodies r)) in
-    let value = valueAt bodies r in
-    let rest = storeOf (entriesIn rows bodies) in
-    let e : length key ≡ length (keyAt bodies r) = ap length (parts-of (keyAt bodies r) (a .0) .written) in
     let most = packed-most (valueEnd r) rows used (q .1) in
-    let k = length-slice (r .start) (keyEnd r) bodies (omega arith) in
-    let v = length-slice (keyEnd r) (valueEnd r) bodies (omega arith) in
-    let ih = entries-used (valueEnd r) rows used bodies (q .1) u (a .1) in
-    omega (arith, e, k, v, ih, eqb-true (r .start) at (q .0), length-append (key ++ value) rest, length-append key value)
+    rw (parts-of (keyAt bodies r) (a .0) .written, store-is (valueEnd r) rows used bodies (q .1) (a .1), ← eqb-true (r .start) at (q .0))
+    (ap (λ (l : List ℕ). l ++ slice (valueEnd r) used bodies) (slice-join bodies (r .start) (keyEnd r) (valueEnd r) (omega arith) (omega arith))
+    ∙ slice-join bodies (r .start) (valueEnd r) used (omega arith) most)
 
 -- they are as many as the image says, and need the bytes that it says
 pub image-sizes : (contents bodies : List ℕ) → isImage contents bodies ≡ true
@@ -281,8 +276,9 @@ pub image-sizes : (contents bodies : List ℕ) → isImage contents bodies ≡ t
 image-sizes contents bodies e =
     let i = image-holds contents bodies e in
     let rows = rowsIn contents in
-    let used = entries-used 0 rows (usedOf contents) bodies (i .is-packed) (omega (arith, i .used-most, i .bodies-long)) (i .are-keys) in
-    (entries-count rows bodies ∙ count-rows contents, omega (arith, used))
+    let bytes = ap length (store-is 0 rows (usedOf contents) bodies (i .is-packed) (i .are-keys)) in
+    let long = length-slice 0 (usedOf contents) bodies (omega (arith, i .used-most, i .bodies-long)) in
+    (entries-count rows bodies ∙ count-rows contents, omega (arith, bytes, long))
 
 -- entries that an image may hold
 pub record Held (es : List Entry) : Type 0 where

@@ -13,4 +13,6 @@ pub mod Writing
 pub mod Ranking
 pub mod Ranks
 pub mod Lookup
+pub mod Walking
+pub mod Adding
 pub mod ThirdTerm

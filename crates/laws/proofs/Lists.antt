@@ -8,7 +8,7 @@ use native.Mathlib.Omega.{arith}
 use native.Mathlib.Decide.{decLt}
 use lib.Dec.{eqb, ltb, leb}
 use lib.ListN.{length, getD, take, drop, length-drop, drop-of-length-le, set, length-append, length-set}
-use lib.Seq.{slice, take-nil, take-append-add, take-append-seam, drop-append-seam, take-all, drop-cons, drop-drop, paste, take-length, length-take-le, sets-eq, take-paste, drop-paste}
+use lib.Seq.{slice, take-nil, drop-nil, take-append-add, take-append-seam, drop-append-seam, take-all, drop-cons, drop-drop, paste, take-length, length-take-le, sets-eq, take-paste, drop-paste}
 use native.Mathlib.Nat.{le-refl}
 use borrow.Author.Tests.{eqb-true, eq-eqb, lt-ltb, le-ltb, ne-eqb, le-leb, lt-leb, leb-true}
 use Rattle.definition.specs.Bytes.{within}
@@ -201,6 +201,12 @@ pub getD-map : {A B : Type 0} (f : A → B) (xs : List A) (i : ℕ) (d : A) (e :
 getD-map f [] i d e h = absurd (omega arith)
 getD-map f (x ∷ xs) zero d e h = refl
 getD-map f (x ∷ xs) (suc i) d e h = getD-map f xs i d e (omega arith)
+
+-- what is there does not depend on what stands in for the rest
+pub getD-inside : {A : Type 0} (xs : List A) (i : ℕ) (d e : A) → i < length xs → getD xs i d ≡ getD xs i e
+getD-inside [] i d e h = absurd (omega arith)
+getD-inside (x ∷ xs) zero d e h = refl
+getD-inside (x ∷ xs) (suc i) d e h = getD-inside xs i d e (omega arith)
 
 -- ys are elements of xs in their order, every kept one among them: place says where in xs each stands
 pub record Places {A : Type 0} (keep : A → Bool) (d : A) (ys xs : List A) : Type 0 where
@@ -530,3 +536,13 @@ part-slice xs zero m = let e : m - 0 ≡ m = omega arith in rw e refl
 part-slice xs (suc n) zero = let e : 0 - suc n ≡ 0 = omega arith in rw e refl
 part-slice [] (suc n) (suc m) = take-nil (suc m - suc n)
 part-slice (x ∷ xs) (suc n) (suc m) = let e : suc m - suc n ≡ m - n = omega arith in rw e (part-slice xs n m)
+
+-- two such parts, joined
+pub slice-join : {A : Type 0} (xs : List A) (a b c : ℕ) → a ≤ b → b ≤ c → slice a b xs ++ slice b c xs ≡ slice a c xs
+slice-join [] a b c h k = rw (take-nil b, take-nil c, drop-nil a, drop-nil b) refl
+slice-join (x ∷ xs) zero zero c h k = refl
+slice-join (x ∷ xs) zero (suc b) zero h k = absurd (omega arith)
+slice-join (x ∷ xs) zero (suc b) (suc c) h k = ap (λ (l : List _). x ∷ l) (slice-join xs zero b c (omega arith) (omega arith))
+slice-join (x ∷ xs) (suc a) zero c h k = absurd (omega arith)
+slice-join (x ∷ xs) (suc a) (suc b) zero h k = absurd (omega arith)
+slice-join (x ∷ xs) (suc a) (suc b) (suc c) h k = slice-join xs a b c (omega arith) (omega arith)

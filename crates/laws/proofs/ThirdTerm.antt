@@ -14,7 +14,8 @@ use Rattle.definition.specs.Archive.{filesOf, struckOff}
 use Rattle.definition.specs.Text.{Part, Entry, entry}
 use Rattle.definition.specs.Including.{Entered, entriesOf}
 use Rattle.definition.specs.Image.{storeOf, rowsIn, entriesIn, imageContents, imageBodies, isImage}
-use Rattle.definition.specs.Reading.{reading, readEntries, plain, met, start}
+use Rattle.definition.specs.Reading.{accepted, outcome, reading, readEntries, plain, met, start}
+use Rattle.definition.specs.Writing.{entriesOfImage}
 use Rattle.definition.specs.Query.{Position, Query, positions, malformed, pastLimit, queryOf}
 use Rattle.definition.specs.Matching.{Aligned, Beats}
 use Rattle.definition.specs.Ranking.{Best, noEntry, best, bestOf}
@@ -190,6 +191,13 @@ module _ (texts : List (List ℕ)) (archive contents bodies : List ℕ) (r : Rea
   reading-replies name class limits k =
       rw (reads-outcome texts archive contents bodies r, image-is es contents bodies storable few small (r .long))
       (replies (imageContents es contents) (imageBodies es bodies) (queryOf name class) limits k)
+
+-- an accepted reading, by what its call leaves
+pub read-holds : (texts : List (List ℕ)) (archive contents bodies c b : List ℕ) (n o : ℕ) → outcome (accepted n o) c b ≡ reading texts archive contents bodies
+    → (isImage c b ≡ true) × (entriesOfImage c b ≡ plain (readEntries texts archive))
+read-holds texts archive contents bodies c b n o e =
+    let r = accepted-reads texts archive contents bodies (rw (← e) refl) in
+    (rw (← e) at (reading-image texts archive contents bodies r), rw (← e) at (reading-entries texts archive contents bodies r))
 
 -- ---- The term
 

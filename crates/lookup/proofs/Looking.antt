@@ -7,12 +7,12 @@ use Prim.Native.Nat.{ℕ, suc, _+_, _-_, _≤_, _<_, max}
 use native.Mathlib.Numerals.{add-one}
 use native.Mathlib.Nat.{sub-zero}
 use native.Mathlib.Omega.{arith}
-use lib.ListN.{length, getD, take, drop}
+use lib.ListN.{length, getD, take}
 use Rattle.definition.specs.Lists.{if_then_else_}
 use Rattle.definition.specs.Limits.{bodyBytes}
 use Rattle.definition.specs.Text.{Part}
 use Rattle.definition.specs.Image as image
-use Rattle.definition.specs.Image.{rowsFrom, rowsIn, countOf, keyEnd, valueEnd, keyAt, keyParts, entriesIn, isKey, isImage}
+use Rattle.definition.specs.Image.{rowsFrom, rowsIn, countOf, keyEnd, valueEnd, keyAt, keyParts, entriesIn, isImage}
 use Rattle.definition.specs.Query.{Position, Query, positions, malformed, pastLimit, positionsOf, queryOf}
 use Rattle.definition.specs.Ranking.{Best, noEntry, best, rankOf, better, bestFrom, bestOf}
 use Rattle.definition.specs.Lookup.{keysOf, Reply, given, noValue, refused, Place, placeOf, lookup, getBytes}
@@ -22,7 +22,6 @@ use Rattle.query.specs.declared.Names.{Names}
 use Rattle.query.specs.declared.Split.{Split}
 use Rattle.query.specs.declared.Shape.{Shape}
 use Rattle.query.proofs.Queries.{query-is}
-use Rattle.laws.proofs.Lists.{part-slice}
 use Rattle.laws.proofs.Image.{count-rows}
 use Rattle.laws.proofs.Ranking.{best-beats}
 use Rattle.marks.specs.Rows.{marksOf, bestIn, winsOver}
@@ -30,7 +29,7 @@ use Rattle.positions.specs.Spans.{queried}
 use Rattle.marks.specs.declared.Marks.{Marks}
 use Rattle.marks.proofs.Rows.{Long, rank-long, stands-row, wins-better}
 use Rattle.positions.proofs.Positions.{length-queried}
-use Rattle.image.specs.Rows.{rowStart, rowAt, rowsLeft, RowIs}
+use Rattle.image.specs.Rows.{rowAt, rowsLeft, RowIs}
 use Rattle.image.specs.declared.Row.{Row}
 use Rattle.image.proofs.Rows.{rows-turn, row-is}
 use Rattle.image_judge.proofs.Judged.{judged}
@@ -131,28 +130,12 @@ module _ (contents bodies name class : List ℕ) where
     unfolding getBytes
     by-shape s f = sym (rw (e, query-is name class n c p q, f) refl)
 
--- ---- The key and the value of a row, as the code takes them
+-- ---- The answer
 
-module _ (contents bodies : List ℕ) (i : ℕ) (r : Row) (e : RowIs contents i r) where
-  pub key-part : take (r .start + r .key - r .start) (drop (r .start) bodies) ≡ keyAt bodies (rowAt contents i)
-  key-part = part-slice bodies (r .start) (r .start + r .key) ∙ ap (keyAt bodies) (e .is)
-
-  module _ (image : isImage contents bodies ≡ true) (h : i < countOf contents) where
-    pub key-within : r .start + r .key ≤ length bodies
-    key-within =
-        let j = judged contents bodies image in
-        let v : r .start + r .key + r .value ≡ valueEnd (rowAt contents i) = ap valueEnd (e .is) in
-        omega (arith, v, j .row-inside i h, j .used-most, j .bodies-long)
-
-    pub key-is : isKey (take (r .start + r .key - r .start) (drop (r .start) bodies)) ≡ true
-    key-is = rw key-part (judged contents bodies image .row-key i h)
-
-  -- the answer from the row of the best entry
-  pub found-is : _≡_ {A = Reply Place} (given (record { start = r .start + r .key; length = r .value })) (given (record { start = keyEnd (rowAt contents i); length = rowAt contents i .valueLength }))
-  found-is = ap (λ (x : image.Row). given (record { start = keyEnd x; length = x .valueLength })) (e .is)
-
-pub rows-inside : (contents bodies : List ℕ) (i : ℕ) → isImage contents bodies ≡ true → i < countOf contents → rowStart (i + 1) ≤ length contents
-rows-inside contents bodies i image h = omega (arith, judged contents bodies image .rows-within)
+-- from the row of the best entry
+pub found-is : (contents : List ℕ) (i : ℕ) (r : Row) → RowIs contents i r
+    → _≡_ {A = Reply Place} (given (record { start = r .start + r .key; length = r .value })) (given (record { start = keyEnd (rowAt contents i); length = rowAt contents i .valueLength }))
+found-is contents i r e = ap (λ (x : image.Row). given (record { start = keyEnd x; length = x .valueLength })) (e .is)
 
 -- ---- A value that is found lies in the bodies that an image has
 

@@ -64,8 +64,11 @@ missing = 15
 abbrev pub write : ℕ
 write = 16
 
+abbrev pub list : ℕ
+list = 17
+
 abbrev pub unknown : ℕ
-unknown = 17
+unknown = 18
 
 -- ---- Values
 
@@ -100,4 +103,5 @@ optionOf a =
     if same a (ascii "--") then operand else
     if same a (ascii "--missing") then missing else
     if same a (ascii "--write") then write else
+    if same a (ascii "--list") then list else
     chainOption a

@@ -43,7 +43,9 @@ pub const MISSING: usize = 15;
 
 pub const WRITE: usize = 16;
 
-pub const UNKNOWN: usize = 17;
+pub const LIST: usize = 17;
+
+pub const UNKNOWN: usize = 18;
 
 // Is an argument a value for that?
 pub fn takes(what: usize, argument: &[u8]) -> bool
@@ -110,6 +112,9 @@ pub fn option_of(argument: &[u8]) -> usize
     }
     if is_word(argument, b"--write") {
         return WRITE;
+    }
+    if is_word(argument, b"--list") {
+        return LIST;
     }
     chain_option(argument)
 }

@@ -9,36 +9,39 @@ use Rattle.options.specs.Options.{text, name, class, without, anything, operand
 use Rattle.plans.specs.declared.Plan.{Plan}
 
 -- the numbers of the arguments given for each thing, 0 for none; the first that is not understood; what is next; is help asked for, the
--- includes that find no file, the database written out, and a chain?
-abbrev pub plan : List ℕ → ℕ → ℕ → Bool → Bool → Bool → Bool → Plan
-plan given wrong next help missing write chain =
-    record { given = given; wrong = wrong; next = next; help = help; missing = missing; write = write; chain = chain }
+-- includes that find no file, the database written out, the entries that align, and a chain?
+abbrev pub plan : List ℕ → ℕ → ℕ → Bool → Bool → Bool → Bool → Bool → Plan
+plan given wrong next help missing write list chain =
+    record { given = given; wrong = wrong; next = next; help = help; missing = missing; write = write; list = list; chain = chain }
 
 abbrev pub nothingAsked : Plan
-nothingAsked = plan (replicate 11 0) 0 anything false false false false
+nothingAsked = plan (replicate 11 0) 0 anything false false false false false
 
 -- the plan with one field more
 module _ (p : Plan) where
   abbrev pub toGiven : List ℕ → Plan
-  toGiven given = plan given (p .wrong) (p .next) (p .help) (p .missing) (p .write) (p .chain)
+  toGiven given = plan given (p .wrong) (p .next) (p .help) (p .missing) (p .write) (p .list) (p .chain)
 
   abbrev pub toWrong : ℕ → Plan
-  toWrong i = plan (p .given) i (p .next) (p .help) (p .missing) (p .write) (p .chain)
+  toWrong i = plan (p .given) i (p .next) (p .help) (p .missing) (p .write) (p .list) (p .chain)
 
   abbrev pub toNext : ℕ → Plan
-  toNext n = plan (p .given) (p .wrong) n (p .help) (p .missing) (p .write) (p .chain)
+  toNext n = plan (p .given) (p .wrong) n (p .help) (p .missing) (p .write) (p .list) (p .chain)
 
   abbrev pub toHelp : Plan
-  toHelp = plan (p .given) (p .wrong) (p .next) true (p .missing) (p .write) (p .chain)
+  toHelp = plan (p .given) (p .wrong) (p .next) true (p .missing) (p .write) (p .list) (p .chain)
 
   abbrev pub toMissing : Plan
-  toMissing = plan (p .given) (p .wrong) (p .next) (p .help) true (p .write) (p .chain)
+  toMissing = plan (p .given) (p .wrong) (p .next) (p .help) true (p .write) (p .list) (p .chain)
 
   abbrev pub toWrite : Plan
-  toWrite = plan (p .given) (p .wrong) (p .next) (p .help) (p .missing) true (p .chain)
+  toWrite = plan (p .given) (p .wrong) (p .next) (p .help) (p .missing) true (p .list) (p .chain)
+
+  abbrev pub toList : Plan
+  toList = plan (p .given) (p .wrong) (p .next) (p .help) (p .missing) (p .write) true (p .chain)
 
   abbrev pub toChain : Plan
-  toChain = plan (p .given) (p .wrong) (p .next) (p .help) (p .missing) (p .write) true
+  toChain = plan (p .given) (p .wrong) (p .next) (p .help) (p .missing) (p .write) (p .list) true
 
 -- the argument that was given for something
 unfoldable pub givenFor : Plan → ℕ → ℕ
@@ -62,12 +65,19 @@ placed p =
     then (if eqb (getD (p .given) class 0) 0 then toGiven p (inChain (p .given)) else misunderstood (toGiven p (inChain (p .given))) (getD (p .given) class 0))
     else p
 
--- a database that is written out is asked no query: neither a name nor --without is understood
+-- what is written out or listed is one database: --without is not understood
+unfoldable pub uncompared : Plan → Plan
+uncompared p = misunderstood p (givenFor p without)
+
+-- a database that is written out is asked no query: a name is not understood either
 unfoldable pub unasked : Plan → Plan
-unasked p = misunderstood (misunderstood p (givenFor p name)) (givenFor p without)
+unasked p = uncompared (misunderstood p (givenFor p name))
 
 unfoldable pub settled : Plan → Plan
-settled p = if p .write then unasked (placed p) else placed p
+settled p =
+    if p .write then unasked (placed p) else
+    if p .list then uncompared (placed p) else
+    placed p
 
 -- the name is there; of a database that is written out, the text or a chain
 unfoldable pub hasOperands : Plan → Bool

@@ -1,7 +1,7 @@
 // What getres is to do, as its arguments say it: a plan.
 ghost use mathlib.Core.Path.{_≡_};
 ghost use Prim.Native.Nat.{_<_};
-ghost use Rattle.plans.specs.Plans.{nothingAsked, givenFor, misunderstood, once, placed, unasked, settled, hasOperands, isWhole};
+ghost use Rattle.plans.specs.Plans.{nothingAsked, givenFor, misunderstood, once, placed, uncompared, unasked, settled, hasOperands, isWhole};
 use options::ANY;
 use options::CLASS;
 use options::NAME;
@@ -11,7 +11,7 @@ use options::WITHOUT;
 
 // Arguments by their numbers, of which 0, the program's own name, says that there is none. `given` has those that the options name,
 // from TEXT to HOST; `wrong` is the first that is not understood; `next` is what the next one is for; `help`, `missing`, the includes that
-// find no file, `write`, the database written out, and `chain`, a start-up chain, are asked for or not.
+// find no file, `write`, the database written out, `list`, the entries that align, and `chain`, a start-up chain, are asked for or not.
 pub struct Plan {
     pub given: [usize; 11],
     pub wrong: usize,
@@ -19,6 +19,7 @@ pub struct Plan {
     pub help: bool,
     pub missing: bool,
     pub write: bool,
+    pub list: bool,
     pub chain: bool,
 }
 
@@ -32,6 +33,7 @@ pub fn nothing_asked() -> Plan
         help: false,
         missing: false,
         write: false,
+        list: false,
         chain: false,
     }
 }
@@ -87,13 +89,19 @@ fn placed(plan: Plan) -> Plan
     plan
 }
 
-// A database that is written out is asked no query: neither a name nor `--without` is understood. Where there is none, 0 changes
-// nothing.
+// What is written out or listed is one database: `--without` is not understood. Where there is none, 0 changes nothing.
+fn uncompared(plan: Plan) -> Plan
+    ensures { λ r. ⌜ r ≡ uncompared plan ⌝ }
+{
+    misunderstood(plan, given(plan, WITHOUT))
+}
+
+// A database that is written out is asked no query: a name is not understood either.
 fn unasked(plan: Plan) -> Plan
     ensures { λ r. ⌜ r ≡ unasked plan ⌝ }
 {
     let more = misunderstood(plan, given(plan, NAME));
-    misunderstood(more, given(plan, WITHOUT))
+    uncompared(more)
 }
 
 // The plan once all arguments are taken.
@@ -103,6 +111,9 @@ pub fn settled(plan: Plan) -> Plan
     let more = placed(plan);
     if plan.write {
         return unasked(more);
+    }
+    if plan.list {
+        return uncompared(more);
     }
     more
 }

@@ -17,4 +17,5 @@ refusalOf k =
     if eqb k 9 then ascii "refused 9: the name or the class has more than 1,024 bytes" else
     if eqb k 10 then ascii "refused 10: the name or the class has more than 32 parts" else
     if eqb k 11 then ascii "refused 11: the buffer is shorter than the text" else
+    if eqb k 12 then ascii "refused 12: the text makes no entry or more than one" else
     ascii "refused"

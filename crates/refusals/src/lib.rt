@@ -5,8 +5,8 @@ ghost use Rattle.printing.specs.Putting.{Appends};
 ghost use Rattle.refusals.specs.Refusals.{refusalOf};
 use printing::put;
 
-// Puts the words of a refusal at `at`. 1, 3, 8 and 11 do not come up: the buffers are long enough and hold what was read, and the
-// archive is laid out.
+// Puts the words of a refusal at `at`. 1, 3, 8, 11 and 12 do not come up: the buffers are long enough and hold what was read, the
+// archive is laid out, and nothing is added.
 pub fn put_reason(number: u8, out: &mut [u8], at: usize) -> usize
     requires { ⌜ at + 60 ≤ length (now out) ⌝ }
     ensures { λ r. ⌜ Appends (refusalOf number) (now (out .entry)) at (now (out .exit)) r ⌝ }
@@ -43,6 +43,11 @@ pub fn put_reason(number: u8, out: &mut [u8], at: usize) -> usize
             at,
         ),
         11 => put(b"refused 11: the buffer is shorter than the text", out, at),
+        12 => put(
+            b"refused 12: the text makes no entry or more than one",
+            out,
+            at,
+        ),
         _ => put(b"refused", out, at),
     }
 }

@@ -1,17 +1,21 @@
--- The place that a lookup finds, and the length of a text, are small enough for their codes; and what the boundary makes of each answer.
--- Assumes nothing.
+-- The place that a lookup finds, the number of a step or of an added entry and the length of a text are small enough for their codes; and what
+-- the boundary makes of each answer. Assumes nothing.
 use mathlib.Core.List.{List}
-use mathlib.Core.Path.{_≡_, refl, ap, _∙_}
+use mathlib.Core.Path.{_≡_, refl, sym, ap, _∙_}
 use Prim.Native.Nat.{ℕ}
 use native.Mathlib.Omega.{arith}
 use lib.ListN.{length}
 use lib.Seq.{length-take-le}
 use Rattle.definition.specs.Reading.{Outcome, outcome, reading}
 use Rattle.laws.proofs.Reading.{accepted-small}
+use Rattle.laws.proofs.Walking.{step-small}
 use Rattle.laws.proofs.Writing.{image-text-long, written-text}
+use Rattle.laws.proofs.Adding.{adding-small}
 use Rattle.definition.specs.Lookup.{getBytes}
 use Rattle.definition.specs.Value.{getString}
+use Rattle.definition.specs.Walking.{Walk, walkStep}
 use Rattle.definition.specs.Writing.{Filled, filled, writing}
+use Rattle.definition.specs.Adding.{Addition, addition, adding}
 use Rattle.definition.specs.ThirdTerm.{Case, withFile, withoutFile}
 use Rattle.comparison.specs.declared.Compared.{Compared}
 use Rattle.comparison.specs.declared.Compared.the-variants.{Both, NoFile, Refused as RefusedCall}
@@ -26,13 +30,19 @@ use Rattle.reader.specs.declared.Answer.{Answer}
 use Rattle.reader.specs.declared.Answer.the-variants.{Accepted, Refused as RefusedReading}
 use Rattle.reader.specs.Said.{said}
 use Rattle.readings.proofs.Readings.{string-found}
+use Rattle.walk.specs.Replies.{stepReplied}
+use Rattle.walk.specs.declared.Stepped.{Stepped}
+use Rattle.walk.specs.declared.Stepped.the-variants.{Listed, End, Refused as RefusedStep}
 use Rattle.writer.specs.declared.Written.{Written}
 use Rattle.writer.specs.declared.Written.the-variants.{Done, Refused as RefusedText}
 use Rattle.writer.specs.Extents.{extentOf}
-use Rattle.codes.specs.Codes.{readCode, Few, Small, Numbers, comparisonNumbers, SmallBoth, writeCode, Bounded}
-use Rattle.resource_manager.specs.Boundary.{crossed, crossing, filling, fillCode, compares, carried, Crosses}
+use Rattle.adding.specs.declared.Added.{Added}
+use Rattle.adding.specs.declared.Added.the-variants.{Number, Refused as RefusedAddition}
+use Rattle.adding.specs.Appending.{replied as addReplied}
+use Rattle.codes.specs.Codes.{readCode, Few, Small, Numbered, Numbers, comparisonNumbers, SmallBoth, writeCode, Bounded, addCode, Addable}
+use Rattle.resource_manager.specs.Boundary.{crossed, crossing, filling, fillCode, addCrossed, compares, carried, Crosses}
 
--- ---- Readings and lookups, once the answer is told
+-- ---- Readings, lookups and steps, once the answer is told
 
 module _ (texts : List (List ℕ)) (archive contents bodies c b : List ℕ) where
   pub read-few : (r : Answer) → outcome (said r) c b ≡ reading texts archive contents bodies → Few r
@@ -53,6 +63,11 @@ module _ (contents bodies name class : List ℕ) where
   string-small Nothing e = tt
   string-small (Refused k) e = tt
 
+  pub step-numbered : (w : Walk) (r : Stepped) → stepReplied r ≡ walkStep contents bodies name class w → Numbered r
+  step-numbered w (Listed i) e = step-small contents bodies name class w i (sym e)
+  step-numbered w End e = tt
+  step-numbered w (RefusedStep k) e = tt
+
 -- ---- A writing
 
 module _ (contents bodies buffer t : List ℕ) where
@@ -64,6 +79,16 @@ module _ (contents bodies buffer t : List ℕ) where
 
 pub write-fills : (r : Written) (n : ℕ) (t : List ℕ) (f : Filled) → filled (extentOf r) t ≡ f → n ≡ writeCode (extentOf r) → filling n t ≡ fillCode f
 write-fills r n t f e g = rw (← e, g) refl
+
+-- ---- An addition
+
+module _ (contents bodies text c b : List ℕ) where
+  pub add-numbered : (r : Added) → addition (addReplied r) c b ≡ adding contents bodies text → Addable r
+  add-numbered (Number i) e = omega (arith, adding-small contents bodies text i (ap (λ (a : Addition). a .answer) (sym e)))
+  add-numbered (RefusedAddition k) e = tt
+
+pub add-crosses : (r : Added) (n : ℕ) (c b : List ℕ) (a : Addition) → addition (addReplied r) c b ≡ a → n ≡ addCode (addReplied r) → crossing n c b ≡ addCrossed a
+add-crosses r n c b a e f = rw (← e, f) refl
 
 -- ---- A comparing call
 

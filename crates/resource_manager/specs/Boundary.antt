@@ -8,8 +8,9 @@ use lib.ListN.{length}
 use Rattle.definition.specs.Reading.{Outcome}
 use Rattle.definition.specs.ThirdTerm.{Case, withFile, withoutFile, lookup, Given, ThirdTerm}
 use Rattle.definition.specs.Writing.{Filled}
+use Rattle.definition.specs.Adding.{Addition}
 use Rattle.compare.specs.Comparing.{Left, bothRead, comparing}
-use Rattle.codes.specs.Codes.{readCode, placeCode, Numbers, numbers, comparisonNumbers, writeCode}
+use Rattle.codes.specs.Codes.{readCode, placeCode, Numbers, numbers, comparisonNumbers, writeCode, addCode}
 
 -- a flag is no if it is 0, else yes
 abbrev pub yes : ℕ → Bool
@@ -41,6 +42,11 @@ filling n t = record { code = n; buffer = t }
 
 abbrev pub fillCode : Filled → Filling
 fillCode f = filling (writeCode (f .answer)) (f .buffer)
+
+-- ---- Additions
+
+abbrev pub addCrossed : Addition → Crossing
+addCrossed a = crossing (addCode (a .answer)) (a .contents) (a .bodies)
 
 -- ---- The comparing call
 

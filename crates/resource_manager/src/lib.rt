@@ -1,5 +1,6 @@
 // The calls for C, Rust and the tests to link. A slice passes as a pointer and an element count.
 mod comparing;
+mod walking;
 
 ghost use mathlib.Core.List.{[], _∷_};
 ghost use mathlib.Core.Path.{_≡_};
@@ -9,10 +10,12 @@ ghost use Rattle.definition.specs.Lookup.{getBytes};
 ghost use Rattle.definition.specs.Value as definition;
 ghost use Rattle.definition.specs.Value.{getString, getBool, getValue};
 ghost use Rattle.definition.specs.Writing.{writing};
+ghost use Rattle.definition.specs.Adding.{adding};
 ghost use Rattle.sources.specs.Lending.{lending, startUp};
 ghost use Rattle.codes.specs.Codes.{placeCode, boolCode, taking, taken};
-ghost use Rattle.resource_manager.specs.Boundary.{yes, crossed, crossing, filling, fillCode};
+ghost use Rattle.resource_manager.specs.Boundary.{yes, crossed, crossing, filling, fillCode, addCrossed};
 ghost use Rattle.readings.specs.Showing.{shownAt};
+use codes::add_code;
 use codes::bool_code;
 use codes::place_code;
 use codes::read_code;
@@ -157,4 +160,13 @@ pub extern "C" fn resource_manager_write(contents: &[u16], bodies: &[u8], text: 
 {
     let answer = writer::write(contents, bodies, text);
     write_code(answer)
+}
+
+// Adds the entry that a text makes to an image: its number from bit 16 on; or the refusal, with both buffers as they were.
+#[no_mangle]
+pub extern "C" fn resource_manager_add(contents: &mut [u16], bodies: &mut [u8], text: &[u8]) -> u64
+    ensures { λ r. ⌜ crossing r (now (contents .exit)) (now (bodies .exit)) ≡ addCrossed (adding (now (contents .entry)) (now (bodies .entry)) (now (text .entry))) ⌝ }
+{
+    let answer = adding::add(contents, bodies, text);
+    add_code(answer)
 }

@@ -10,9 +10,8 @@ use lib.ListN.{length, take, drop}
 use lib.Seq.{take-length, length-take-le}
 use borrow.Author.Tests.{le-leb, leb-false, lt-ltb, le-ltb}
 use Rattle.definition.specs.Image as image
-use Rattle.definition.specs.Image.{rowsFrom, rowsIn, countOf, usedOf, valueEnd, keyAt, valueAt, entriesIn, isImage}
+use Rattle.definition.specs.Image.{rowsFrom, rowsIn, countOf, usedOf, keyAt, entriesIn, isImage}
 use Rattle.definition.specs.Writing.{beginsBlank, entryText, textOf, imageText, written, refused, filled, putInto, writing}
-use Rattle.laws.proofs.Lists.{part-slice}
 use Rattle.laws.proofs.Keys.{parts-of}
 use Rattle.laws.proofs.Writing.{image-text-most}
 use Rattle.copies.specs.Appended.{Appends}
@@ -24,7 +23,8 @@ use Rattle.image.specs.declared.Row.{Row}
 use Rattle.image.specs.Rows.{rowAt, rowsLeft, RowIs}
 use Rattle.image.proofs.Rows.{rows-turn}
 use Rattle.image_judge.proofs.Judged.{judged}
-use Rattle.writer.proofs.Sizes.{marksIn, image-text-size}
+use Rattle.image_judge.proofs.Parts.{key-part, value-part}
+use Rattle.writer.proofs.Sizes.{leadingEscapesIn, image-text-size}
 
 -- ---- Row by row
 
@@ -42,11 +42,6 @@ module _ (contents bodies : List ℕ) where
 
   -- row i, as the code has it
   module _ (g : isImage contents bodies ≡ true) (i : ℕ) (h : i < countOf contents) (r : Row) (e : RowIs contents i r) where
-    pub row-within : r .start + r .key + r .value ≤ length bodies
-    row-within =
-        let j = judged contents bodies g in
-        omega (arith, ap valueEnd (e .is), j .row-inside i h, j .used-most, j .bodies-long)
-
     -- its key and its value, as the borrow checker gives them
     abbrev pub keyPart : List ℕ
     keyPart = take (r .start + r .key - r .start) (drop (r .start) bodies)
@@ -54,31 +49,25 @@ module _ (contents bodies : List ℕ) where
     abbrev pub valuePart : List ℕ
     valuePart = take (r .start + r .key + r .value - (r .start + r .key)) (drop (r .start + r .key) bodies)
 
-    key-is : keyPart ≡ keyAt bodies (rowAt contents i)
-    key-is = part-slice bodies (r .start) (r .start + r .key) ∙ ap (keyAt bodies) (e .is)
-
-    value-is : valuePart ≡ valueAt bodies (rowAt contents i)
-    value-is = part-slice bodies (r .start + r .key) (r .start + r .key + r .value) ∙ ap (valueAt bodies) (e .is)
-
     pub text-next : textLeft contents bodies i ≡ lineOf keyPart valuePart ++ textLeft contents bodies (i + 1)
     unfolding entriesIn textOf flatten entryText lineOf
     text-next =
         ap (λ (rows : List image.Row). textOf (entriesIn rows bodies)) (rows-turn contents (countOf contents) i h)
-        ∙ rw (key-is, value-is, parts-of (keyAt bodies (rowAt contents i)) (judged contents bodies g .row-key i h) .written) refl
+        ∙ rw (key-part contents bodies i r e, value-part contents bodies i r e, parts-of (keyAt bodies (rowAt contents i)) (judged contents bodies g .row-key i h) .written) refl
 
 -- ---- Measured
 
 -- how many values begin with a blank, from row i on
-abbrev pub marksLeft : List ℕ → List ℕ → ℕ → ℕ
-marksLeft contents bodies i = marksIn (entriesIn (rowsLeft contents (countOf contents) i) bodies)
+abbrev pub leadingEscapesLeft : List ℕ → List ℕ → ℕ → ℕ
+leadingEscapesLeft contents bodies i = leadingEscapesIn (entriesIn (rowsLeft contents (countOf contents) i) bodies)
 
-marks-all : (contents bodies : List ℕ) → marksLeft contents bodies 0 ≡ marksIn (entriesIn (rowsIn contents) bodies)
-marks-all contents bodies = rw (sub-zero (countOf contents)) refl
+leading-escapes-all : (contents bodies : List ℕ) → leadingEscapesLeft contents bodies 0 ≡ leadingEscapesIn (entriesIn (rowsIn contents) bodies)
+leading-escapes-all contents bodies = rw (sub-zero (countOf contents)) refl
 
 -- all is counted but for these
 pub record Measuring (contents bodies : List ℕ) (size i : ℕ) : Type 0 where
   pub passed : i ≤ countOf contents
-  pub same : length (imageText contents bodies) ≡ size + marksLeft contents bodies i
+  pub same : length (imageText contents bodies) ≡ size + leadingEscapesLeft contents bodies i
 
 pub measuring-first : (contents bodies : List ℕ) (n : ℕ) → isImage contents bodies ≡ true
     → (let bs = take (usedOf contents) bodies in n ≡ length (bytesOf bs) - length bs)
@@ -89,23 +78,23 @@ measuring-first contents bodies n g e =
     let l : length bs ≡ usedOf contents = length-take-le (usedOf contents) bodies (omega (arith, j .used-most, j .bodies-long)) in
     record {
       passed = omega arith;
-      same = omega (arith, e, l, bytes-least bs, marks-all contents bodies, image-text-size contents bodies g);
+      same = omega (arith, e, l, bytes-least bs, leading-escapes-all contents bodies, image-text-size contents bodies g);
     }
 
 module _ {contents bodies : List ℕ} {size i : ℕ} (m : Measuring contents bodies size i) where
   module _ (g : isImage contents bodies ≡ true) (h : i < countOf contents) (r : Row) (e : RowIs contents i r) (k : ℕ)
       (f : k ≡ bitOf (beginsBlank (valuePart contents bodies g i h r e))) where
-    marks-next : marksLeft contents bodies i ≡ k + marksLeft contents bodies (i + 1)
-    unfolding entriesIn marksIn
-    marks-next =
-        ap (λ (rows : List image.Row). marksIn (entriesIn rows bodies)) (rows-turn contents (countOf contents) i h)
-        ∙ rw (f, value-is contents bodies g i h r e) refl
+    leading-escapes-next : leadingEscapesLeft contents bodies i ≡ k + leadingEscapesLeft contents bodies (i + 1)
+    unfolding entriesIn leadingEscapesIn
+    leading-escapes-next =
+        ap (λ (rows : List image.Row). leadingEscapesIn (entriesIn rows bodies)) (rows-turn contents (countOf contents) i h)
+        ∙ rw (f, value-part contents bodies i r e) refl
 
     pub measuring-next : Measuring contents bodies (size + k) (i + 1)
-    measuring-next = record { passed = omega arith; same = omega (arith, m .same, marks-next) }
+    measuring-next = record { passed = omega arith; same = omega (arith, m .same, leading-escapes-next) }
 
   pub measured : countOf contents ≤ i → size ≡ length (imageText contents bodies)
-  unfolding rowsFrom entriesIn marksIn
+  unfolding rowsFrom entriesIn leadingEscapesIn
   measured h = let z : countOf contents - i ≡ 0 = omega arith in omega (arith, rw z at (m .same))
 
 -- room for the longest text of so many entries and bytes

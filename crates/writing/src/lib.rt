@@ -21,17 +21,21 @@ pub fn write_help(fd: i32) {
         fd,
         b"usage: getres [--file [NAME=]PATH].. [--without NAME] [--missing] [--] TEXT NAME [CLASS]\n\
         \x20      getres [--file [NAME=]PATH].. [--without NAME] [--missing] CHAIN.. [--] NAME [CLASS]\n\
+        \x20      getres [--file [NAME=]PATH].. --list [--missing] [--] TEXT NAME [CLASS]\n\
+        \x20      getres [--file [NAME=]PATH].. --list [--missing] CHAIN.. [--] NAME [CLASS]\n\
         \x20      getres [--file [NAME=]PATH].. --write [--missing] [--] TEXT\n\
         \x20      getres [--file [NAME=]PATH].. --write [--missing] CHAIN..\n\
         \n\
         Prints the value that the X resources of the file TEXT give to a name and a class; or those of a\n\
         start-up chain, with a line for each of its two steps that says which text is used.\n\
+        With --list prints every resource that aligns with them, and not only the one whose value counts.\n\
         With --write prints all these resources, those of included files among them, as one resource text.\n\
         A TEXT, or a PATH of a chain, of - is standard input.\n\
         \n\
         \x20 --file [NAME=]PATH  a file that includes find by NAME, or else by PATH as it is written\n\
         \x20 --without NAME      two answers, with that file and without it, and whether they differ\n\
         \x20 --missing           says on standard error which includes found no file, and what they looked for\n\
+        \x20 --list              a line for each resource that aligns: its number, its key and its value\n\
         \x20 --write             the resources themselves, as a text that gives every query the same answer\n\
         \x20 --status-fd N       writes the status to descriptor N, 3 to 9\n\
         \x20 --help              prints this\n\
@@ -46,7 +50,8 @@ pub fn write_help(fd: i32) {
         \x20 --xenvironment PATH   what XENVIRONMENT names; without it XENVIRONMENT is not set\n\
         \x20 --host PATH           the .Xdefaults of the host\n\
         \n\
-        Status: 0 a value, 1 none; with --without 0 equal, 1 different; with --write 0; 2 refused, or an error.\n",
+        Status: 0 a value, or with --list a resource, 1 none; with --without 0 equal, 1 different; with --write 0;\n\
+        2 refused, or an error.\n",
     );
 }
 

@@ -3,9 +3,10 @@
 use model::image;
 use model::limits::TEXT_BYTES;
 use model::lookup::{get_bool, get_bytes, get_string, get_value, show, Number};
-use model::writing;
+use model::walking::{self, Walk};
+use model::{adding, writing};
 use records::{Query, Source, Start};
-use resource_manager::{Database, Error, ValueError};
+use resource_manager::{Database, Entry, Error, ValueError};
 use std::any::Any;
 use std::fmt::Debug;
 use std::panic::{catch_unwind, AssertUnwindSafe};
@@ -28,6 +29,10 @@ pub struct Counts {
     pub texts: usize,
     pub lookups: usize,
     pub refused_lookups: usize,
+    /// Lists of what aligns with a query, and lines added meanwhile.
+    pub lists: usize,
+    pub additions: usize,
+    pub refused_additions: usize,
     pub comparisons: usize,
     /// Comparisons with another answer without the file.
     pub moved: usize,
@@ -41,15 +46,17 @@ impl Counts {
     /// What was compared; an error if some of it was not.
     pub fn report(&self) -> Result<String, String> {
         let Self { archives, refused_files, readings, refused_readings, starts, refused_starts, .. } = self;
-        let Self { texts, lookups, refused_lookups, comparisons, moved, .. } = self;
+        let Self { texts, lookups, refused_lookups, lists, additions, refused_additions, comparisons, moved, .. } = self;
         let reading_counts = [archives, refused_files, readings, refused_readings, starts, refused_starts];
-        if reading_counts.contains(&&0) || [texts, lookups, refused_lookups, comparisons, moved].contains(&&0) {
+        if reading_counts.contains(&&0)
+            || [texts, lookups, refused_lookups, lists, additions, refused_additions, comparisons, moved].contains(&&0)
+        {
             return Err("too little was compared".to_string());
         }
         Ok(format!(
             "{archives} archives built ({refused_files} files refused), {readings} readings ({refused_readings} refused), \
-             {starts} start-ups ({refused_starts} refused), {texts} databases written out, {lookups} lookups ({refused_lookups} refused) and {comparisons} \
-             comparisons ({moved} moved) beside the model, {}",
+             {starts} start-ups ({refused_starts} refused), {texts} databases written out, {lookups} lookups ({refused_lookups} refused), {lists} \
+             lists, {additions} additions ({refused_additions} refused) and {comparisons} comparisons ({moved} moved) beside the model, {}",
             self.beside_the_rust()?
         ))
     }
@@ -112,6 +119,7 @@ impl Held {
             let (name, class) = (String::from_utf8_lossy(&query.name), String::from_utf8_lossy(&query.class));
             let why = |w| why(format!("{w}\nname {name:?}, class {class:?}"));
             self.look_up(&database, source, &name, &class).map_err(why)?;
+            self.list(&database, &name, &class).map_err(why)?;
             // Not every query, as a comparison takes each side two readings.
             if self.counts.lookups % 3 == 0 {
                 self.compare(source, &name, &class).map_err(why)?;
@@ -177,6 +185,47 @@ impl Held {
         Ok(())
     }
 
+    /// Compares what is listed of a query, in a copy to which a line is added after the first step, and an entry by its number.
+    fn list(&mut self, database: &Database, name: &str, class: &str) -> Result<(), String> {
+        let (n, c) = (name.as_bytes(), class.as_bytes());
+        let (mut contents, mut bodies) = (self.contents.clone(), self.bodies.clone());
+        let models = walking::start(&contents, &bodies, n, c).map_err(|r| r.number());
+        let listed = database.try_aligned(name, class).map_err(Error::number);
+        let listed = listed.map(|all| all.map(|(number, entry)| (number, owned(entry))).collect::<Vec<_>>());
+        let Ok(mut walk) = models else { return same("aligned", listed, Err(models.expect_err("a refusal"))) };
+        let step = |contents: &[u16], bodies: &[u8], walk: &mut Walk| walking::step(contents, bodies, n, c, walk).ok().flatten();
+        let mut state = walk;
+        let all: Vec<usize> = std::iter::from_fn(|| step(&contents, &bodies, &mut state)).collect();
+        let entries = records::listed(&contents, &bodies);
+        same("aligned", listed, Ok(all.iter().map(|number| (*number, entries[*number].clone())).collect()))?;
+        let mut grown = database.clone();
+        let mut page = database.walk(name, class);
+        let first = page.next(&grown).map(|(number, _)| number);
+        same("the first of a walk", first, step(&contents, &bodies, &mut walk))?;
+        let text = self.addition(n);
+        let added = adding::add(&mut contents, &mut bodies, &text).map_err(|r| r.number());
+        same("an addition", grown.add(&text).map_err(Error::number), added)?;
+        same("entries with it", files::listed(&grown), records::listed(&contents, &bodies))?;
+        let rest: Vec<usize> = std::iter::from_fn(|| page.next(&grown)).map(|(number, _)| number).collect();
+        same("the rest of a walk", rest, std::iter::from_fn(|| step(&contents, &bodies, &mut walk)).collect())?;
+        let last = added.ok().and_then(|number| grown.entry(number)).map(owned);
+        same("the added entry", last, added.ok().map(|number| records::listed(&contents, &bodies)[number].clone()))?;
+        self.counts.lists += 1;
+        self.counts.additions += 1;
+        self.counts.refused_additions += usize::from(added.is_err());
+        Ok(())
+    }
+
+    /// A text to add: a line that aligns with the name, a line that does not, two, or none.
+    fn addition(&self, name: &[u8]) -> Vec<u8> {
+        match self.counts.lists % 5 {
+            0 => b"other: 1".to_vec(),
+            1 => b"a:\nb:".to_vec(),
+            2 => b"! none".to_vec(),
+            _ => [b"! a comment\n", name, b": \\101"].concat(),
+        }
+    }
+
     fn look_up(&mut self, database: &Database, _source: &Source, name: &str, class: &str) -> Result<(), String> {
         let (contents, bodies) = (&self.contents, &self.bodies);
         let (n, c) = (name.as_bytes(), class.as_bytes());
@@ -200,6 +249,10 @@ impl Held {
         }
         Ok(())
     }
+}
+
+fn owned(entry: Entry) -> (Vec<u8>, Vec<u8>) {
+    (entry.key.to_vec(), entry.value.to_vec())
 }
 
 /// Each `get_` method gives what its `try_get_` gives, and panics where that gives a refusal.

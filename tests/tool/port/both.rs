@@ -220,6 +220,18 @@ impl Both {
         (&self.contents.words()[words], &self.bodies.bytes()[bytes])
     }
 
+    /// The same, for a call that writes them.
+    pub fn image_mut(&mut self) -> (&mut [u16], &mut [u8]) {
+        self.is_level = false;
+        let (words, bytes) = (self.lent.words(), self.lent.bytes());
+        (&mut self.contents.words()[words], &mut self.bodies.bytes()[bytes])
+    }
+
+    pub fn models_image_mut(&mut self) -> (&mut [u16], &mut [u8]) {
+        let (words, bytes) = (self.lent.words(), self.lent.bytes());
+        (&mut self.models_contents[words], &mut self.models_bodies[bytes])
+    }
+
     /// The model's buffers, lent likewise.
     pub fn models_image(&self) -> (&[u16], &[u8]) {
         (&self.models_contents[self.lent.words()], &self.models_bodies[self.lent.bytes()])

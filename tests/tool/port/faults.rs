@@ -3,7 +3,7 @@
 
 use crate::both::{Calls, Read, PORTS};
 use crate::tests::{comparison_with_the_rust, whole_comparison};
-use crate::{comparing_faults, lookup_faults, path_faults, start_up_faults, writing_faults};
+use crate::{comparing_faults, lookup_faults, path_faults, start_up_faults, walking_faults, writing_faults};
 use model::limits::{BODIES_BYTES, CONTENTS_WORDS, TEXT_BYTES};
 use std::os::unix::process::ExitStatusExt;
 use std::path::Path;
@@ -68,6 +68,9 @@ pub fn one(label: &str, with: &str, room: &str) -> Result<String, String> {
         return result.map(|()| "not seen".to_string());
     }
     if let Some(result) = writing_faults::one(label, with) {
+        return result.map(|()| "not seen".to_string());
+    }
+    if let Some(result) = walking_faults::one(label, with) {
         return result.map(|()| "not seen".to_string());
     }
     if let Some(result) = path_faults::one(label, with, room) {

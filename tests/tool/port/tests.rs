@@ -8,7 +8,7 @@ use crate::fenced::zero_bytes;
 use crate::run::Run;
 use crate::{
     comparing, comparing_faults, comparing_tests, lookup_faults, lookup_tests, path_faults, start_up_faults, start_up_tests,
-    writing_faults, writing_tests,
+    walking, walking_faults, walking_tests, writing_faults, writing_tests,
 };
 use cases::archives;
 use cases::draw::Draw;
@@ -97,7 +97,8 @@ pub fn names() -> Vec<&'static str> {
     let lookups = lookup_tests::names().into_iter().chain(["faults of lookups"]);
     let comparing = comparing_tests::names().chain(["faults of the comparing call"]);
     let writing = writing_tests::names().chain(["faults of the writing call"]);
-    readings.chain(start_ups).chain(lookups).chain(comparing).chain(writing).collect()
+    let walking = walking_tests::names().chain(["faults of walks and additions"]);
+    readings.chain(start_ups).chain(lookups).chain(comparing).chain(writing).chain(walking).collect()
 }
 
 pub fn test(name: &str, room: &str) -> Result<String, String> {
@@ -119,6 +120,9 @@ pub fn test(name: &str, room: &str) -> Result<String, String> {
     if name == "faults of the writing call" {
         return writing_faults::all_seen(room);
     }
+    if name == "faults of walks and additions" {
+        return walking_faults::all_seen(room);
+    }
     if let Some(result) = lookup_tests::test(name, asking::PORTS, room) {
         return result;
     }
@@ -126,6 +130,9 @@ pub fn test(name: &str, room: &str) -> Result<String, String> {
         return result;
     }
     if let Some(result) = writing_tests::test(name, port::write_word) {
+        return result;
+    }
+    if let Some(result) = walking_tests::test(name, walking::PORTS) {
         return result;
     }
     if let Some(test) = TESTS.iter().chain(&start_up_tests::TESTS).find(|(of, _)| *of == name).map(|(_, test)| *test) {

@@ -13,7 +13,8 @@ use Rattle.positions.specs.Spans.{Within, queried}
 use Rattle.positions.proofs.Positions.{span-within}
 use Rattle.key_end.proofs.Ends.{refused}
 use Rattle.image_judge.proofs.Judged.{judged}
-use Rattle.lookup.proofs.Looking.{Searching, searching-first, searching-more, passed-over, finds-none, finds, best-inside, key-part, key-within, key-is, found-is, rows-inside}
+use Rattle.image_judge.proofs.Parts.{rows-inside, key-part, key-within, key-is}
+use Rattle.lookup.proofs.Looking.{Searching, searching-first, searching-more, passed-over, finds-none, finds, best-inside, found-is}
 use Rattle.lookup.proofs.match_entry.Statement.{statement}
 use Rattle.lookup.proofs.match_entry.Tie as tie
 
@@ -90,7 +91,7 @@ returns-2 c =
     let o = e .before .before .before in
     let l = o .before in
     let a = start l .args in
-    found-is (a .contents .now) (a .bodies .now) (l .loop .best .entry) (c .before .row-at2 .result) (c .before .row-at2 .ensures)
+    found-is (a .contents .now) (l .loop .best .entry) (c .before .row-at2 .result) (c .before .row-at2 .ensures)
     ∙ finds (a .contents .now) (a .bodies .now) _ _ _ _ (l .loop .best .marks) (l .loop .inv) (o .loop-test .left) (not-false _ (e .if2 .left))
 
 pub match-entry-spec : {M : Type 1} → statement M

@@ -28,6 +28,9 @@ up₅ c = c .before .before .before
 abbrev up₆ : tie.Else7 → tie.Else6
 up₆ c = c .before .before .before
 
+abbrev up₇ : tie.Else8 → tie.Else7
+up₇ c = c .before .before .before
+
 abbrev given : tie.Else1 → List ℕ
 given c = c .before .before .before .before .args .argument .now
 
@@ -52,6 +55,9 @@ not-missing c = sym (c .before .is-word6 .ensures) ∙ c .if6 .left
 
 not-write : (c : tie.Else7) → same (given (up₁ (up₂ (up₃ (up₄ (up₅ (up₆ c))))))) (ascii "--write") ≡ false
 not-write c = sym (c .before .is-word7 .ensures) ∙ c .if7 .left
+
+not-list : (c : tie.Else8) → same (given (up₁ (up₂ (up₃ (up₄ (up₅ (up₆ (up₇ c)))))))) (ascii "--list") ≡ false
+not-list c = sym (c .before .is-word8 .ensures) ∙ c .if8 .left
 
 returns : tie.Need-returns
 unfolding optionOf
@@ -100,14 +106,24 @@ returns-7 c =
 returns-8 : tie.Need-returns-8
 unfolding optionOf
 returns-8 c =
-    let w : tie.Else7 = c .before in
+    let w : tie.Else7 = c .before .before .before in
     let e : tie.Else6 = up₆ w in
     rw
-    (not-file (up₁ (up₂ (up₃ (up₄ (up₅ e))))), not-without (up₂ (up₃ (up₄ (up₅ e)))), not-status (up₃ (up₄ (up₅ e))), not-help (up₄ (up₅ e)), not-rest (up₅ e), not-missing e, not-write w)
+    (not-file (up₁ (up₂ (up₃ (up₄ (up₅ e))))), not-without (up₂ (up₃ (up₄ (up₅ e)))), not-status (up₃ (up₄ (up₅ e))), not-help (up₄ (up₅ e)), not-rest (up₅ e), not-missing e, not-write w, ← c .before .is-word8 .ensures, c .if8 .taken)
+    refl
+
+returns-9 : tie.Need-returns-9
+unfolding optionOf
+returns-9 c =
+    let l : tie.Else8 = c .before in
+    let w : tie.Else7 = up₇ l in
+    let e : tie.Else6 = up₆ w in
+    rw
+    (not-file (up₁ (up₂ (up₃ (up₄ (up₅ e))))), not-without (up₂ (up₃ (up₄ (up₅ e)))), not-status (up₃ (up₄ (up₅ e))), not-help (up₄ (up₅ e)), not-rest (up₅ e), not-missing e, not-write w, not-list l)
     (c .chain-option .ensures)
 
 pub option-of-spec : {M : Type 1} → statement M
 option-of-spec =
     tie.close
     (tie.spec
-    (λ c. search needs) (λ c κs. search needs) returns (λ c. search needs) (λ c κs. search needs) returns-2 (λ c. search needs) (λ c κs. search needs) returns-3 (λ c. search needs) (λ c κs. search needs) returns-4 (λ c. search needs) (λ c κs. search needs) returns-5 (λ c. search needs) (λ c κs. search needs) returns-6 (λ c. search needs) (λ c κs. search needs) returns-7 (λ c κs. search needs) returns-8)
+    (λ c. search needs) (λ c κs. search needs) returns (λ c. search needs) (λ c κs. search needs) returns-2 (λ c. search needs) (λ c κs. search needs) returns-3 (λ c. search needs) (λ c κs. search needs) returns-4 (λ c. search needs) (λ c κs. search needs) returns-5 (λ c. search needs) (λ c κs. search needs) returns-6 (λ c. search needs) (λ c κs. search needs) returns-7 (λ c. search needs) (λ c κs. search needs) returns-8 (λ c κs. search needs) returns-9)

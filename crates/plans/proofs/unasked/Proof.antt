@@ -8,9 +8,8 @@ use Rattle.plans.proofs.unasked.Tie as tie
 returns : tie.Need-returns
 unfolding unasked
 returns c =
-    let second = c .before in
-    let first = second .before in
-    c .misunderstood2 .ensures ∙ rw (first .misunderstood .ensures, first .before .given .ensures, second .given2 .ensures) refl
+    let first = c .before in
+    c .uncompared .ensures ∙ rw (first .misunderstood .ensures, first .before .given .ensures) refl
 
 pub unasked-spec : {M : Type 1} → statement M
-unasked-spec = tie.close (tie.spec (λ c κs. search needs) (λ c κs. search needs) (λ c κs. search needs) (λ c κs. search needs) returns)
+unasked-spec = tie.close (tie.spec (λ c κs. search needs) (λ c κs. search needs) (λ c κs. search needs) returns)

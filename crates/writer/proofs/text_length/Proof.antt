@@ -9,7 +9,8 @@ use Rattle.definition.specs.Image.{countOf}
 use Rattle.laws.proofs.Writing.{image-text-long}
 use Rattle.blocks.proofs.Blocks.{bitOf}
 use Rattle.image_judge.proofs.Judged.{Judged, judged}
-use Rattle.writer.proofs.Texts.{row-within, Measuring, measuring-first, measuring-next, measured}
+use Rattle.image_judge.proofs.Parts.{row-within}
+use Rattle.writer.proofs.Texts.{Measuring, measuring-first, measuring-next, measured}
 use Rattle.writer.proofs.text_length.Statement.{statement}
 use Rattle.writer.proofs.text_length.Tie as tie
 
@@ -38,7 +39,7 @@ add-size-2 c = omega (arith, loop-holds c .same, image-text-long _ _ (c .before 
 
 -- the row lies within the bodies
 within : (c : tie.After-row-at Inv-loop μ-loop) → let r = c .row-at .result in r .start + r .key + r .value ≤ length (start (c .before .before) .args .bodies .now)
-within c = row-within _ _ (start (c .before .before) .pre) _ (c .before .loop-test .taken) (c .row-at .result) (c .row-at .ensures)
+within c = row-within _ _ _ (c .row-at .result) (c .row-at .ensures) (start (c .before .before) .pre) (c .before .loop-test .taken)
 
 loop-again : tie.Need-loop-again Inv-loop μ-loop
 loop-again c =

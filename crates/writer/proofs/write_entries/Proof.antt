@@ -5,7 +5,8 @@ use lib.ListN.{length}
 use borrow.Author.Needs.{needs}
 use Rattle.definition.specs.Image.{countOf}
 use Rattle.image_judge.proofs.Judged.{judged}
-use Rattle.writer.proofs.Texts.{row-within, Writing, writing-first, line-room, line-written, all-written}
+use Rattle.image_judge.proofs.Parts.{row-within}
+use Rattle.writer.proofs.Texts.{Writing, writing-first, line-room, line-written, all-written}
 use Rattle.writer.proofs.write_entries.Statement.{statement}
 use Rattle.writer.proofs.write_entries.Tie as tie
 
@@ -20,7 +21,7 @@ start l = l .before .before .before .before .before
 
 -- the row lies within the bodies
 within : (c : tie.After-row-at Inv-loop μ-loop) → let r = c .row-at .result in r .start + r .key + r .value ≤ length (start (c .before .before) .args .bodies .now)
-within c = row-within _ _ (start (c .before .before) .pre .0) _ (c .before .loop-test .taken) (c .row-at .result) (c .row-at .ensures)
+within c = row-within _ _ _ (c .row-at .result) (c .row-at .ensures) (start (c .before .before) .pre .0) (c .before .loop-test .taken)
 
 write-entry-requires : tie.Need-write-entry-requires Inv-loop μ-loop
 write-entry-requires c κs =

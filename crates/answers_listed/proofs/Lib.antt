@@ -1,0 +1,2 @@
+-- What is told of a list.
+pub mod Telling

@@ -1,0 +1,2 @@
+-- Laws of the walks.
+pub mod Walking

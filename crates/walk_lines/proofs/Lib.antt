@@ -1,0 +1,3 @@
+-- Laws of a walk's lines.
+pub mod Lines
+pub mod Walks
