@@ -36,6 +36,8 @@ extern "C" {
 #define RESOURCE_MANAGER_ENTRIES 512
 #define RESOURCE_MANAGER_QUERY_BYTES 1024 /* of the name, and of the class */
 #define RESOURCE_MANAGER_QUERY_PARTS 32   /* of the name, and of the class */
+#define RESOURCE_MANAGER_WINDOW_BYTES 128 /* the same for the calls of the dictionary window */
+#define RESOURCE_MANAGER_WINDOW_PARTS 8
 
 /* The longest text that an image is written out as: a buffer of so many bytes is enough for every image. */
 #define RESOURCE_MANAGER_WRITTEN_BYTES 66048
@@ -186,6 +188,29 @@ uint64_t resource_manager_get_bool(const uint16_t *contents, size_t contents_cou
 uint64_t resource_manager_get_value(const uint16_t *contents, size_t contents_count, const uint8_t *bodies,
                                     size_t bodies_count, const uint8_t *name, size_t name_count,
                                     const uint8_t *class_name, size_t class_count, int64_t *out);
+
+/*
+ * The calls of the dictionary window, which has little stack: each takes less than 1,024 bytes of it, all that it calls
+ * counted; a test reads that off the object code, and runs them on a stack of its own. Each is as the one above of the
+ * same name, but that it refuses a name or a class of more than RESOURCE_MANAGER_WINDOW_BYTES by 9, and one of more than
+ * RESOURCE_MANAGER_WINDOW_PARTS parts by 10. A query that it does not so refuse gets the same answer from both.
+ */
+uint64_t resource_manager_window_get_bytes(const uint16_t *contents, size_t contents_count, const uint8_t *bodies,
+                                           size_t bodies_count, const uint8_t *name, size_t name_count,
+                                           const uint8_t *class_name, size_t class_count);
+uint64_t resource_manager_window_get_string(const uint16_t *contents, size_t contents_count, const uint8_t *bodies,
+                                            size_t bodies_count, const uint8_t *name, size_t name_count,
+                                            const uint8_t *class_name, size_t class_count);
+uint64_t resource_manager_window_get_bool(const uint16_t *contents, size_t contents_count, const uint8_t *bodies,
+                                          size_t bodies_count, const uint8_t *name, size_t name_count,
+                                          const uint8_t *class_name, size_t class_count);
+uint64_t resource_manager_window_get_value(const uint16_t *contents, size_t contents_count, const uint8_t *bodies,
+                                           size_t bodies_count, const uint8_t *name, size_t name_count,
+                                           const uint8_t *class_name, size_t class_count, int64_t *out);
+uint64_t resource_manager_window_show(const uint16_t *contents, size_t contents_count, const uint8_t *bodies,
+                                      size_t bodies_count, const uint8_t *name, size_t name_count,
+                                      const uint8_t *class_name, size_t class_count,
+                                      struct resource_manager_bytes *shown);
 
 /*
  * Writes a database image out as a text that resource_manager_read reads back: for each entry its key, ": ", its value

@@ -1,6 +1,6 @@
 /*
- * Reads a text of X resources with a shelf of two files, looks values up, lists the entries of a settings page while a
- * line is added, and writes all settings out as one text.
+ * Reads a text of X resources with a shelf of two files, looks values up, also as the dictionary window does, lists the
+ * entries of a settings page while a line is added, and writes all settings out as one text.
  *
  *     rt staticlib resource_manager
  *     cc -std=c99 -I include examples/c/settings.c -L target/staticlib -lresource_manager -o settings
@@ -71,12 +71,8 @@ static const uint8_t *bytes_of(const char *text)
     return (const uint8_t *)text;
 }
 
-static void show_bytes(const char *name, const char *class_name)
+static void print_bytes(uint64_t answer)
 {
-    uint64_t answer = resource_manager_get_bytes(contents, RESOURCE_MANAGER_CONTENTS_WORDS, bodies,
-                                                 RESOURCE_MANAGER_BODIES_BYTES, bytes_of(name), strlen(name),
-                                                 bytes_of(class_name), strlen(class_name));
-    printf("%s, as bytes: ", name);
     switch (resource_manager_status_of(answer)) {
     case RESOURCE_MANAGER_OK:
         printf("'%.*s'\n", (int)resource_manager_length_of(answer),
@@ -88,6 +84,23 @@ static void show_bytes(const char *name, const char *class_name)
     default:
         printf("refused %d\n", (int)resource_manager_status_of(answer));
     }
+}
+
+static void show_bytes(const char *name, const char *class_name)
+{
+    printf("%s, as bytes: ", name);
+    print_bytes(resource_manager_get_bytes(contents, RESOURCE_MANAGER_CONTENTS_WORDS, bodies,
+                                           RESOURCE_MANAGER_BODIES_BYTES, bytes_of(name), strlen(name),
+                                           bytes_of(class_name), strlen(class_name)));
+}
+
+/* The dictionary window has little stack, and shorter queries. What it admits gets the answer of the call above. */
+static void show_in_window(const char *name, const char *class_name)
+{
+    printf("%s, in the window: ", name);
+    print_bytes(resource_manager_window_get_bytes(contents, RESOURCE_MANAGER_CONTENTS_WORDS, bodies,
+                                                  RESOURCE_MANAGER_BODIES_BYTES, bytes_of(name), strlen(name),
+                                                  bytes_of(class_name), strlen(class_name)));
 }
 
 /* A default is shown where there is no value, or where the lookup is refused. */
@@ -213,6 +226,8 @@ int main(void)
     show_bytes("reader.search.range", "Reader.Search.Range");
     show_bytes("library.search.range", "Library.Search.Range");
     show_bytes("reader.margin", "Reader.Margin");
+    show_in_window("reader.search.range", "Reader.Search.Range");
+    show_in_window("a.a.a.a.a.a.a.a.a", "");
     show_or("reader.margin", "Reader.Margin", "narrow");
     show_or("reader.font.family", "Reader.Font.Family", "Sans");
     show_bool("reader.hyphenation", "");

@@ -1,7 +1,7 @@
 //! A database: read from a text, looked up, listed, added to, and written out.
 
 use crate::error::{Error, NotANumber, ValueError};
-use crate::ffi::{self, Image, ImageMut, Question, Room};
+use crate::ffi::{self, Bounds, Image, ImageMut, Question, Room};
 use crate::limits::{BODIES_BYTES, CONTENTS_WORDS, WRITTEN_BYTES};
 use crate::{Aligned, Archive, Walk};
 use std::fmt;
@@ -116,7 +116,7 @@ impl Database {
     /// # Ok::<(), resource_manager::Error>(())
     /// ```
     pub fn get_bytes_or<'a>(&'a self, resource_name: &str, resource_class: &str, default: &'a [u8]) -> &'a [u8] {
-        ffi::show(self.image(), resource_name.as_bytes(), resource_class.as_bytes(), default)
+        self.lookups(Bounds::Shell).show(resource_name, resource_class, default)
     }
 
     /// The value of a query, as a string; none if it is not UTF-8.
@@ -201,24 +201,17 @@ impl Database {
     /// assert_eq!(database.try_get_bytes(&"a.".repeat(33), ""), Err(Error::ManyQueryParts));
     /// ```
     pub fn try_get_bytes(&self, resource_name: &str, resource_class: &str) -> Result<Option<&[u8]>, Error> {
-        self.value(ffi::get_bytes(self.image(), resource_name.as_bytes(), resource_class.as_bytes()))
+        self.lookups(Bounds::Shell).bytes(resource_name, resource_class)
     }
 
     /// As [`get_string`](Self::get_string), with the refusal if the query is refused.
     pub fn try_get_string(&self, resource_name: &str, resource_class: &str) -> Result<Option<&str>, Error> {
-        let value = self.value(ffi::get_string(self.image(), resource_name.as_bytes(), resource_class.as_bytes()))?;
-        // The library has judged the bytes; they are judged once more, as the way around that is unsafe.
-        Ok(value.map(|bytes| std::str::from_utf8(bytes).expect("get_string gives UTF-8")))
+        self.lookups(Bounds::Shell).string(resource_name, resource_class)
     }
 
     /// As [`get_bool`](Self::get_bool), with the refusal if the query is refused.
     pub fn try_get_bool(&self, resource_name: &str, resource_class: &str) -> Result<Option<bool>, Error> {
-        match ffi::get_bool(self.image(), resource_name.as_bytes(), resource_class.as_bytes()) {
-            65_536 => Ok(Some(true)),
-            0 => Ok(Some(false)),
-            NONE => Ok(None),
-            refused => Err(Error::of_answer(refused)),
-        }
+        self.lookups(Bounds::Shell).boolean(resource_name, resource_class)
     }
 
     /// As [`get_value`](Self::get_value), with the refusal if the query is refused.
@@ -229,13 +222,7 @@ impl Database {
 
     /// As [`get_i64`](Self::get_i64), with the refusal if the query is refused.
     pub fn try_get_i64(&self, resource_name: &str, resource_class: &str) -> Result<Option<i64>, ValueError<NotANumber>> {
-        let mut number = 0;
-        match ffi::get_value(self.image(), resource_name.as_bytes(), resource_class.as_bytes(), &mut number) {
-            FOUND => Ok(Some(number)),
-            NOT_A_NUMBER => Err(ValueError::Parse(NotANumber)),
-            NONE => Ok(None),
-            refused => Err(ValueError::Refused(Error::of_answer(refused))),
-        }
+        self.lookups(Bounds::Shell).number(resource_name, resource_class)
     }
 
     /// The entries in the order in which they were read.
@@ -441,7 +428,8 @@ impl Database {
             NONE => return Ok(None),
             refused => return Err(Error::of_answer(refused)),
         }
-        let (with_file, without_file) = (first.value(with_it)?, second.value(without)?);
+        let (with_file, without_file) =
+            (first.lookups(Bounds::Shell).value(with_it)?, second.lookups(Bounds::Shell).value(without)?);
         Ok(Some(Comparison { with_file: with_file.map(<[u8]>::to_vec), without_file: without_file.map(<[u8]>::to_vec) }))
     }
 
@@ -453,15 +441,115 @@ impl Database {
         Image { contents: &self.contents, bodies: &self.bodies }
     }
 
-    fn value(&self, answer: u64) -> Result<Option<&[u8]>, Error> {
+    fn lookups(&self, bounds: Bounds) -> Lookups<'_> {
+        Lookups { bounds, image: self.image() }
+    }
+
+    /// The lookups of the dictionary window, at its smaller limits.
+    ///
+    /// ```
+    /// # use resource_manager::{Database, Error};
+    /// let database = Database::new_from_data(b"*search.range: book")?;
+    /// let window = database.window();
+    /// assert_eq!(window.try_get_string("reader.search.range", "")?, Some("book"));
+    /// assert_eq!(window.try_get_bytes(&"a".repeat(129), ""), Err(Error::LongQuery));
+    /// assert_eq!(window.try_get_bytes(&"a.".repeat(9), ""), Err(Error::ManyQueryParts));
+    /// # Ok::<(), resource_manager::Error>(())
+    /// ```
+    pub fn window(&self) -> Window<'_> {
+        Window(self.lookups(Bounds::Window))
+    }
+}
+
+/// The lookups of the library in an image, at one of two bounds.
+#[derive(Clone, Copy)]
+struct Lookups<'a> {
+    bounds: Bounds,
+    image: Image<'a>,
+}
+
+impl<'a> Lookups<'a> {
+    fn value(self, answer: u64) -> Result<Option<&'a [u8]>, Error> {
         match answer & 0xFFFF {
             FOUND => {
                 let (place, length) = ((answer >> 16 & 0xFFFF) as usize, (answer >> 32) as usize);
-                Ok(Some(&self.bodies[place..place + length]))
+                Ok(Some(&self.image.bodies[place..place + length]))
             }
             NONE => Ok(None),
             _ => Err(Error::of_answer(answer)),
         }
+    }
+
+    fn bytes(self, name: &str, class: &str) -> Result<Option<&'a [u8]>, Error> {
+        self.value(ffi::get_bytes(self.bounds, self.image, name.as_bytes(), class.as_bytes()))
+    }
+
+    fn show(self, name: &str, class: &str, default: &'a [u8]) -> &'a [u8] {
+        ffi::show(self.bounds, self.image, name.as_bytes(), class.as_bytes(), default)
+    }
+
+    fn string(self, name: &str, class: &str) -> Result<Option<&'a str>, Error> {
+        let value = self.value(ffi::get_string(self.bounds, self.image, name.as_bytes(), class.as_bytes()))?;
+        // The library has judged the bytes; they are judged once more, as the way around that is unsafe.
+        Ok(value.map(|bytes| std::str::from_utf8(bytes).expect("get_string gives UTF-8")))
+    }
+
+    fn boolean(self, name: &str, class: &str) -> Result<Option<bool>, Error> {
+        match ffi::get_bool(self.bounds, self.image, name.as_bytes(), class.as_bytes()) {
+            65_536 => Ok(Some(true)),
+            0 => Ok(Some(false)),
+            NONE => Ok(None),
+            refused => Err(Error::of_answer(refused)),
+        }
+    }
+
+    fn number(self, name: &str, class: &str) -> Result<Option<i64>, ValueError<NotANumber>> {
+        let mut number = 0;
+        match ffi::get_value(self.bounds, self.image, name.as_bytes(), class.as_bytes(), &mut number) {
+            FOUND => Ok(Some(number)),
+            NOT_A_NUMBER => Err(ValueError::Parse(NotANumber)),
+            NONE => Ok(None),
+            refused => Err(ValueError::Refused(Error::of_answer(refused))),
+        }
+    }
+}
+
+/// A database as the dictionary window asks it: [`Database::window`]. It has little stack, and its queries are of at most
+/// [`WINDOW_BYTES`](crate::limits::WINDOW_BYTES) and [`WINDOW_PARTS`](crate::limits::WINDOW_PARTS). A query within these gets the
+/// answer that the database itself gives.
+#[derive(Clone, Copy)]
+pub struct Window<'a>(Lookups<'a>);
+
+impl fmt::Debug for Window<'_> {
+    fn fmt(&self, f: &mut fmt::Formatter<'_>) -> fmt::Result {
+        f.debug_struct("Window").finish_non_exhaustive()
+    }
+}
+
+impl<'a> Window<'a> {
+    /// As [`Database::try_get_bytes`].
+    pub fn try_get_bytes(&self, resource_name: &str, resource_class: &str) -> Result<Option<&'a [u8]>, Error> {
+        self.0.bytes(resource_name, resource_class)
+    }
+
+    /// As [`Database::get_bytes_or`]: it never panics.
+    pub fn get_bytes_or(&self, resource_name: &str, resource_class: &str, default: &'a [u8]) -> &'a [u8] {
+        self.0.show(resource_name, resource_class, default)
+    }
+
+    /// As [`Database::try_get_string`].
+    pub fn try_get_string(&self, resource_name: &str, resource_class: &str) -> Result<Option<&'a str>, Error> {
+        self.0.string(resource_name, resource_class)
+    }
+
+    /// As [`Database::try_get_bool`].
+    pub fn try_get_bool(&self, resource_name: &str, resource_class: &str) -> Result<Option<bool>, Error> {
+        self.0.boolean(resource_name, resource_class)
+    }
+
+    /// As [`Database::try_get_i64`].
+    pub fn try_get_i64(&self, resource_name: &str, resource_class: &str) -> Result<Option<i64>, ValueError<NotANumber>> {
+        self.0.number(resource_name, resource_class)
     }
 }
 

@@ -16,6 +16,32 @@ type Lookup = unsafe extern "C" fn(
     class_count: usize,
 ) -> u64;
 
+/// `resource_manager_show`, and the dictionary window's.
+type Show = unsafe extern "C" fn(
+    contents: *const u16,
+    contents_count: usize,
+    bodies: *const u8,
+    bodies_count: usize,
+    name: *const u8,
+    name_count: usize,
+    class: *const u8,
+    class_count: usize,
+    shown: *mut Bytes,
+) -> u64;
+
+/// `resource_manager_get_value`, and the dictionary window's.
+type Number = unsafe extern "C" fn(
+    contents: *const u16,
+    contents_count: usize,
+    bodies: *const u8,
+    bodies_count: usize,
+    name: *const u8,
+    name_count: usize,
+    class: *const u8,
+    class_count: usize,
+    out: *mut i64,
+) -> u64;
+
 /// A slice as it stands in memory.
 #[repr(C)]
 struct Bytes {
@@ -81,6 +107,63 @@ extern "C" {
     ) -> u64;
 
     fn resource_manager_get_value(
+        contents: *const u16,
+        contents_count: usize,
+        bodies: *const u8,
+        bodies_count: usize,
+        name: *const u8,
+        name_count: usize,
+        class: *const u8,
+        class_count: usize,
+        out: *mut i64,
+    ) -> u64;
+
+    fn resource_manager_window_get_bytes(
+        contents: *const u16,
+        contents_count: usize,
+        bodies: *const u8,
+        bodies_count: usize,
+        name: *const u8,
+        name_count: usize,
+        class: *const u8,
+        class_count: usize,
+    ) -> u64;
+
+    fn resource_manager_window_show(
+        contents: *const u16,
+        contents_count: usize,
+        bodies: *const u8,
+        bodies_count: usize,
+        name: *const u8,
+        name_count: usize,
+        class: *const u8,
+        class_count: usize,
+        shown: *mut Bytes,
+    ) -> u64;
+
+    fn resource_manager_window_get_string(
+        contents: *const u16,
+        contents_count: usize,
+        bodies: *const u8,
+        bodies_count: usize,
+        name: *const u8,
+        name_count: usize,
+        class: *const u8,
+        class_count: usize,
+    ) -> u64;
+
+    fn resource_manager_window_get_bool(
+        contents: *const u16,
+        contents_count: usize,
+        bodies: *const u8,
+        bodies_count: usize,
+        name: *const u8,
+        name_count: usize,
+        class: *const u8,
+        class_count: usize,
+    ) -> u64;
+
+    fn resource_manager_window_get_value(
         contents: *const u16,
         contents_count: usize,
         bodies: *const u8,
@@ -283,20 +366,41 @@ pub(crate) fn read(text: &[u8], archive: &[u8], contents: &mut [u16], bodies: &m
     }
 }
 
+/// Whose bounds a query has: the shell's, or the dictionary window's.
+#[derive(Clone, Copy, Debug, PartialEq, Eq)]
+pub(crate) enum Bounds {
+    Shell,
+    Window,
+}
+
 /// 0 in bits 0 to 15, the value's place in the bodies in bits 16 to 31 and its length from bit 32 on; 65535 for none; or
 /// the refusal's number.
-pub(crate) fn get_bytes(image: Image, name: &[u8], class: &[u8]) -> u64 {
-    // SAFETY: this is one of the lookups of the library.
-    unsafe { look_up(resource_manager_get_bytes, image, name, class) }
+pub(crate) fn get_bytes(bounds: Bounds, image: Image, name: &[u8], class: &[u8]) -> u64 {
+    let call = match bounds {
+        Bounds::Shell => resource_manager_get_bytes as Lookup,
+        Bounds::Window => resource_manager_window_get_bytes,
+    };
+    // SAFETY: these are lookups of the library.
+    unsafe { look_up(call, image, name, class) }
 }
 
 /// The value's bytes, a part of the bodies; or else the default, for none and for a refusal.
-pub(crate) fn show<'a>(Image { contents, bodies }: Image<'a>, name: &[u8], class: &[u8], default: &'a [u8]) -> &'a [u8] {
+pub(crate) fn show<'a>(
+    bounds: Bounds,
+    Image { contents, bodies }: Image<'a>,
+    name: &[u8],
+    class: &[u8],
+    default: &'a [u8],
+) -> &'a [u8] {
+    let call = match bounds {
+        Bounds::Shell => resource_manager_show as Show,
+        Bounds::Window => resource_manager_window_show,
+    };
     let mut shown = Bytes { start: default.as_ptr(), count: default.len() };
-    // SAFETY: as for the other lookups; `shown` is lent for writing. The call is proved to leave the default there, or a part
+    // SAFETY: as for the other lookups; `shown` is lent for writing. The calls are proved to leave the default there, or a part
     // of the bodies, and both live for 'a.
     unsafe {
-        resource_manager_show(
+        call(
             contents.as_ptr(),
             contents.len(),
             bodies.as_ptr(),
@@ -312,15 +416,23 @@ pub(crate) fn show<'a>(Image { contents, bodies }: Image<'a>, name: &[u8], class
 }
 
 /// As `get_bytes`, and none for a value that is not UTF-8.
-pub(crate) fn get_string(image: Image, name: &[u8], class: &[u8]) -> u64 {
-    // SAFETY: this is one of the lookups of the library.
-    unsafe { look_up(resource_manager_get_string, image, name, class) }
+pub(crate) fn get_string(bounds: Bounds, image: Image, name: &[u8], class: &[u8]) -> u64 {
+    let call = match bounds {
+        Bounds::Shell => resource_manager_get_string as Lookup,
+        Bounds::Window => resource_manager_window_get_string,
+    };
+    // SAFETY: these are lookups of the library.
+    unsafe { look_up(call, image, name, class) }
 }
 
 /// 65536 for true, 0 for false, 65535 for none, or the refusal's number.
-pub(crate) fn get_bool(image: Image, name: &[u8], class: &[u8]) -> u64 {
-    // SAFETY: this is one of the lookups of the library.
-    unsafe { look_up(resource_manager_get_bool, image, name, class) }
+pub(crate) fn get_bool(bounds: Bounds, image: Image, name: &[u8], class: &[u8]) -> u64 {
+    let call = match bounds {
+        Bounds::Shell => resource_manager_get_bool as Lookup,
+        Bounds::Window => resource_manager_window_get_bool,
+    };
+    // SAFETY: these are lookups of the library.
+    unsafe { look_up(call, image, name, class) }
 }
 
 /// # Safety
@@ -344,10 +456,14 @@ unsafe fn look_up(call: Lookup, Image { contents, bodies }: Image, name: &[u8], 
 
 /// 0 with the number in `out`; 65534 if the value is not a number, 65535 for none, or the refusal's number, with `out` as
 /// it was.
-pub(crate) fn get_value(Image { contents, bodies }: Image, name: &[u8], class: &[u8], out: &mut i64) -> u64 {
-    // SAFETY: as for the other lookups; `out` is borrowed for writing, and is all that the call writes.
+pub(crate) fn get_value(bounds: Bounds, Image { contents, bodies }: Image, name: &[u8], class: &[u8], out: &mut i64) -> u64 {
+    let call = match bounds {
+        Bounds::Shell => resource_manager_get_value as Number,
+        Bounds::Window => resource_manager_window_get_value,
+    };
+    // SAFETY: as for the other lookups; `out` is borrowed for writing, and is all that the calls write.
     unsafe {
-        resource_manager_get_value(
+        call(
             contents.as_ptr(),
             contents.len(),
             bodies.as_ptr(),
@@ -555,11 +671,13 @@ mod tests {
         assert_eq!(contents[..8], [2, 7, 0, 2, 1, 3, 2, 2]);
         assert_eq!(&bodies[..8], b".a1.b-5\0");
         let image = Image { contents: &contents, bodies: &bodies };
-        assert_eq!(get_bytes(image, b"b", b""), 5 << 16 | 2 << 32);
-        assert_eq!(get_string(image, b"a", b""), 2 << 16 | 1 << 32);
-        assert_eq!(get_bool(image, b"", b"a"), 65536);
-        let mut out = 7;
-        assert_eq!((get_value(image, b"b", b"", &mut out), out), (0, -5));
+        for bounds in [Bounds::Shell, Bounds::Window] {
+            assert_eq!(get_bytes(bounds, image, b"b", b""), 5 << 16 | 2 << 32);
+            assert_eq!(get_string(bounds, image, b"a", b""), 2 << 16 | 1 << 32);
+            assert_eq!(get_bool(bounds, image, b"", b"a"), 65536);
+            let mut out = 7;
+            assert_eq!((get_value(bounds, image, b"b", b"", &mut out), out), (0, -5));
+        }
     }
 
     #[test]
@@ -724,9 +842,11 @@ mod tests {
         assert_eq!((write(image, &mut text), text), (8, [0xA5; 3]));
         assert_eq!(write(image, &mut []), 8);
         let mut out = 7;
-        assert_eq!(get_bytes(image, b"a", b""), 8);
-        assert_eq!(get_string(image, b"a", b""), 8);
-        assert_eq!(get_bool(image, b"a", b""), 8);
-        assert_eq!((get_value(image, b"a", b"", &mut out), out), (8, 7));
+        for bounds in [Bounds::Shell, Bounds::Window] {
+            assert_eq!(get_bytes(bounds, image, b"a", b""), 8);
+            assert_eq!(get_string(bounds, image, b"a", b""), 8);
+            assert_eq!(get_bool(bounds, image, b"a", b""), 8);
+            assert_eq!((get_value(bounds, image, b"a", b"", &mut out), out), (8, 7));
+        }
     }
 }

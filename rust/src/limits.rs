@@ -36,5 +36,11 @@ pub const QUERY_BYTES: usize = 1_024;
 /// Parts of a query's name, and of its class ([`ManyQueryParts`](crate::Error::ManyQueryParts)).
 pub const QUERY_PARTS: usize = 32;
 
+/// Bytes of the name, and of the class, of a query that a [`Window`](crate::Window) asks ([`LongQuery`](crate::Error::LongQuery)).
+pub const WINDOW_BYTES: usize = 128;
+
+/// Parts of the name, and of the class, of such a query ([`ManyQueryParts`](crate::Error::ManyQueryParts)).
+pub const WINDOW_PARTS: usize = 8;
+
 /// Words that say where entries stand: two, and three for each entry.
 pub(crate) const CONTENTS_WORDS: usize = 2 + 3 * ENTRIES;

@@ -1,6 +1,6 @@
 //! Lookups, and what a database shows of itself.
 
-use resource_manager::{Archive, Database, Entry, ValueError};
+use resource_manager::{Archive, Database, Entry, Error, ValueError};
 
 #[test]
 fn document_01s_queries() {
@@ -112,4 +112,42 @@ fn a_database_goes_to_other_threads() {
         asked.into_iter().map(|thread| thread.join().unwrap()).collect::<Vec<_>>()
     });
     assert_eq!(found, [Ok(Some(1)); 4]);
+}
+
+#[test]
+fn the_window_answers_as_the_database_within_its_limits() {
+    let database = Database::new_from_data(b"*b: -7\n*c: yes\n*d: \\377\n*a.a.a.a.a.a.a.a: eight").unwrap();
+    let window = database.window();
+    let eight = "a.".repeat(8) + &".".repeat(112);
+    assert_eq!(eight.len(), 128);
+    let long = "a".repeat(128);
+    for name in ["a.b", "a.c", "a.d", "e", ".b", "", &eight, &long] {
+        for class in ["", "A.B", &eight, &long] {
+            assert_eq!(window.try_get_bytes(name, class), database.try_get_bytes(name, class), "{name} {class}");
+            assert_eq!(window.try_get_string(name, class), database.try_get_string(name, class), "{name} {class}");
+            assert_eq!(window.try_get_bool(name, class), database.try_get_bool(name, class), "{name} {class}");
+            assert_eq!(window.try_get_i64(name, class), database.try_get_i64(name, class), "{name} {class}");
+            assert_eq!(window.get_bytes_or(name, class, b"none"), database.get_bytes_or(name, class, b"none"), "{name} {class}");
+        }
+    }
+    assert_eq!(window.try_get_bytes(&eight, ""), Ok(Some(&b"eight"[..])));
+}
+
+#[test]
+fn the_window_refuses_past_its_limits() {
+    let database = Database::new_from_data(b"*a: value").unwrap();
+    let window = database.window();
+    for (query, error) in [("a".repeat(129), Error::LongQuery), ("a.".repeat(9), Error::ManyQueryParts)] {
+        assert_eq!(database.try_get_bytes("a", &query), Ok(Some(&b"value"[..])));
+        for (name, class) in [("a", query.as_str()), (query.as_str(), "")] {
+            assert_eq!(window.try_get_bytes(name, class), Err(error));
+            assert_eq!(window.try_get_string(name, class), Err(error));
+            assert_eq!(window.try_get_bool(name, class), Err(error));
+            assert_eq!(window.try_get_i64(name, class), Err(ValueError::Refused(error)));
+            assert_eq!(window.get_bytes_or(name, class, b"default"), b"default");
+        }
+    }
+    // Malformed comes between the two.
+    assert_eq!(window.try_get_bytes(&"a.".repeat(9), ".a"), Ok(None));
+    assert_eq!(window.try_get_bytes(&"a".repeat(129), ".a"), Err(Error::LongQuery));
 }

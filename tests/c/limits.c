@@ -242,15 +242,9 @@ static uint64_t get_value(const uint16_t *contents, size_t words, const uint8_t 
 
 static struct resource_manager_bytes shown;
 
-/* resource_manager_show in the shape of the others; what it shows is left in `shown`, and is where its answer says. */
-static uint64_t show(const uint16_t *contents, size_t words, const uint8_t *bodies, size_t bytes, const uint8_t *name,
-                     size_t name_count, const uint8_t *class_name, size_t class_count)
+/* What a call to show leaves in `shown` is where its answer says. */
+static uint64_t shown_by(uint64_t answer, const uint8_t *bodies)
 {
-    uint64_t answer;
-    memcpy(default_end - 4, "else", 4);
-    shown.start = default_end - 4;
-    shown.count = 4;
-    answer = resource_manager_show(contents, words, bodies, bytes, name, name_count, class_name, class_count, &shown);
     if (resource_manager_status_of(answer) == RESOURCE_MANAGER_OK) {
         expect("what is shown is the value", shown.start == bodies + resource_manager_place_of(answer), 1);
         expect("and all of it", shown.count, resource_manager_length_of(answer));
@@ -299,6 +293,39 @@ static uint64_t walk_step(const uint16_t *contents, size_t words, const uint8_t 
         expect("a next number that stays", *lent_next(), before);
     }
     return answer;
+}
+
+static void lend_default(void)
+{
+    memcpy(default_end - 4, "else", 4);
+    shown.start = default_end - 4;
+    shown.count = 4;
+}
+
+/* resource_manager_show in the shape of the others, and the dictionary window's. */
+static uint64_t show(const uint16_t *contents, size_t words, const uint8_t *bodies, size_t bytes, const uint8_t *name,
+                     size_t name_count, const uint8_t *class_name, size_t class_count)
+{
+    lend_default();
+    return shown_by(resource_manager_show(contents, words, bodies, bytes, name, name_count, class_name, class_count,
+                                          &shown),
+                    bodies);
+}
+
+static uint64_t window_show(const uint16_t *contents, size_t words, const uint8_t *bodies, size_t bytes,
+                            const uint8_t *name, size_t name_count, const uint8_t *class_name, size_t class_count)
+{
+    lend_default();
+    return shown_by(resource_manager_window_show(contents, words, bodies, bytes, name, name_count, class_name,
+                                                 class_count, &shown),
+                    bodies);
+}
+
+static uint64_t window_value(const uint16_t *contents, size_t words, const uint8_t *bodies, size_t bytes,
+                             const uint8_t *name, size_t name_count, const uint8_t *class_name, size_t class_count)
+{
+    return resource_manager_window_get_value(contents, words, bodies, bytes, name, name_count, class_name, class_count,
+                                             &number);
 }
 
 static lookup *const lookups[] = {resource_manager_get_bytes, resource_manager_get_string, resource_manager_get_bool,
@@ -516,6 +543,41 @@ static void queries(void)
         expect("a part more", ask(lookups[n], "a", more), RESOURCE_MANAGER_MANY_QUERY_PARTS);
         expect("a malformed name", ask(lookups[n], ".b", ""), RESOURCE_MANAGER_NONE);
         expect("an empty query", ask(lookups[n], "", ""), RESOURCE_MANAGER_NONE);
+    }
+}
+
+/* The dictionary window's calls: at their own limits, and within these as the shell's. */
+static void window_queries(void)
+{
+    static lookup *const window[] = {resource_manager_window_get_bytes, resource_manager_window_get_string,
+                                     resource_manager_window_get_bool, window_value, window_show};
+    const char *longest = repeated("", 'a', RESOURCE_MANAGER_WINDOW_BYTES, "");
+    const char *longer = repeated("", 'a', RESOURCE_MANAGER_WINDOW_BYTES + 1, "");
+    const char *most = parts(RESOURCE_MANAGER_WINDOW_PARTS, ""), *more = parts(RESOURCE_MANAGER_WINDOW_PARTS + 1, "");
+    const char *full = parts(RESOURCE_MANAGER_WINDOW_PARTS,
+                             repeated("", '.', RESOURCE_MANAGER_WINDOW_BYTES - 2 * RESOURCE_MANAGER_WINDOW_PARTS + 1, ""));
+    const char *shorter = repeated("", 'a', RESOURCE_MANAGER_WINDOW_BYTES - 1, "");
+    const char *queries[] = {"b", "a.b", ".b", "", longest, shorter, most, parts(RESOURCE_MANAGER_WINDOW_PARTS - 1, ""), full};
+    size_t n, m;
+    set_shelf(NULL, 0);
+    set_text("", 0, "*b:1\n*a:yes");
+    expect("a reading", read_it(), accepted(2, 0));
+    for (n = 0; n < sizeof window / sizeof window[0]; n++) {
+        expect("a longer name", ask(window[n], longer, ""), RESOURCE_MANAGER_LONG_QUERY);
+        expect("a longer class", ask(window[n], "a", longer), RESOURCE_MANAGER_LONG_QUERY);
+        expect("a part more", ask(window[n], more, ""), RESOURCE_MANAGER_MANY_QUERY_PARTS);
+        expect("a part more", ask(window[n], "a", more), RESOURCE_MANAGER_MANY_QUERY_PARTS);
+        expect("malformed before 10", ask(window[n], more, ".a"), RESOURCE_MANAGER_NONE);
+        expect("9 before malformed", ask(window[n], ".a", longer), RESOURCE_MANAGER_LONG_QUERY);
+        for (m = 0; m < sizeof queries / sizeof queries[0]; m++) {
+            expect("the shell's answer", ask(window[n], queries[m], ""), ask(lookups[n], queries[m], ""));
+            expect("the shell's answer", ask(window[n], "a", queries[m]), ask(lookups[n], "a", queries[m]));
+        }
+        memset(lent_contents(), 0, 2 * contents_count);
+        lent_contents()[0] = RESOURCE_MANAGER_ENTRIES + 1;
+        expect("no image", ask(window[n], longer, ""), RESOURCE_MANAGER_NO_IMAGE);
+        set_text("", 0, "*b:1\n*a:yes");
+        expect("a reading", read_it(), accepted(2, 0));
     }
 }
 
@@ -1187,6 +1249,7 @@ static void *all(void *unused)
 {
     readings();
     queries();
+    window_queries();
     images();
     numbers();
     booleans();

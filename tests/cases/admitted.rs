@@ -3,8 +3,9 @@
 
 use crate::chains::names_own_file;
 use model::archive::judge;
-use model::limits::{Refusal, QUERY_BYTES, QUERY_PARTS, TEXT_BYTES};
+use model::limits::{Refusal, TEXT_BYTES};
 use model::line::{Binding, Part};
+use model::lookup::{Bounds, SHELL};
 use model::matching::{mark, positions, Position};
 use model::query::split;
 use model::reading::{read, Reading};
@@ -38,15 +39,20 @@ pub fn admitted_reading(source: &Source) -> Result<Reading, LeftOut> {
 }
 
 /// Whether document 01 admits a query to the run, and the Rust can hold its alignments with the keys.
-pub fn admitted_query<'a>(query: &Query, mut keys: impl Iterator<Item = &'a [Part]>) -> Result<(), LeftOut> {
+pub fn admitted_query<'a>(query: &Query, keys: impl Iterator<Item = &'a [Part]>) -> Result<(), LeftOut> {
+    admitted_within(SHELL, query, keys)
+}
+
+/// The same at other bounds.
+pub fn admitted_within<'a>(bounds: Bounds, query: &Query, mut keys: impl Iterator<Item = &'a [Part]>) -> Result<(), LeftOut> {
     if [&query.name, &query.class].into_iter().any(|text| std::str::from_utf8(text).is_err()) {
         return Err("queries not in UTF-8".to_string());
     }
-    if query.name.len() > QUERY_BYTES || query.class.len() > QUERY_BYTES {
+    if query.name.len() > bounds.bytes || query.class.len() > bounds.bytes {
         return Err("queries refused by 9".to_string());
     }
     let (Some(name), Some(class)) = (split(&query.name), split(&query.class)) else { return Ok(()) };
-    if name.len() > QUERY_PARTS || class.len() > QUERY_PARTS {
+    if name.len() > bounds.parts || class.len() > bounds.parts {
         return Err("queries refused by 10".to_string());
     }
     let positions = positions(&name, &class);

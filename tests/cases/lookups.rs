@@ -18,7 +18,7 @@ pub type Ask<'a> = &'a mut dyn FnMut(&Source, &[Query]) -> Seen;
 
 pub type Family = fn(Extent, Ask) -> Seen;
 
-pub const FAMILIES: [(&str, Family); 15] = [
+pub const FAMILIES: [(&str, Family); 16] = [
     ("one-key", in_one),
     ("two-keys", in_two),
     ("query-bytes", every_pair_of_bytes),
@@ -30,6 +30,7 @@ pub const FAMILIES: [(&str, Family); 15] = [
     ("near-limits", near_the_limits),
     ("random", random),
     ("wide", wide),
+    ("window-bounds", around_the_window),
     ("archives", random_archives),
     ("struck-off", struck_off),
     ("realistic", like_real_files),
@@ -166,6 +167,25 @@ fn wide(extent: Extent, ask: Ask) -> Seen {
         let text = |draw: &mut Draw| (0..parts).map(|_| vec![draw.pick_byte(letters)]).collect::<Vec<_>>().join(&b'.');
         let query = Query { name: text(draw), class: text(draw) };
         let skips = draw.between(4, 7);
+        let lines: Vec<Vec<u8>> =
+            (0..6).map(|n| [aligned_key(draw, &query, skips), format!(":{n}").into_bytes()].concat()).collect();
+        ask(&Source::plain(&lines.join(&b'\n')), &[query])
+    })
+}
+
+/// Queries of 6 to 10 parts, with dots behind half of them up to some 128 bytes, and keys that align with them.
+fn around_the_window(extent: Extent, ask: Ask) -> Seen {
+    extent.draw("lookups around the window's bounds", 4_000, |draw| {
+        let text = |draw: &mut Draw| {
+            let parts: Vec<Vec<u8>> = (0..draw.between(6, 10)).map(|_| vec![draw.pick_byte(b"abc")]).collect();
+            let mut text = parts.join(&b'.');
+            if draw.one_in(2) {
+                text.resize(draw.between(124, 131), b'.');
+            }
+            text
+        };
+        let query = Query { name: text(draw), class: text(draw) };
+        let skips = draw.between(1, 7);
         let lines: Vec<Vec<u8>> =
             (0..6).map(|n| [aligned_key(draw, &query, skips), format!(":{n}").into_bytes()].concat()).collect();
         ask(&Source::plain(&lines.join(&b'\n')), &[query])

@@ -1,4 +1,4 @@
-//! The settings core as document 01 and requests (i), (iii), (iv) and (v) of document 02 lay it down, written for
+//! The settings core as document 01 and requests (i), (iii), (iv), (v) and (vi) of document 02 lay it down, written for
 //! reading and not for speed.
 //!
 //! It is a second reference beside the Rust: it has the limits, the refusals and the image, which

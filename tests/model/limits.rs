@@ -19,6 +19,10 @@ pub const WRITTEN_BYTES: usize = 66_048;
 pub const QUERY_BYTES: usize = 1024;
 pub const QUERY_PARTS: usize = 32;
 
+/// The same of a query that the dictionary window asks.
+pub const WINDOW_BYTES: usize = 128;
+pub const WINDOW_PARTS: usize = 8;
+
 /// The refusals in the order of their numbers, from 1.
 #[derive(Clone, Copy, Debug, PartialEq, Eq)]
 pub enum Refusal {

@@ -102,6 +102,63 @@ extern "C" {
         out: *mut i64,
     ) -> u64;
 
+    fn resource_manager_window_get_bytes(
+        contents: *const u16,
+        contents_length: usize,
+        bodies: *const u8,
+        bodies_length: usize,
+        name: *const u8,
+        name_length: usize,
+        class: *const u8,
+        class_length: usize,
+    ) -> u64;
+
+    fn resource_manager_window_show(
+        contents: *const u16,
+        contents_length: usize,
+        bodies: *const u8,
+        bodies_length: usize,
+        name: *const u8,
+        name_length: usize,
+        class: *const u8,
+        class_length: usize,
+        shown: *mut Bytes,
+    ) -> u64;
+
+    fn resource_manager_window_get_string(
+        contents: *const u16,
+        contents_length: usize,
+        bodies: *const u8,
+        bodies_length: usize,
+        name: *const u8,
+        name_length: usize,
+        class: *const u8,
+        class_length: usize,
+    ) -> u64;
+
+    fn resource_manager_window_get_bool(
+        contents: *const u16,
+        contents_length: usize,
+        bodies: *const u8,
+        bodies_length: usize,
+        name: *const u8,
+        name_length: usize,
+        class: *const u8,
+        class_length: usize,
+    ) -> u64;
+
+    fn resource_manager_window_get_value(
+        contents: *const u16,
+        contents_length: usize,
+        bodies: *const u8,
+        bodies_length: usize,
+        name: *const u8,
+        name_length: usize,
+        class: *const u8,
+        class_length: usize,
+        out: *mut i64,
+    ) -> u64;
+
     fn resource_manager_write(
         contents: *const u16,
         contents_length: usize,
@@ -326,46 +383,87 @@ lookup! {
     get_bool_word, resource_manager_get_bool
 }
 
-/// The word of `get_bytes_word`; `shown`, which is lent as the default, is the value's bytes afterwards if
-/// there is a value.
-pub fn show_word<'a>(contents: &[u16], bodies: &'a [u8], name: &[u8], class: &[u8], shown: &mut &'a [u8]) -> u64 {
-    let mut part = Bytes { start: shown.as_ptr(), length: shown.len() };
-    // SAFETY: as for the other lookups; `part` is lent for writing. The call is proved to leave the default there or
-    // a part of the bodies, and both live as long as `shown` says.
-    unsafe {
-        let word = resource_manager_show(
-            contents.as_ptr(),
-            contents.len(),
-            bodies.as_ptr(),
-            bodies.len(),
-            name.as_ptr(),
-            name.len(),
-            class.as_ptr(),
-            class.len(),
-            &mut part,
-        );
-        *shown = std::slice::from_raw_parts(part.start, part.length);
-        word
-    }
+lookup! {
+    /// As `get_bytes_word`, at the dictionary window's bounds. So are the others whose name begins with its.
+    window_get_bytes_word, resource_manager_window_get_bytes
 }
 
-/// 0 with the number in `out`; or, with `out` as it was, 65534 if the value is not a number, 65535 for
-/// none, or the refusal's number.
-pub fn get_value_word(contents: &[u16], bodies: &[u8], name: &[u8], class: &[u8], out: &mut i64) -> u64 {
-    // SAFETY: as for the other lookups; `out` is borrowed for writing.
-    unsafe {
-        resource_manager_get_value(
-            contents.as_ptr(),
-            contents.len(),
-            bodies.as_ptr(),
-            bodies.len(),
-            name.as_ptr(),
-            name.len(),
-            class.as_ptr(),
-            class.len(),
-            out,
-        )
-    }
+lookup! {
+    window_get_string_word, resource_manager_window_get_string
+}
+
+lookup! {
+    window_get_bool_word, resource_manager_window_get_bool
+}
+
+/// Declares a lookup that shows a value or a default.
+macro_rules! show {
+    ($(#[$said:meta])* $name:ident, $call:ident) => {
+        $(#[$said])*
+        pub fn $name<'a>(contents: &[u16], bodies: &'a [u8], name: &[u8], class: &[u8], shown: &mut &'a [u8]) -> u64 {
+            let mut part = Bytes { start: shown.as_ptr(), length: shown.len() };
+            // SAFETY: as for the other lookups; `part` is lent for writing. The call is proved to leave the default there or
+            // a part of the bodies, and both live as long as `shown` says.
+            unsafe {
+                let word = $call(
+                    contents.as_ptr(),
+                    contents.len(),
+                    bodies.as_ptr(),
+                    bodies.len(),
+                    name.as_ptr(),
+                    name.len(),
+                    class.as_ptr(),
+                    class.len(),
+                    &mut part,
+                );
+                *shown = std::slice::from_raw_parts(part.start, part.length);
+                word
+            }
+        }
+    };
+}
+
+show! {
+    /// The word of `get_bytes_word`; `shown`, which is lent as the default, is the value's bytes afterwards if
+    /// there is a value.
+    show_word, resource_manager_show
+}
+
+show! {
+    window_show_word, resource_manager_window_show
+}
+
+/// Declares a lookup that gives a number.
+macro_rules! value {
+    ($(#[$said:meta])* $name:ident, $call:ident) => {
+        $(#[$said])*
+        pub fn $name(contents: &[u16], bodies: &[u8], name: &[u8], class: &[u8], out: &mut i64) -> u64 {
+            // SAFETY: as for the other lookups; `out` is borrowed for writing.
+            unsafe {
+                $call(
+                    contents.as_ptr(),
+                    contents.len(),
+                    bodies.as_ptr(),
+                    bodies.len(),
+                    name.as_ptr(),
+                    name.len(),
+                    class.as_ptr(),
+                    class.len(),
+                    out,
+                )
+            }
+        }
+    };
+}
+
+value! {
+    /// 0 with the number in `out`; or, with `out` as it was, 65534 if the value is not a number, 65535 for
+    /// none, or the refusal's number.
+    get_value_word, resource_manager_get_value
+}
+
+value! {
+    window_get_value_word, resource_manager_window_get_value
 }
 
 /// Writes an image out into a lent buffer: the text's length from bit 32 on; or, with the buffer as it was, 8 if there is no image,

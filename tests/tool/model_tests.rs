@@ -1,5 +1,5 @@
 //! Tests of the model by itself: document 01's examples and limits, those of the start-up chain, of names with dots, of
-//! writing out, and of walks and additions, written out by hand.
+//! writing out, of walks and additions, and of the dictionary window, written out by hand.
 //!
 //!     model_tests NAME    runs one test
 //!     model_tests list    lists the tests
@@ -18,7 +18,7 @@ use model::archive::{judge, lay_out, strike};
 use model::image::{self, Accepted};
 use model::limits::{BODIES_BYTES, CONTENTS_WORDS, TEXT_BYTES};
 use model::line::{read_key, write_key, Part};
-use model::lookup::{get_bool, get_bytes, get_value, show, Number};
+use model::lookup::{get_bool, get_bytes, get_value, show, Bounds, Number, SHELL, WINDOW};
 use model::matching::{all_rows, beats_the_rest, highest_row, positions, winner};
 use model::paths::{follow, target, Outside};
 use model::query::split;
@@ -32,7 +32,7 @@ use std::process::ExitCode;
 
 type Test = fn() -> Result<String, String>;
 
-const TESTS: [(&str, Test); 19] = [
+const TESTS: [(&str, Test); 20] = [
     ("examples", examples),
     ("booleans", booleans),
     ("limits", limits),
@@ -44,6 +44,7 @@ const TESTS: [(&str, Test); 19] = [
     ("combinations", combinations),
     ("short-buffers", short_buffers),
     ("lookup-order", lookup_order),
+    ("window", window),
     ("bad-images", bad_images),
     ("rows", rows),
     ("striking-off", striking_off),
@@ -389,6 +390,59 @@ fn lookup_order() -> Result<String, String> {
         same("shown", shown, if expected == Ok(true) { b"1".as_slice() } else { b"default" })?;
     }
     Ok(format!("{} lookups", cases.len()))
+}
+
+/// What a lookup and the readings of its value answer.
+fn answers<'a>(bounds: Bounds, lent: &'a Lent, name: &[u8], class: &[u8]) -> impl PartialEq + std::fmt::Debug + 'a {
+    let Lent { contents, bodies } = lent;
+    (
+        bounds.get_bytes(contents, bodies, name, class),
+        bounds.get_string(contents, bodies, name, class),
+        bounds.get_bool(contents, bodies, name, class),
+        bounds.get_value(contents, bodies, name, class),
+        bounds.show(contents, bodies, name, class, b"default"),
+    )
+}
+
+/// The dictionary window's bounds in the name and in the class: 8, 9, malformed, 10. What is within them gets the shell's answers.
+fn window() -> Result<String, String> {
+    let good = image_of(b"c:2\n*a:0\n*a:1");
+    let mut bad = image_of(b"c:2\n*a:0\n*a:1");
+    bad.contents[0] = 513;
+    let dotted = |parts: usize| vec![b"a".to_vec(); parts].join(&b'.');
+    let and_dots = |text: Vec<u8>, bytes: usize| [&text[..], &vec![b'.'; bytes - text.len()]].concat();
+    let cases: [(Vec<u8>, Result<bool, u8>); 14] = [
+        (b"a".to_vec(), Ok(true)),
+        (b"b".to_vec(), Ok(false)),
+        (dotted(7), Ok(true)),
+        (dotted(8), Ok(true)),
+        (dotted(9), Err(10)),
+        (vec![b'a'; 127], Ok(false)),
+        (vec![b'a'; 128], Ok(false)),
+        (vec![b'a'; 129], Err(9)),
+        (and_dots(dotted(8), 128), Ok(true)),
+        (and_dots(dotted(8), 129), Err(9)),
+        (and_dots(dotted(9), 128), Err(10)),
+        (vec![b'.'; 128], Ok(false)),
+        (vec![b'.'; 129], Err(9)),
+        ([dotted(9), b"?".to_vec()].concat(), Ok(false)),
+    ];
+    for (text, expected) in &cases {
+        let others: [(&[u8], Result<bool, u8>); 3] =
+            [(b"", *expected), (b".", if *expected == Err(9) { Err(9) } else { Ok(false) }), (&[b'a'; 129], Err(9))];
+        for (other, expected) in others {
+            for (name, class) in [(&text[..], other), (other, &text[..])] {
+                let got = WINDOW.get_bytes(&good.contents, &good.bodies, name, class);
+                same("the window", got.map(|place| place.is_some()).map_err(|refusal| refusal.number()), expected)?;
+                let no_image = WINDOW.get_bytes(&bad.contents, &bad.bodies, name, class);
+                same("no image", no_image.map_err(|refusal| refusal.number()), Err(8))?;
+                if expected.is_ok() {
+                    same("the shell", answers(WINDOW, &good, name, class), answers(SHELL, &good, name, class))?;
+                }
+            }
+        }
+    }
+    Ok(format!("{} lookups", 6 * cases.len()))
 }
 
 /// Images spoilt in one place, each of which must be found bad, and changes that leave an image good.

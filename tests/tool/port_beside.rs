@@ -3,6 +3,7 @@
 //!     port_beside compare FAMILY SEED TIMES ROOM    compares one family of readings
 //!     port_beside families                          lists the families
 //!     port_beside ask FAMILY SEED TIMES ROOM        compares one family of lookups
+//!     port_beside ask-window FAMILY SEED TIMES ROOM the same by the dictionary window's lookups
 //!     port_beside inquiries                         lists the families of lookups
 //!     port_beside strike FAMILY SEED TIMES ROOM     tries the third term on one family of archives
 //!     port_beside compare-without FAMILY SEED TIMES ROOM   the same by the comparing call
@@ -66,6 +67,10 @@ mod walking;
 mod walking_faults;
 #[path = "port/walking_tests.rs"]
 mod walking_tests;
+#[path = "port/window_faults.rs"]
+mod window_faults;
+#[path = "port/window_tests.rs"]
+mod window_tests;
 #[path = "port/writing.rs"]
 mod writing;
 #[path = "port/writing_faults.rs"]
@@ -73,6 +78,7 @@ mod writing_faults;
 #[path = "port/writing_tests.rs"]
 mod writing_tests;
 
+use asking::Lookups;
 use cases::chains::{self, every_combination, Combination};
 use cases::images;
 use cases::lookups;
@@ -95,7 +101,8 @@ fn main() -> ExitCode {
     let result = match words[..] {
         ["compare", family, seed, times, room] => compare(family, seed, times, room),
         ["families"] => Ok(names(&families())),
-        ["ask", family, seed, times, room] => ask(family, seed, times, room),
+        ["ask", family, seed, times, room] => ask(asking::PORTS, family, seed, times, room),
+        ["ask-window", family, seed, times, room] => ask(asking::WINDOWS, family, seed, times, room),
         ["inquiries"] => Ok(names(&lookups::FAMILIES)),
         ["strike", family, seed, times, _] => strike(family, seed, times),
         ["compare-without", family, seed, times, _] => compare_without(family, seed, times),
@@ -155,9 +162,9 @@ fn compare(name: &str, seed: &str, times: &str, room: &str) -> Result<String, St
     run.counts.report()
 }
 
-fn ask(family: &str, seed: &str, times: &str, room: &str) -> Result<String, String> {
+fn ask(lookups: Lookups, family: &str, seed: &str, times: &str, room: &str) -> Result<String, String> {
     let family = find(&lookups::FAMILIES, family)?;
-    let mut inquiry = Inquiry::new(both::PORTS, asking::PORTS, room);
+    let mut inquiry = Inquiry::new(both::PORTS, lookups, room);
     family(extent(seed, times)?, &mut |source, queries| inquiry.ask(source, queries))?;
     inquiry.counts.report_family()
 }

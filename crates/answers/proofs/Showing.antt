@@ -6,7 +6,7 @@ use Prim.Native.Nat.{ℕ, _-_}
 use native.Mathlib.Omega.{arith}
 use lib.ListN.{length}
 use Rattle.definition.specs.Text.{Entry}
-use Rattle.definition.specs.Query.{Query, positions, malformed, pastLimit, queryOf}
+use Rattle.definition.specs.Query.{Query, positions, malformed, pastLimit, shell, queryOf}
 use Rattle.definition.specs.Reading.{Answer, accepted, refused as refusedReading, Outcome, outcome, reading, plain, readEntries}
 use Rattle.definition.specs.Lookup.{refused, getBytes, answerIn, answerOf}
 use Rattle.definition.specs.ThirdTerm.{lookup}
@@ -15,7 +15,7 @@ use Rattle.laws.proofs.ThirdTerm.{reading-image, reading-answers, reading-repli
 use Rattle.lookup.specs.declared.Lookup.{Lookup}
 use Rattle.lookup.specs.declared.Lookup.the-variants.{Found, Nothing, Refused}
 use Rattle.lookup.specs.Replies.{replied, LiesIn}
-use Rattle.lookup.proofs.Looking.{past, found-inside}
+use Rattle.lookup.proofs.Looking.{past, bytes-within}
 use Rattle.showing.specs.Showing.{refusedBy, shownOf}
 use Rattle.answers.specs.Answering.{ofBytes, ofQuery, ofReading, afterReading, LooksUp, answerShown}
 
@@ -31,11 +31,6 @@ unfolding answerIn
 shown-bytes b (Found p n) o e h = ap ofBytes e
 shown-bytes b Nothing o e h = ap ofBytes e
 shown-bytes b (Refused k) o e h = absurd (h k refl)
-
-pub inside-of : (c b name class : List ℕ) (x : Lookup) → replied x ≡ getBytes c b name class → LiesIn x (length b)
-inside-of c b name class (Found p n) e = found-inside c b name class p n e
-inside-of c b name class Nothing e = tt
-inside-of c b name class (Refused k) e = tt
 
 inside-refused : (b : List ℕ) (x : Lookup) (k : ℕ) → replied x ≡ refused k → LiesIn x (length b)
 inside-refused b (Found p n) k e = absurd (let z : _≡_ {A = ℕ} 0 1 = cc in omega arith)
@@ -54,10 +49,10 @@ module _ (texts : List (List ℕ)) (archive contents bodies : List ℕ) (r : Rea
 
   module _ (name class : List ℕ) (x : Lookup) (h : replied x ≡ getBytes c b name class) where
     bytes-are : answerIn b (replied x) ≡ answerOf es (queryOf name class)
-    bytes-are = ap (answerIn b) h ∙ reading-answers texts archive contents bodies r name class
+    bytes-are = ap (answerIn b) h ∙ reading-answers texts archive contents bodies r shell name class
 
     apart : ((k : ℕ) → queryOf name class ≡ pastLimit k → ⊥) → (k : ℕ) → replied x ≡ refused k → ⊥
-    apart g k e = reading-replies texts archive contents bodies r name class g k (sym h ∙ e)
+    apart g k e = reading-replies texts archive contents bodies r shell name class g k (sym h ∙ e)
 
     shown-is : shownOf b x ≡ ofQuery es (queryOf name class)
     unfolding ofQuery answerOf
@@ -67,7 +62,7 @@ module _ (texts : List (List ℕ)) (archive contents bodies : List ℕ) (r : Rea
         at (positions qs) e =
             shown-bytes b x (answerOf es (positions qs)) (bytes-are ∙ ap (answerOf es) e) (apart (λ k f. let z : _≡_ {A = ℕ} 0 1 = cc in omega arith))
         at malformed e = shown-bytes b x none (bytes-are ∙ ap (answerOf es) e) (apart (λ k f. let z : _≡_ {A = ℕ} 0 1 = cc in omega arith))
-        at (pastLimit k) e = shown-refused b x k (h ∙ sym (past c b name class (reading-image texts archive contents bodies r) k e))
+        at (pastLimit k) e = shown-refused b x k (h ∙ sym (past shell c b name class (reading-image texts archive contents bodies r) k e))
 
 module _ (texts : List (List ℕ)) (archive name class contents bodies c b : List ℕ) where
   refused-shown : (x : Lookup) (k : ℕ) → reading texts archive contents bodies .answer ≡ refusedReading k → replied x ≡ refused k
@@ -83,7 +78,7 @@ module _ (texts : List (List ℕ)) (archive name class contents bodies c b : Lis
       let reads : Reads texts archive contents bodies = accepted-reads texts archive contents bodies (rw e refl) in
       let h′ : replied x ≡ getBytes (reading texts archive contents bodies .contents) (reading texts archive contents bodies .bodies) name class =
       h ∙ ap (λ (y : List ℕ). getBytes y b name class) ec ∙ ap (λ (y : List ℕ). getBytes (reading texts archive contents bodies .contents) y name class) eb in
-      (ap (λ (y : List ℕ). shownOf y x) eb ∙ shown-is texts archive contents bodies reads name class x h′ ∙ rw e refl, inside-of c b name class x h)
+      (ap (λ (y : List ℕ). shownOf y x) eb ∙ shown-is texts archive contents bodies reads name class x h′ ∙ rw e refl, bytes-within shell c b name class x h)
 
   -- what was looked up shows what the definition answers, and lies in the bodies
   pub looked : (x : Lookup) → LooksUp texts archive name class contents bodies c b x → (shownOf b x ≡ answerShown texts archive name class contents bodies) × LiesIn x (length b)

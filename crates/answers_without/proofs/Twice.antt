@@ -8,6 +8,7 @@ use Rattle.definition.specs.Limits.{archiveBytes, contentsWords, bodyBytes}
 use Rattle.definition.specs.ThirdTerm.{Case, withFile, withoutFile}
 use Rattle.lookup.specs.declared.Lookup.{Lookup}
 use Rattle.lookup.specs.Replies.{replied, LiesIn}
+use Rattle.lookup.proofs.Looking.{bytes-within}
 use Rattle.reader.specs.Said.{said}
 use Rattle.reader.specs.declared.Answer as reader
 use Rattle.comparison.specs.declared.Compared.the-variants as comparison
@@ -17,7 +18,6 @@ use Rattle.reports.specs.declared.Report.{Report}
 use Rattle.showing.specs.Showing.{shownOf}
 use Rattle.reports.specs.Telling.{refused, bothTold, notAmong, Reports}
 use Rattle.reports.proofs.Telling.{reports-of}
-use Rattle.answers.proofs.Showing.{inside-of}
 use Rattle.answers_without.specs.Twice.{comparedTold, twiceTold}
 
 -- the call's two lookups lie in what was read
@@ -25,8 +25,8 @@ pub both-inside : (c : Case) (struck s c₁ b₁ c₂ b₂ : List ℕ) (x y : Lo
     → LiesIn x (length b₁) × LiesIn y (length b₂)
 both-inside c struck s c₁ b₁ c₂ b₂ x y second e =
     let m = answered-both c struck (leaving (comparison.Both x y second) s c₁ b₁ c₂ b₂) (replied x) (replied y) (said second) refl e in (
-      rw (ap (λ (l : Left). l .bodies) (m .made)) (inside-of (withFile c .contents) (withFile c .bodies) (c .name) (c .class) x (m .first-looked)),
-      rw (ap (λ (l : Left). l .bodies′) (m .made)) (inside-of (withoutFile c .contents) (withoutFile c .bodies) (c .name) (c .class) y (m .second-looked)),
+      rw (ap (λ (l : Left). l .bodies) (m .made)) (bytes-within (c .bounds) (withFile c .contents) (withFile c .bodies) (c .name) (c .class) x (m .first-looked)),
+      rw (ap (λ (l : Left). l .bodies′) (m .made)) (bytes-within (c .bounds) (withoutFile c .contents) (withoutFile c .bodies) (c .name) (c .class) y (m .second-looked)),
     )
 
 module _ (texts : List (List ℕ)) (archive : List ℕ) (number : ℕ) (file name class : List ℕ) where

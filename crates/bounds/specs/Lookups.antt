@@ -8,8 +8,9 @@ use lib.ListN.{replicate, drop}
 use lib.IntN.{negsuc}
 use Rattle.definition.specs.Lists.{ascii}
 use Rattle.definition.specs.Reading.{Outcome, reading}
-use Rattle.definition.specs.Lookup.{Reply, given, noValue, refused as refusedReply, Place, getBytes}
-use Rattle.definition.specs.Value.{getString, getBool, getValue, Number, number, notANumber, shown}
+use Rattle.definition.specs.Query.{window}
+use Rattle.definition.specs.Lookup.{Reply, given, noValue, refused as refusedReply, Place, getBytesWithin, getBytes}
+use Rattle.definition.specs.Value.{getStringWithin, getBoolWithin, getValueWithin, getString, getBool, getValue, Number, number, notANumber, shownWithin, shown}
 use Rattle.definition.specs.Evaluation.{definition, noFiles}
 
 -- n copies of a text, one after another
@@ -90,3 +91,37 @@ readingsOfAValue :
     × (showing "x" "b" ≡ ascii "default")
 unfolding definition contents bodies image asString asBool asNumber showing
 readingsOfAValue = (refl, refl, refl, refl, refl, refl, refl, refl, refl, refl, refl)
+
+-- the calls of the dictionary window (document 02 (vi)), of a name in that image
+module _ (v : String) (n : List ℕ) where
+  inWindow : Reply Place
+  inWindow = getBytesWithin window (image v .contents) (image v .bodies) n []
+
+  stringInWindow : Reply Place
+  stringInWindow = getStringWithin window (image v .contents) (image v .bodies) n []
+
+  boolInWindow : Reply Bool
+  boolInWindow = getBoolWithin window (image v .contents) (image v .bodies) n []
+
+  numberInWindow : Reply Number
+  numberInWindow = getValueWithin window (image v .contents) (image v .bodies) n []
+
+  showingInWindow : List ℕ
+  showingInWindow = shownWithin window (image v .contents) (image v .bodies) n [] (ascii "default")
+
+windowReadings :
+    (inWindow "yes" (ascii "a") ≡ given (record { start = 2; length = 3 }))
+    × (stringInWindow "yes" (ascii "a") ≡ given (record { start = 2; length = 3 }))
+    × (boolInWindow "yes" (ascii "a") ≡ given true)
+    × (numberInWindow "-7" (ascii "a") ≡ given (number (negsuc 6)))
+    × (showingInWindow "yes" (ascii "a") ≡ ascii "yes")
+    -- 8 before 9, and 9 and 10 in each
+    × (getBytesWithin window [] bodies (replicate 129 97) [] ≡ refusedReply 8)
+    × (inWindow "yes" (replicate 129 97) ≡ refusedReply 9)
+    × (stringInWindow "yes" (name 9) ≡ refusedReply 10)
+    × (boolInWindow "yes" (replicate 129 97) ≡ refusedReply 9)
+    × (numberInWindow "-7" (name 9) ≡ refusedReply 10)
+    × (showingInWindow "yes" (name 9) ≡ ascii "default")
+    × (inWindow "no" (name 8) ≡ noValue)
+unfolding definition copies contents bodies name image inWindow stringInWindow boolInWindow numberInWindow showingInWindow
+windowReadings = (refl, refl, refl, refl, refl, refl, refl, refl, refl, refl, refl, refl)

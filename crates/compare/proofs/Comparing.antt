@@ -12,7 +12,7 @@ use Rattle.definition.specs.Limits.{contentsWords, bodyBytes}
 use Rattle.definition.specs.Archive.{laidOut, filesOf}
 use Rattle.definition.specs.Image.{tooShort}
 use Rattle.definition.specs.Reading.{Answer, accepted, refused, Outcome, outcome, reading}
-use Rattle.definition.specs.Lookup.{Reply, Place, getBytes}
+use Rattle.definition.specs.Lookup.{Reply, Place, getBytesWithin}
 use Rattle.definition.specs.ThirdTerm.{Case, withFile, withoutFile, lookup, isAccepted, Given, ThirdTerm}
 use Rattle.laws.proofs.Lists.{not-both}
 use Rattle.laws.proofs.Reading.{accepted-reads}
@@ -75,7 +75,7 @@ module _ (c : Case) (struck : List ℕ) where
       pub both-left : c .file < length (filesOf (c .archive))
           → (r : Compared) (second : reader.Answer) (s₂ c₂ b₂ : List ℕ)
           → SecondOf second (c .texts) (c .archive) (c .file) struck (c .contents′) (c .bodies′) s₂ c₂ b₂
-          → compared r ≡ answering (getBytes c₁ b₁ (c .name) (c .class)) (getBytes c₂ b₂ (c .name) (c .class)) (said second)
+          → compared r ≡ answering (getBytesWithin (c .bounds) c₁ b₁ (c .name) (c .class)) (getBytesWithin (c .bounds) c₂ b₂ (c .name) (c .class)) (said second)
           → leaving r s₂ c₁ b₁ c₂ b₂ ≡ comparing c struck
       unfolding afterFirst
       both-left h r second s₂ c₂ b₂ made d =

@@ -9,6 +9,7 @@ use Rattle.definition.specs.Lists.{if_then_else_}
 use Rattle.definition.specs.Archive.{filesOf, struckOff}
 use Rattle.definition.specs.Image.{tooShort}
 use Rattle.definition.specs.Reading.{Answer, accepted, refused, Outcome}
+use Rattle.definition.specs.Query.{shell}
 use Rattle.definition.specs.ThirdTerm.{Case, withFile, withoutFile, lookup, Given, ThirdTerm}
 use Rattle.comparison.specs.declared.Compared.{Compared}
 use Rattle.comparison.specs.Answering.{Comparison, both, noFile, refusedBy, answering, compared}
@@ -72,6 +73,7 @@ asked texts archive file name class contents bodies contents′ bodies′ = reco
   texts = texts;
   archive = archive;
   file = file;
+  bounds = shell;
   name = name;
   class = class;
   contents = contents;

@@ -14,11 +14,11 @@ use Rattle.definition.specs.Image.{keyOf, rowsOf, storeOf, contentsOf, w
 use Rattle.definition.specs.Reading.{judge, left, reading, met, plain, readEntries}
 use Rattle.definition.specs.StartUp.{firstText, secondText, added, textsUsed}
 use Rattle.definition.specs.Writing.{escaped, beginsBlank, valueText, entryText, textOf, putInto, writing}
-use Rattle.definition.specs.Query.{queryPartAt, namesOf, positionsOf, countedQuery, queryOf}
+use Rattle.definition.specs.Query.{queryPartAt, namesOf, positionsOf, countedQuery, queryWithin, queryOf}
 use Rattle.definition.specs.Matching.{equals, matchAt, markOf, markAt}
 use Rattle.definition.specs.Ranking.{meetRow, skipRow, rankOf, better, bestFrom, bestOf}
-use Rattle.definition.specs.Lookup.{valueOf, answerOf, placeOf, lookup, getBytes, answerIn}
-use Rattle.definition.specs.Value.{Number, table, afterRow, firstRow, character, characterAt, isUtf8, naturalOf, signed, i64Of, lowercase, wordOf, nonZero, toBool, replied, readAs, numberOf, bytesOr, getString, getBool, getValue, shown}
+use Rattle.definition.specs.Lookup.{valueOf, answerOf, placeOf, lookup, getBytesWithin, answerIn}
+use Rattle.definition.specs.Value.{Number, table, afterRow, firstRow, character, characterAt, isUtf8, naturalOf, signed, i64Of, lowercase, wordOf, nonZero, toBool, replied, readAs, numberOf, bytesOr, asString, asBool, asNumber, getStringWithin, getBoolWithin, getValueWithin, shownWithin}
 use Rattle.definition.specs.Walking.{hasRow, aligns, alignedFrom, firstOf, nextOf, begun, walkStart, numberOr, stepped, walkStep, afterStep}
 use Rattle.definition.specs.Adding.{entriesAdded, over, appended, judged, addedOne, adding, listedAfter, turned, played, stepsIn, numbersFrom}
 
@@ -33,9 +33,9 @@ unfolding
     resourceOf directiveOf lineAt linesOf eventsOf opening seeking including events eventsOfAll entriesOf opensOf
     keyOf rowsOf storeOf contentsOf writtenOver rowsFrom storedPartAt entriesIn isKey packed isImage judge left reading
     firstText secondText added textsUsed escaped beginsBlank valueText entryText textOf putInto writing
-    queryPartAt namesOf positionsOf countedQuery queryOf equals matchAt markOf markAt meetRow skipRow rankOf better bestFrom bestOf
-    valueOf answerOf placeOf lookup getBytes answerIn table afterRow firstRow character characterAt isUtf8 naturalOf signed i64Of lowercase
-    wordOf nonZero toBool replied readAs numberOf bytesOr getString getBool getValue shown flatten
+    queryPartAt namesOf positionsOf countedQuery queryWithin equals matchAt markOf markAt meetRow skipRow rankOf better bestFrom bestOf
+    valueOf answerOf placeOf lookup getBytesWithin answerIn table afterRow firstRow character characterAt isUtf8 naturalOf signed i64Of lowercase
+    wordOf nonZero toBool replied readAs numberOf bytesOr asString asBool asNumber getStringWithin getBoolWithin getValueWithin shownWithin flatten
     hasRow aligns alignedFrom firstOf nextOf begun walkStart numberOr stepped walkStep afterStep
     entriesAdded over appended judged addedOne adding listedAfter turned played stepsIn numbersFrom
 definition = 0

@@ -16,6 +16,7 @@ pub mod Matching
 pub mod Ranking
 pub mod Lookup
 pub mod Value
+pub mod Window
 pub mod Walking
 pub mod Adding
 pub mod ThirdTerm

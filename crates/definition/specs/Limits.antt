@@ -49,3 +49,10 @@ queryBytes = 1024
 
 abbrev pub queryParts : ℕ
 queryParts = 32
+
+-- of one that the dictionary window asks (document 02 (vi))
+abbrev pub windowBytes : ℕ
+windowBytes = 128
+
+abbrev pub windowParts : ℕ
+windowParts = 8

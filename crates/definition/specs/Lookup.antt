@@ -8,7 +8,7 @@ use lib.Seq.{slice}
 use Rattle.definition.specs.Lists.{if_then_else_}
 use Rattle.definition.specs.Text.{Part, Entry}
 use Rattle.definition.specs.Image.{Row, rowsIn, keyEnd, entriesIn, isImage}
-use Rattle.definition.specs.Query.{Query, positions, malformed, pastLimit, queryOf}
+use Rattle.definition.specs.Query.{Query, positions, malformed, pastLimit, Bounds, queryWithin, shell}
 use Rattle.definition.specs.Ranking.{Best, noEntry, best, bestOf}
 
 abbrev pub keysOf : List Entry → List (List Part)
@@ -51,9 +51,12 @@ lookup contents bodies malformed = noValue
 lookup contents bodies (pastLimit k) = refused k
 
 -- 8, 9, malformed, 10
-unfoldable pub getBytes : List ℕ → List ℕ → List ℕ → List ℕ → Reply Place
-getBytes contents bodies name class =
-    if not (isImage contents bodies) then refused 8 else lookup contents bodies (queryOf name class)
+unfoldable pub getBytesWithin : Bounds → List ℕ → List ℕ → List ℕ → List ℕ → Reply Place
+getBytesWithin most contents bodies name class =
+    if not (isImage contents bodies) then refused 8 else lookup contents bodies (queryWithin most name class)
+
+abbrev pub getBytes : List ℕ → List ℕ → List ℕ → List ℕ → Reply Place
+getBytes contents bodies name class = getBytesWithin shell contents bodies name class
 
 abbrev pub bytesAt : List ℕ → Place → List ℕ
 bytesAt bodies p = slice (p .start) (p .start + p .length) bodies

@@ -10,7 +10,7 @@ use lib.IntN.{pos, negsuc}
 use Rattle.definition.specs.Lists.{ascii}
 use Rattle.definition.specs.Archive.{archiveOf, struckOff, laidOut}
 use Rattle.definition.specs.Reading.{judge, start, met, within}
-use Rattle.definition.specs.Query.{Query, positions, malformed, pastLimit, queryOf}
+use Rattle.definition.specs.Query.{Query, positions, malformed, pastLimit, queryWithin, window, queryOf}
 use Rattle.definition.specs.Value.{toBool, i64Of, isUtf8}
 use Rattle.definition.specs.Image.{writtenOver}
 use Rattle.definition.specs.Evaluation.{definition, file}
@@ -47,6 +47,27 @@ queries :
     × (isPast (queryOf (replicate 1024 97) []) ≡ none)
 unfolding definition parts isPast
 queries = (refl, refl, refl, refl, refl, refl)
+
+-- the dictionary window's (document 02 (vi))
+windows :
+    -- 8 parts, 128 bytes, and 8 parts in 128 bytes
+    (isPast (queryWithin window (parts 8) (parts 8)) ≡ none)
+    × (isPast (queryWithin window (replicate 128 97) (replicate 128 97)) ≡ none)
+    × (isPast (queryWithin window (parts 8 ++ replicate 112 46) []) ≡ none)
+    × (queryWithin window (replicate 129 97) [] ≡ pastLimit 9)
+    × (queryWithin window [] (replicate 129 97) ≡ pastLimit 9)
+    × (queryWithin window (parts 9) [] ≡ pastLimit 10)
+    × (queryWithin window [] (parts 9) ≡ pastLimit 10)
+    -- 9, malformed, 10
+    × (queryWithin window (replicate 129 46) (parts 9) ≡ pastLimit 9)
+    × (queryWithin window (parts 9) (ascii ".a") ≡ malformed)
+    -- the shell keeps its bounds
+    × (isPast (queryOf (parts 9) (replicate 129 97)) ≡ none)
+    -- one that both admit
+    × (queryWithin window (ascii "a..b.") (ascii "C") ≡ queryOf (ascii "a..b.") (ascii "C"))
+    × (queryWithin window (ascii "a") (ascii ".C") ≡ queryOf (ascii "a") (ascii ".C"))
+unfolding definition parts isPast
+windows = (refl, refl, refl, refl, refl, refl, refl, refl, refl, refl, refl, refl)
 
 values :
     (toBool (ascii "+5") ≡ some true)

@@ -7,7 +7,7 @@ use lib.Dec.{eqb, ltb}
 use lib.ListN.{length}
 use Rattle.definition.specs.Lists.{if_then_else_, takeWhile, dropWhile, isEmpty}
 use Rattle.definition.specs.Parsing.{Parse, nothing, found, many}
-use Rattle.definition.specs.Limits.{queryBytes, queryParts}
+use Rattle.definition.specs.Limits.{queryBytes, queryParts, windowBytes, windowParts}
 use Rattle.definition.specs.Bytes.{dot, isName}
 
 -- a name followed by any number of `.`. Departure: the manual has one `.` between two names
@@ -36,15 +36,30 @@ pub data Query : Type 0 where
   malformed : Query
   pastLimit : ℕ → Query  -- a number of document 01's table
 
+-- how many bytes, and how many parts, a query's name and its class may each have
+pub record Bounds : Type 0 where
+  pub bytes : ℕ
+  pub parts : ℕ
+
 -- 10 is tested of names that are well formed
-unfoldable pub countedQuery : Option (List (List ℕ)) → Option (List (List ℕ)) → Query
-countedQuery none cs = malformed
-countedQuery (some ns) none = malformed
-countedQuery (some ns) (some cs) =
-    if ltb queryParts (length ns) || ltb queryParts (length cs) then pastLimit 10 else positions (positionsOf ns cs)
+unfoldable pub countedQuery : Bounds → Option (List (List ℕ)) → Option (List (List ℕ)) → Query
+countedQuery most none cs = malformed
+countedQuery most (some ns) none = malformed
+countedQuery most (some ns) (some cs) =
+    if ltb (most .parts) (length ns) || ltb (most .parts) (length cs) then pastLimit 10 else positions (positionsOf ns cs)
 
 -- 9, malformed, 10
-unfoldable pub queryOf : List ℕ → List ℕ → Query
-queryOf name class =
-    if ltb queryBytes (length name) || ltb queryBytes (length class) then pastLimit 9 else
-    countedQuery (namesOf name) (namesOf class)
+unfoldable pub queryWithin : Bounds → List ℕ → List ℕ → Query
+queryWithin most name class =
+    if ltb (most .bytes) (length name) || ltb (most .bytes) (length class) then pastLimit 9 else
+    countedQuery most (namesOf name) (namesOf class)
+
+-- the bounds of document 01, which the shell keeps, and those of the dictionary window (document 02 (vi))
+abbrev pub shell : Bounds
+shell = record { bytes = queryBytes; parts = queryParts }
+
+abbrev pub window : Bounds
+window = record { bytes = windowBytes; parts = windowParts }
+
+abbrev pub queryOf : List ℕ → List ℕ → Query
+queryOf name class = queryWithin shell name class

@@ -11,9 +11,9 @@ use Rattle.definition.specs.Archive.{filesOf, struckOff}
 use Rattle.definition.specs.Including.{Entered}
 use Rattle.definition.specs.Image.{tooShort}
 use Rattle.definition.specs.Reading.{Answer, accepted, refused as refusedReading, Outcome, reading, readEntries, plain}
-use Rattle.definition.specs.Query.{Query, positions, malformed, pastLimit, queryOf}
+use Rattle.definition.specs.Query.{Query, positions, malformed, pastLimit, Bounds, queryWithin}
 use Rattle.definition.specs.Matching.{Beats}
-use Rattle.definition.specs.Lookup.{keysOf, answerOf, Reply, refused, Place, getBytes, answerIn}
+use Rattle.definition.specs.Lookup.{keysOf, answerOf, Reply, refused, Place, getBytesWithin, answerIn}
 
 -- an entry came through a file if that file is on its chain of includes
 unfoldable pub cameThrough : List ℕ → Entered → Bool
@@ -51,11 +51,12 @@ isAccepted (accepted entries opens) = true
 isAccepted (refusedReading k) = false
 
 -- the texts of a reading (a main text is the list of one, and a start-up's are in StartUp.antt), an archive, the number of a file on it, a
--- query's name and class, and the buffers lent to each reading
+-- query's bounds, name and class, and the buffers lent to each reading
 pub record Case : Type 0 where
   pub texts : List (List ℕ)
   pub archive : List ℕ
   pub file : ℕ
+  pub bounds : Bounds
   pub name : List ℕ
   pub class : List ℕ
   pub contents : List ℕ
@@ -65,7 +66,7 @@ pub record Case : Type 0 where
 
 module _ (c : Case) where
   abbrev pub query : Query
-  query = queryOf (c .name) (c .class)
+  query = queryWithin (c .bounds) (c .name) (c .class)
 
   abbrev pub fileName : List ℕ
   fileName = getD (filesOf (c .archive)) (c .file) (record { name = []; body = [] }) .name
@@ -86,7 +87,7 @@ module _ (c : Case) where
 
   -- the query looked up in what each reading left, and the answer: bytes or none
   abbrev pub lookup : Outcome → Reply Place
-  lookup o = getBytes (o .contents) (o .bodies) (c .name) (c .class)
+  lookup o = getBytesWithin (c .bounds) (o .contents) (o .bodies) (c .name) (c .class)
 
   abbrev pub lookedUp : Outcome → Option (List ℕ)
   lookedUp o = answerIn (o .bodies) (lookup o)

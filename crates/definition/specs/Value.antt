@@ -9,7 +9,8 @@ use Rattle.definition.specs.Lists.{if_then_else_, ascii, all, any, orEls
 use Rattle.definition.specs.Parsing.{Parse, nothing, found, many}
 use Rattle.definition.specs.Bytes.{plus, minus, within, isDigit}
 use Rattle.definition.specs.Text.{positional}
-use Rattle.definition.specs.Lookup.{Reply, given, noValue, refused, Place, getBytes, bytesAt}
+use Rattle.definition.specs.Query.{Bounds, shell}
+use Rattle.definition.specs.Lookup.{Reply, given, noValue, refused, Place, getBytesWithin, bytesAt}
 
 -- ---- Well-formed UTF-8 (Unicode, table 3-7)
 
@@ -121,16 +122,41 @@ bytesOr bodies default (given p) = bytesAt bodies p
 bytesOr bodies default noValue = default
 bytesOr bodies default (refused k) = default
 
+-- the three readings of what a lookup found: a string is none unless well-formed UTF-8, and the others are of a string
+module _ (bodies : List ℕ) where
+  unfoldable pub asString : Reply Place → Reply Place
+  asString r = readAs (λ p. if isUtf8 (bytesAt bodies p) then some p else none) r
+
+  unfoldable pub asBool : Reply Place → Reply Bool
+  asBool r = readAs (λ p. toBool (bytesAt bodies p)) r
+
+  unfoldable pub asNumber : Reply Place → Reply Number
+  asNumber r = readAs (λ p. some (numberOf (i64Of (bytesAt bodies p)))) r
+
+-- of a query within bounds
+module _ (most : Bounds) (contents bodies name class : List ℕ) where
+  unfoldable pub getStringWithin : Reply Place
+  getStringWithin = asString bodies (getBytesWithin most contents bodies name class)
+
+  unfoldable pub getBoolWithin : Reply Bool
+  getBoolWithin = asBool bodies getStringWithin
+
+  unfoldable pub getValueWithin : Reply Number
+  getValueWithin = asNumber bodies getStringWithin
+
+  unfoldable pub shownWithin : List ℕ → List ℕ
+  shownWithin default = bytesOr bodies default (getBytesWithin most contents bodies name class)
+
+-- at the bounds of document 01
 module _ (contents bodies name class : List ℕ) where
-  -- none unless well-formed UTF-8
-  unfoldable pub getString : Reply Place
-  getString = readAs (λ p. if isUtf8 (bytesAt bodies p) then some p else none) (getBytes contents bodies name class)
+  abbrev pub getString : Reply Place
+  getString = getStringWithin shell contents bodies name class
 
-  unfoldable pub getBool : Reply Bool
-  getBool = readAs (λ p. toBool (bytesAt bodies p)) getString
+  abbrev pub getBool : Reply Bool
+  getBool = getBoolWithin shell contents bodies name class
 
-  unfoldable pub getValue : Reply Number
-  getValue = readAs (λ p. some (numberOf (i64Of (bytesAt bodies p)))) getString
+  abbrev pub getValue : Reply Number
+  getValue = getValueWithin shell contents bodies name class
 
-  unfoldable pub shown : List ℕ → List ℕ
-  shown default = bytesOr bodies default (getBytes contents bodies name class)
+  abbrev pub shown : List ℕ → List ℕ
+  shown default = shownWithin shell contents bodies name class default

@@ -2,63 +2,56 @@
 use mathlib.Core.Bool.{true}
 use mathlib.Core.List.{List, [], _∷_, _++_, append-assoc, append-nil}
 use mathlib.Core.Path.{_≡_, refl, sym, ap, _∙_}
-use Prim.Native.Nat.{ℕ, suc, _+_, _-_, _≤_, _<_}
+use Prim.Native.Nat.{ℕ, suc, _+_, _≤_, _<_}
 use native.Mathlib.Omega.{arith}
 use native.Mathlib.Numerals.{add-one}
-use lib.ListN.{length, getD, take, drop, set, replicate, length-set, length-drop, take-append-drop, drop-of-length-le}
+use lib.ListN.{length, getD, take, drop, set, length-set, length-drop, take-append-drop, drop-of-length-le}
 use lib.Seq.{drop-cons, drop-drop, drop-set-lt, take-suc-set}
-use Rattle.definition.specs.Lists.{takeWhile, zeroes}
+use Rattle.definition.specs.Lists.{takeWhile}
 use Rattle.definition.specs.Limits.{mostParts}
 use Rattle.definition.specs.Text.{Part}
 use Rattle.definition.specs.Image.{keyOf, keyParts}
 use Rattle.laws.proofs.Lists.{Order, below, equal, above, order, all-getD}
 use Rattle.laws.proofs.Keys.{isLegal, Parts}
-use Rattle.key.specs.Keys.{notBinding, noPart, partEnd, endsOf, splitKey}
+use Rattle.key.specs.Keys.{notBinding, noPart, partEnd, endsOf, boundsOver}
 use Rattle.key.proofs.Keys.{part-run, part-rest, part-inside}
 
 -- `count` parts are found, and end at `at`
-pub record Bounding (key bounds : List ℕ) (count at : ℕ) : Type 0 where
+pub record Bounding (key held bounds : List ℕ) (count at : ℕ) : Type 0 where
   pub upto : at ≤ length key
   pub few : count ≤ length (keyParts key)
   pub size : length bounds ≡ suc mostParts
   pub rest : drop at key ≡ keyOf (drop count (keyParts key))
-  pub bound : 0 ∷ endsOf 0 (keyParts key) ≡ take (suc count) bounds ++ endsOf at (drop count (keyParts key))
-  pub clear : drop (suc count) bounds ≡ zeroes (mostParts - count)
+  pub bound : take 1 held ++ endsOf 0 (keyParts key) ≡ take (suc count) bounds ++ endsOf at (drop count (keyParts key))
+  pub past : drop (suc count) bounds ≡ drop (suc count) held
 
 nothing-written : (ps : List Part) → length (keyOf ps) ≡ 0 → ps ≡ []
 unfolding keyOf
 nothing-written [] e = refl
 nothing-written (p ∷ ps) e = absurd (omega arith)
 
-fewer-zeroes : (xs : List ℕ) (k n : ℕ) → drop k xs ≡ zeroes (suc n) → drop (suc k) xs ≡ zeroes n
-unfolding zeroes
-fewer-zeroes xs k n e = rw (← add-one k, ← drop-drop 1 k xs, e) refl
-
 module _ {key : List ℕ} (K : Parts key (keyParts key)) where
-  pub begun : Bounding key (replicate (suc mostParts) 0) 0 0
-  unfolding zeroes
-  begun = record {
+  pub begun : (held : List ℕ) → length held ≡ suc mostParts → Bounding key held held 0 0
+  begun held z = record {
     upto = omega arith;
     few = omega arith;
-    size = refl;
+    size = z;
     rest = sym (K .written);
     bound = refl;
-    clear = refl;
+    past = refl;
   }
 
-  module _ {bounds : List ℕ} {count at : ℕ} (S : Bounding key bounds count at) where
+  module _ {held bounds : List ℕ} {count at : ℕ} (S : Bounding key held bounds count at) where
     left : length (drop at key) ≡ length (keyOf (drop count (keyParts key)))
     left = ap length (S .rest)
 
-    pub ended : length key ≤ at → record { bounds = bounds; count = count } ≡ splitKey key
-    unfolding splitKey endsOf
+    pub ended : length key ≤ at → (count ≡ length (keyParts key)) × (bounds ≡ boundsOver key held)
+    unfolding boundsOver endsOf
     ended h =
         let e = nothing-written (drop count (keyParts key)) (sym left ∙ length-drop at key ∙ (omega arith)) in
         let z : count ≡ length (keyParts key) = omega (arith, sym (length-drop count (keyParts key)) ∙ ap length e, S .few) in
-        let b : 0 ∷ endsOf 0 (keyParts key) ≡ take (suc count) bounds = S .bound ∙ rw e (append-nil (take (suc count) bounds)) in
-        let f : bounds ≡ 0 ∷ endsOf 0 (keyParts key) ++ zeroes (mostParts - length (keyParts key)) =
-        sym (take-append-drop (suc count) bounds) ∙ rw (← b, S .clear, z) refl in
-        λ i. record { bounds = f i; count = z i }
+        let b : take 1 held ++ endsOf 0 (keyParts key) ≡ take (suc count) bounds = S .bound ∙ rw e (append-nil (take (suc count) bounds)) in
+        (z, sym (take-append-drop (suc count) bounds) ∙ rw (← b, S .past, z) refl)
 
     module _ (h : at < length key) where
       pub room : count < length (keyParts key)
@@ -91,21 +84,22 @@ module _ {key : List ℕ} (K : Parts key (keyParts key)) where
       pub next-inside : at + 1 + length (takeWhile notBinding (drop (at + 1) key)) ≤ length key
       next-inside = rw (part-run key at p ps legal rest) (part-inside key at p ps legal rest)
 
+      rest-past : drop (suc (suc count)) bounds ≡ drop (suc (suc count)) held
+      rest-past = rw (← add-one (suc count), ← drop-drop 1 (suc count) bounds, S .past, drop-drop 1 (suc count) held) refl
+
       -- one more part, up to e
-      more-at : (e : ℕ) → e ≡ partEnd at p → Bounding key (set bounds (count + 1) e) (count + 1) e
+      more-at : (e : ℕ) → e ≡ partEnd at p → Bounding key held (set bounds (count + 1) e) (count + 1) e
       unfolding endsOf
       more-at e z =
           let long : suc count < length bounds = omega (arith, room, K .few, S .size) in
-          let f : mostParts - count ≡ suc (mostParts - suc count) = omega (arith, room, K .few) in
           rw add-one record {
             upto = rw z (part-inside key at p ps legal rest);
             few = omega (arith, room);
             size = length-set bounds (suc count) e ∙ S .size;
             rest = rw z (part-rest key at p ps legal rest);
             bound = S .bound ∙ rw (parts, take-suc-set bounds (suc count) e long, ← z) (sym (append-assoc (take (suc count) bounds) (e ∷ []) (endsOf e ps)));
-            clear = drop-set-lt (suc (suc count)) bounds (suc count) e (omega arith)
-                ∙ fewer-zeroes bounds (suc count) (mostParts - suc count) (S .clear ∙ ap zeroes f);
+            past = drop-set-lt (suc (suc count)) bounds (suc count) e (omega arith) ∙ rest-past;
           }
 
-      pub more : (e : ℕ) → e ≡ at + 1 + length (takeWhile notBinding (drop (at + 1) key)) → Bounding key (set bounds (count + 1) e) (count + 1) e
+      pub more : (e : ℕ) → e ≡ at + 1 + length (takeWhile notBinding (drop (at + 1) key)) → Bounding key held (set bounds (count + 1) e) (count + 1) e
       more e z = more-at e (z ∙ ap (λ (t : List ℕ). at + 1 + length t) (part-run key at p ps legal rest))

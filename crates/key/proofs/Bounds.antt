@@ -1,19 +1,17 @@
 -- What a split key gives a match: the key's parts stand between its bounds. Assumes nothing.
 use mathlib.Core.Bool.{true}
 use mathlib.Core.List.{List, [], _∷_, _++_}
-use mathlib.Core.Path.{_≡_, refl, sym, ap, subst}
+use mathlib.Core.Path.{_≡_, refl, sym, ap, _∙_}
 use Prim.Native.Nat.{ℕ, zero, suc, _+_, _-_, _≤_, _<_}
 use native.Mathlib.Omega.{arith}
 use native.Mathlib.Numerals.{add-one}
-use lib.ListN.{length, getD, drop, List·getD-append}
-use Rattle.definition.specs.Lists.{all, zeroes}
-use Rattle.definition.specs.Limits.{mostParts}
+use lib.ListN.{length, getD, take, drop, List·getD-append}
+use Rattle.definition.specs.Lists.{all}
 use Rattle.definition.specs.Text.{Part}
 use Rattle.definition.specs.Image.{keyOf, keyParts, isKey}
 use Rattle.laws.proofs.Lists.{and-true}
 use Rattle.laws.proofs.Keys.{isLegal, parts-of}
-use Rattle.key.specs.Keys.{partBetween, noPart, partEnd, endsOf, splitKey, Bounded}
-use Rattle.key.specs.declared.Key.{Key}
+use Rattle.key.specs.Keys.{partBetween, noPart, partEnd, endsOf, boundsOver, Bounded}
 use Rattle.key.proofs.Keys.{some-part, part-some, part-rest, part-inside, part-is}
 
 -- the parts ps stand between the bounds bs
@@ -54,22 +52,23 @@ between key at (p ∷ ps) l e h =
         inside zero k = h
         inside (suc i) k = B .inside i (omega arith)
 
-bounded-parts : (key : List ℕ) → isKey key ≡ true → Bounded key (splitKey key)
-unfolding splitKey
-bounded-parts key h =
+-- of bounds of which the first was 0
+pub bounded : (key held bounds : List ℕ) (count : ℕ) → isKey key ≡ true → take 1 held ≡ 0 ∷ [] → count ≡ length (keyParts key) → bounds ≡ boundsOver key held
+    → Bounded key bounds count
+unfolding boundsOver
+bounded key held bounds count h z n e =
     let K = parts-of key h in
     let ps = keyParts key in
     let B = between key 0 ps (K .legal) (sym (K .written)) (omega arith) in
-    let same : (i : ℕ) → i ≤ length ps → getD (0 ∷ endsOf 0 ps ++ zeroes (mostParts - length ps)) i 0 ≡ getD (0 ∷ endsOf 0 ps) i 0 =
-    λ i k. List·getD-append (0 ∷ endsOf 0 ps) (zeroes (mostParts - length ps)) 0 i (omega (arith, length-ends 0 ps)) in
+    let f : bounds ≡ (0 ∷ endsOf 0 ps) ++ drop (suc (length ps)) held = e ∙ rw z refl in
+    let same : (i : ℕ) → i ≤ length ps → getD bounds i 0 ≡ getD (0 ∷ endsOf 0 ps) i 0 =
+    λ i k. ap (λ (l : List ℕ). getD l i 0) f ∙ List·getD-append (0 ∷ endsOf 0 ps) (drop (suc (length ps)) held) 0 i (omega (arith, length-ends 0 ps)) in
     record {
-      count = refl;
-      few = K .few;
-      some = some-part key K;
-      part = λ i k. rw (add-one, same i (omega arith), same (suc i) (omega arith)) (B .part i k);
-      rises = λ i k. rw (add-one i, same i (omega arith), same (suc i) (omega arith)) (B .rises i k);
-      inside = λ i k. rw (same i k) (B .inside i k);
+      counted = n;
+      few = omega (arith, K .few);
+      some = omega (arith, some-part key K);
+      first = same 0 (omega arith);
+      part = λ i k. rw (add-one, same i (omega arith), same (suc i) (omega arith)) (B .part i (omega arith));
+      rises = λ i k. rw (add-one i, same i (omega arith), same (suc i) (omega arith)) (B .rises i (omega arith));
+      inside = λ i k. rw (same i (omega arith)) (B .inside i (omega arith));
     }
-
-pub bounded : (key : List ℕ) (k : Key) → isKey key ≡ true → k ≡ splitKey key → Bounded key k
-bounded key k h e = subst (Bounded key) (sym e) (bounded-parts key h)

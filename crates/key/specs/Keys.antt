@@ -1,16 +1,15 @@
 -- What a split key is, and what its bounds stand for.
 use mathlib.Core.Bool.{Bool, not}
 use mathlib.Core.List.{List, [], _∷_, _++_}
-use Prim.Native.Nat.{ℕ, _+_, _-_, _≤_, _<_}
+use Prim.Native.Nat.{ℕ, suc, _+_, _-_, _≤_, _<_}
 use mathlib.Core.Path.{_≡_}
 use lib.Dec.{eqb}
 use lib.ListN.{length, getD, take, drop}
-use Rattle.definition.specs.Lists.{if_then_else_, zeroes}
+use Rattle.definition.specs.Lists.{if_then_else_}
 use Rattle.definition.specs.Limits.{mostParts}
 use Rattle.definition.specs.Bytes.{question, isBinding}
 use Rattle.definition.specs.Text.{tight, Component, wildcard, name, Part, bindingOf}
 use Rattle.definition.specs.Image.{componentBytes, keyParts}
-use Rattle.key.specs.declared.Key.{Key}
 
 unfoldable pub notBinding : ℕ → Bool
 notBinding c = not (isBinding c)
@@ -26,12 +25,9 @@ unfoldable pub endsOf : ℕ → List Part → List ℕ
 endsOf at [] = []
 endsOf at (p ∷ ps) = partEnd at p ∷ endsOf (partEnd at p) ps
 
--- a key's bounds: 0, where each part ends, and 0 up to the most
-unfoldable pub splitKey : List ℕ → Key
-splitKey key = record {
-  bounds = 0 ∷ endsOf 0 (keyParts key) ++ zeroes (mostParts - length (keyParts key));
-  count = length (keyParts key);
-}
+-- a key's bounds in the place of those held: where each part ends, after the first
+unfoldable pub boundsOver : List ℕ → List ℕ → List ℕ
+boundsOver key held = (take 1 held ++ endsOf 0 (keyParts key)) ++ drop (suc (length (keyParts key))) held
 
 -- ---- What stands between two bounds
 
@@ -45,11 +41,12 @@ partBetween key b e = record { binding = bindingOf (getD key b 0 ∷ []); compon
 abbrev pub noPart : Part
 noPart = record { binding = tight; component = wildcard }
 
--- the key's parts stand between the bounds
-pub record Bounded (key : List ℕ) (k : Key) : Type 0 where
-  pub count : k .count ≡ length (keyParts key)
-  pub few : k .count ≤ mostParts
-  pub some : 0 < k .count
-  pub part : (i : ℕ) → i < k .count → getD (keyParts key) i noPart ≡ partBetween key (getD (k .bounds) i 0) (getD (k .bounds) (i + 1) 0)
-  pub rises : (i : ℕ) → i < k .count → getD (k .bounds) i 0 + 1 < getD (k .bounds) (i + 1) 0
-  pub inside : (i : ℕ) → i ≤ k .count → getD (k .bounds) i 0 ≤ length key
+-- the key's parts, so many, stand between the bounds
+pub record Bounded (key bounds : List ℕ) (count : ℕ) : Type 0 where
+  pub counted : count ≡ length (keyParts key)
+  pub few : count ≤ mostParts
+  pub some : 0 < count
+  pub first : getD bounds 0 0 ≡ 0
+  pub part : (i : ℕ) → i < count → getD (keyParts key) i noPart ≡ partBetween key (getD bounds i 0) (getD bounds (i + 1) 0)
+  pub rises : (i : ℕ) → i < count → getD bounds i 0 + 1 < getD bounds (i + 1) 0
+  pub inside : (i : ℕ) → i ≤ count → getD bounds i 0 ≤ length key

@@ -1,7 +1,7 @@
 -- A key's last part is a name, stands at the key's end, and must meet the last position. Assumes nothing.
 use mathlib.Core.Bool.{Bool, true, false, _&&_, _||_}
 use mathlib.Core.List.{List, [], _∷_, _++_, append-assoc, append-nil}
-use mathlib.Core.Option.{Option, some, none}
+use mathlib.Core.Option.{none}
 use mathlib.Core.Path.{_≡_, refl, sym, ap, _∙_}
 use Prim.Native.Nat.{ℕ, suc, _+_, _-_, _≤_, _<_, max}
 use native.Mathlib.Omega.{arith}
@@ -17,15 +17,14 @@ use Rattle.definition.specs.Query.{Position}
 use Rattle.definition.specs.Matching.{equals, matchAt, markAt}
 use Rattle.definition.specs.Ranking.{rankOf}
 use Rattle.definition.specs.Image.{bindingByte, keyOf, keyParts, isKey}
-use Rattle.query.specs.declared.Split.{Split}
 use Rattle.laws.proofs.Lists.{not-both, same-eq, same-refl, same-from-equal, same-from-end}
 use Rattle.laws.proofs.Keys.{parts-of}
 use Rattle.key.proofs.Keys.{some-part}
-use Rattle.positions.specs.Spans.{spanOf, positionIn, queried}
-use Rattle.positions.specs.declared.Span.{Span}
+use Rattle.query.specs.Splits.{Inside}
+use Rattle.positions.specs.Parts.{partAt, partOf, positionOf, queried}
 use Rattle.laws.proofs.Ranks.{rank-last, rank-short}
 use Rattle.positions.proofs.Positions.{length-queried, queried-ends}
-use Rattle.key_end.specs.Ends.{endsIn, endsAt, mayMatch}
+use Rattle.key_end.specs.Ends.{endsIn, mayMatch}
 
 -- ---- What the code compares, from the last byte on
 
@@ -126,45 +125,46 @@ key-ends key front b n e =
 
 -- ---- No match at the end
 
-module _ (key : List ℕ) (h : isKey key ≡ true) where
+module _ (key : List ℕ) (h : isKey key ≡ true) (n c : List ℕ) (f : mayMatch key n c ≡ false) where
+  misses : (x : List ℕ) → endsIn key x ≡ true → (t : List ℕ) → endsIn key t ≡ false → equals x (partOf t) ≡ false
+  misses x e [] g = unfold equals partOf in refl
+  misses x e (b ∷ t) g = unfold equals partOf in at (same x (b ∷ t)) refl
+    where
+      at : (s : Bool) → same x (b ∷ t) ≡ s → s ≡ false
+      at true s = absurd (not-both e (ap (endsIn key) (same-eq x (b ∷ t) s) ∙ g))
+      at false s = refl
+
+  neither : (endsIn key n ≡ false) × (endsIn key c ≡ false)
+  neither = at (endsIn key n) (endsIn key c) (unfold mayMatch in f)
+    where
+      at : (a b : Bool) → (a || b) ≡ false → (a ≡ false) × (b ≡ false)
+      at true b e = absurd (not-both refl e)
+      at false b e = (refl, e)
+
+  unmatched : (b : Binding) (x : List ℕ) → endsIn key x ≡ true → markAt (record { binding = b; component = name x }) (positionOf n c) ≡ none
+  unmatched b x e = unfold markAt matchAt in rw (misses x e n (neither .0), misses x e c (neither .1)) refl
+
   -- a position that the key's last part does not meet
-  pub may-not : (q : Position) (qs : List Position) → mayMatch key q ≡ false → rankOf (keyParts key) (qs ++ (q ∷ [])) ≡ none
-  may-not q qs f =
+  pub may-not : (qs : List Position) → rankOf (keyParts key) (qs ++ (positionOf n c ∷ [])) ≡ none
+  may-not qs =
       let K = parts-of key h in
       let E = ending (keyParts key) (K .named) in
       let p : Part = record { binding = E .binding; component = name (E .last) } in
       let e = key-ends key (keyOf (E .front)) (E .binding) (E .last) (sym (K .written) ∙ E .bytes) in
-      ap (λ (l : List Part). rankOf l (qs ++ (q ∷ []))) (E .parts) ∙ rank-last (E .front) p qs q (unmatched (E .binding) (E .last) e)
-    where
-      misses : (n : List ℕ) → endsIn key n ≡ true → (o : Option (List ℕ)) → endsAt key o ≡ false → equals n o ≡ false
-      misses n e none g = unfold equals in refl
-      misses n e (some t) g = unfold equals in at (same n t) refl
-        where
-          at : (b : Bool) → same n t ≡ b → b ≡ false
-          at true s = absurd (not-both e (ap (endsIn key) (same-eq n t s) ∙ (unfold endsAt in g)))
-          at false s = refl
+      ap (λ (l : List Part). rankOf l (qs ++ (positionOf n c ∷ []))) (E .parts) ∙ rank-last (E .front) p qs (positionOf n c) (unmatched (E .binding) (E .last) e)
 
-      both : (endsAt key (q .instance) ≡ false) × (endsAt key (q .class) ≡ false)
-      both = at (endsAt key (q .instance)) (endsAt key (q .class)) (unfold mayMatch in f)
-        where
-          at : (a b : Bool) → (a || b) ≡ false → (a ≡ false) × (b ≡ false)
-          at true b e = absurd (not-both refl e)
-          at false b e = (refl, e)
+  -- of the last position's parts
+  module _ (t ns nl u cs cl : List ℕ) (I : Inside t ns nl) (J : Inside u cs cl) where
+    abbrev end : ℕ
+    end = max (length ns) (length cs) - 1
 
-      unmatched : (b : Binding) (n : List ℕ) → endsIn key n ≡ true → markAt (record { binding = b; component = name n }) q ≡ none
-      unmatched b n e = unfold markAt matchAt in rw (misses n e (q .instance) (both .0), misses n e (q .class) (both .1)) refl
-
-  -- what the code asks of the last position's spans
-  pub refused : (t : List ℕ) (n : Span) (u : List ℕ) (c : Span) → mayMatch key (positionIn t n u c) ≡ false
-      → (names classes : Split) → n ≡ spanOf names (max (names .count) (classes .count) - 1) → c ≡ spanOf classes (max (names .count) (classes .count) - 1)
-      → rankOf (keyParts key) (queried t names u classes) ≡ none
-  refused t n u c f names classes d e = at (decLt 0 (max (names .count) (classes .count)))
-    where
-      at : Dec (0 < max (names .count) (classes .count)) → rankOf (keyParts key) (queried t names u classes) ≡ none
-      at (yes z) =
-          let k : max (names .count) (classes .count) - 1 + 1 ≡ max (names .count) (classes .count) = omega arith in
-          ap (rankOf (keyParts key)) (queried-ends t names u classes (max (names .count) (classes .count) - 1) k n c d e)
-          ∙ may-not (positionIn t n u c) (take (max (names .count) (classes .count) - 1) (queried t names u classes)) f
-      at (no z) =
-          rank-short (keyParts key) (queried t names u classes)
-          (omega (arith, length-queried t names u classes, some-part key (parts-of key h)))
+    pub refused : n ≡ partAt t ns nl end → c ≡ partAt u cs cl end → rankOf (keyParts key) (queried t ns nl u cs cl) ≡ none
+    refused d e = at (decLt 0 (max (length ns) (length cs)))
+      where
+        at : Dec (0 < max (length ns) (length cs)) → rankOf (keyParts key) (queried t ns nl u cs cl) ≡ none
+        at (yes z) =
+            let k : end + 1 ≡ max (length ns) (length cs) = omega arith in
+            ap (rankOf (keyParts key)) (queried-ends t ns nl u cs cl I J end k n c d e) ∙ may-not (take end (queried t ns nl u cs cl))
+        at (no z) =
+            rank-short (keyParts key) (queried t ns nl u cs cl)
+            (omega (arith, length-queried t ns nl u cs cl, some-part key (parts-of key h)))

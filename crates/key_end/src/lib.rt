@@ -1,8 +1,6 @@
 // Whether a key may match a query at all, told from its end.
 ghost use mathlib.Core.Path.{_≡_};
-ghost use Rattle.positions.specs.Spans.{spanned, Within, positionIn};
-ghost use Rattle.key_end.specs.Ends.{endsIn, endsAt, mayMatch};
-use positions::Span;
+ghost use Rattle.key_end.specs.Ends.{endsIn, mayMatch};
 
 // Does the key end in a binding and the name, from the last byte on?
 fn ends_in(key: &[u8], name: &[u8]) -> bool
@@ -27,26 +25,13 @@ fn ends_in(key: &[u8], name: &[u8]) -> bool
     b == b'*'
 }
 
-// Does the key end in the query's part in a span? A missing part equals nothing.
-fn ends_at(key: &[u8], text: &[u8], p: Span) -> bool
-    requires { ⌜ Within (now text) p ⌝ }
-    ensures { λ r. ⌜ r ≡ endsAt (now (key .entry)) (spanned (now (text .entry)) p) ⌝ }
+// May the key match, where name and class end in those parts? Its last part is a name and must meet the last position. This refuses most keys
+// before they are split.
+pub fn may_match(key: &[u8], n: &[u8], c: &[u8]) -> bool
+    ensures { λ r. ⌜ r ≡ mayMatch (now (key .entry)) (now (n .entry)) (now (c .entry)) ⌝ }
 {
-    if p.here {
-        let start = p.start;
-        let end = p.end;
-        return ends_in(key, &text[start..end]);
-    }
-    false
-}
-
-// May the key match? Its last part is a name and must meet the last position. This refuses most keys before they are split.
-pub fn may_match(key: &[u8], name: &[u8], n: Span, class: &[u8], c: Span) -> bool
-    requires { ⌜ Within (now name) n × Within (now class) c ⌝ }
-    ensures { λ r. ⌜ r ≡ mayMatch (now (key .entry)) (positionIn (now (name .entry)) n (now (class .entry)) c) ⌝ }
-{
-    if ends_at(key, name, n) {
+    if ends_in(key, n) {
         return true;
     }
-    ends_at(key, class, c)
+    ends_in(key, c)
 }

@@ -13,6 +13,7 @@ pub mod Writing
 pub mod Ranking
 pub mod Ranks
 pub mod Lookup
+pub mod Window
 pub mod Walking
 pub mod Adding
 pub mod ThirdTerm

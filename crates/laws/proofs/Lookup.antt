@@ -9,9 +9,9 @@ use Rattle.definition.specs.Lists.{all}
 use Rattle.definition.specs.Limits.{bodyBytes, mostEntries}
 use Rattle.definition.specs.Text.{Entry}
 use Rattle.definition.specs.Image.{storeOf, imageContents, imageBodies, Row, rowsIn, valueAt, entriesIn, tooShort, isImage}
-use Rattle.definition.specs.Query.{Query, positions, malformed, pastLimit, queryOf}
+use Rattle.definition.specs.Query.{Query, positions, malformed, pastLimit, Bounds, queryWithin}
 use Rattle.definition.specs.Ranking.{Best, noEntry, best, bestOf}
-use Rattle.definition.specs.Lookup.{keysOf, valueOf, answerOf, placeOf, lookup, getBytes, answerIn}
+use Rattle.definition.specs.Lookup.{keysOf, valueOf, answerOf, placeOf, lookup, getBytesWithin, answerIn}
 use Rattle.laws.proofs.Image.{isStorable, image-entries, image-is}
 
 -- also past the last row, where both are empty
@@ -34,15 +34,15 @@ lookup-answer contents bodies (positions qs) = best-answer (rowsIn contents) bod
 lookup-answer contents bodies malformed = refl
 lookup-answer contents bodies (pastLimit k) = refl
 
-pub answer-entries : (contents bodies name class : List ℕ) → isImage contents bodies ≡ true
-    → answerIn bodies (getBytes contents bodies name class) ≡ answerOf (entriesIn (rowsIn contents) bodies) (queryOf name class)
-unfolding getBytes
-answer-entries contents bodies name class h = rw h (lookup-answer contents bodies (queryOf name class))
+pub answer-entries : (most : Bounds) (contents bodies name class : List ℕ) → isImage contents bodies ≡ true
+    → answerIn bodies (getBytesWithin most contents bodies name class) ≡ answerOf (entriesIn (rowsIn contents) bodies) (queryWithin most name class)
+unfolding getBytesWithin
+answer-entries most contents bodies name class h = rw h (lookup-answer contents bodies (queryWithin most name class))
 
 module _ (es : List Entry) (lentC lentB : List ℕ) (fit : all isStorable es ≡ true) (few : length es ≤ mostEntries)
     (small : length (storeOf es) ≤ bodyBytes) (long : tooShort lentC lentB ≡ false) where
-  pub answer-image : (name class : List ℕ)
-      → answerIn (imageBodies es lentB) (getBytes (imageContents es lentC) (imageBodies es lentB) name class) ≡ answerOf es (queryOf name class)
-  answer-image name class =
-      answer-entries (imageContents es lentC) (imageBodies es lentB) name class (image-is es lentC lentB fit few small long)
-      ∙ ap (λ (xs : List Entry). answerOf xs (queryOf name class)) (image-entries es lentC lentB fit few small long)
+  pub answer-image : (most : Bounds) (name class : List ℕ)
+      → answerIn (imageBodies es lentB) (getBytesWithin most (imageContents es lentC) (imageBodies es lentB) name class) ≡ answerOf es (queryWithin most name class)
+  answer-image most name class =
+      answer-entries most (imageContents es lentC) (imageBodies es lentB) name class (image-is es lentC lentB fit few small long)
+      ∙ ap (λ (xs : List Entry). answerOf xs (queryWithin most name class)) (image-entries es lentC lentB fit few small long)

@@ -16,10 +16,10 @@ use Rattle.definition.specs.Including.{Entered, entriesOf}
 use Rattle.definition.specs.Image.{storeOf, rowsIn, entriesIn, imageContents, imageBodies, isImage}
 use Rattle.definition.specs.Reading.{accepted, outcome, reading, readEntries, plain, met, start}
 use Rattle.definition.specs.Writing.{entriesOfImage}
-use Rattle.definition.specs.Query.{Position, Query, positions, malformed, pastLimit, queryOf}
+use Rattle.definition.specs.Query.{Position, Query, positions, malformed, pastLimit, Bounds, queryWithin}
 use Rattle.definition.specs.Matching.{Aligned, Beats}
 use Rattle.definition.specs.Ranking.{Best, noEntry, best, bestOf}
-use Rattle.definition.specs.Lookup.{keysOf, valueOf, answerOf, refused, placeOf, lookup, getBytes, answerIn}
+use Rattle.definition.specs.Lookup.{keysOf, valueOf, answerOf, refused, placeOf, lookup, getBytesWithin, answerIn}
 use Rattle.definition.specs.ThirdTerm.{cameThrough, leftWithout, entryNumber, NoneThroughBeats, SameBytesWithout, Case, query, fileName, Given, ThirdTerm}
 use Rattle.laws.proofs.Lists.{not-both, and-true, and-both}
 use Rattle.laws.proofs.Archive.{laidOut-says, files-struck, struck-laidOut, removed-gone, removed-other}
@@ -176,21 +176,21 @@ module _ (texts : List (List ℕ)) (archive contents bodies : List ℕ) (r : Rea
   pub reading-entries : entriesIn (rowsIn (reading texts archive contents bodies .contents)) (reading texts archive contents bodies .bodies) ≡ es
   reading-entries = rw (reads-outcome texts archive contents bodies r) (image-entries es contents bodies storable few small (r .long))
 
-  pub reading-answers : (name class : List ℕ)
+  pub reading-answers : (most : Bounds) (name class : List ℕ)
       → answerIn (reading texts archive contents bodies .bodies)
-      (getBytes (reading texts archive contents bodies .contents) (reading texts archive contents bodies .bodies) name class)
-      ≡ answerOf es (queryOf name class)
-  reading-answers name class =
+      (getBytesWithin most (reading texts archive contents bodies .contents) (reading texts archive contents bodies .bodies) name class)
+      ≡ answerOf es (queryWithin most name class)
+  reading-answers most name class =
       rw (reads-outcome texts archive contents bodies r)
-      (answer-image es contents bodies storable few small (r .long) name class)
+      (answer-image es contents bodies storable few small (r .long) most name class)
 
   -- and the lookup is not refused
-  pub reading-replies : (name class : List ℕ) → ((k : ℕ) → queryOf name class ≡ pastLimit k → ⊥)
-      → (k : ℕ) → getBytes (reading texts archive contents bodies .contents) (reading texts archive contents bodies .bodies) name class ≡ refused k → ⊥
-  unfolding getBytes
-  reading-replies name class limits k =
+  pub reading-replies : (most : Bounds) (name class : List ℕ) → ((k : ℕ) → queryWithin most name class ≡ pastLimit k → ⊥)
+      → (k : ℕ) → getBytesWithin most (reading texts archive contents bodies .contents) (reading texts archive contents bodies .bodies) name class ≡ refused k → ⊥
+  unfolding getBytesWithin
+  reading-replies most name class limits k =
       rw (reads-outcome texts archive contents bodies r, image-is es contents bodies storable few small (r .long))
-      (replies (imageContents es contents) (imageBodies es bodies) (queryOf name class) limits k)
+      (replies (imageContents es contents) (imageBodies es bodies) (queryWithin most name class) limits k)
 
 -- an accepted reading, by what its call leaves
 pub read-holds : (texts : List (List ℕ)) (archive contents bodies c b : List ℕ) (n o : ℕ) → outcome (accepted n o) c b ≡ reading texts archive contents bodies
@@ -231,12 +231,12 @@ module _ (c : Case) (g : Given c) where
 
   pub third-term : ThirdTerm c
   third-term =
-      let a = reading-answers (c .texts) (c .archive) (c .contents) (c .bodies) first (c .name) (c .class) in
-      let b = reading-answers (c .texts) struck (c .contents′) (c .bodies′) second (c .name) (c .class) in
+      let a = reading-answers (c .texts) (c .archive) (c .contents) (c .bodies) first (c .bounds) (c .name) (c .class) in
+      let b = reading-answers (c .texts) struck (c .contents′) (c .bodies′) second (c .bounds) (c .name) (c .class) in
       record {
         isReadToo = rw (reads-outcome (c .texts) struck (c .contents′) (c .bodies′) second) refl;
-        firstAnswers = reading-replies (c .texts) (c .archive) (c .contents) (c .bodies) first (c .name) (c .class) (g .withinLimits);
-        secondAnswers = reading-replies (c .texts) struck (c .contents′) (c .bodies′) second (c .name) (c .class) (g .withinLimits);
+        firstAnswers = reading-replies (c .texts) (c .archive) (c .contents) (c .bodies) first (c .bounds) (c .name) (c .class) (g .withinLimits);
+        secondAnswers = reading-replies (c .texts) struck (c .contents′) (c .bodies′) second (c .bounds) (c .name) (c .class) (g .withinLimits);
         firstAnswer = a;
         secondAnswer = b;
         equalJustWhen = rw (a, b, entries-struck) (equal-just-when (fileName c) (readEntries (c .texts) (c .archive)) (query c) (g .withinLimits));

@@ -17,7 +17,7 @@ use Rattle.definition.specs.Writing.{entriesOfImage}
 use Rattle.definition.specs.Query.{Position, Query, positions, malformed, pastLimit, queryOf}
 use Rattle.definition.specs.Matching.{Aligned}
 use Rattle.definition.specs.Ranking.{rankOf, Best, noEntry, best, bestOf}
-use Rattle.definition.specs.Lookup.{keysOf, given, noValue, refused, placeOf, lookup, getBytes}
+use Rattle.definition.specs.Lookup.{keysOf, given, noValue, refused, placeOf, lookup, getBytesWithin}
 use Rattle.definition.specs.Walking.{
   hasRow,
   aligns,
@@ -291,7 +291,7 @@ step-small contents bodies name class w i h =
     omega (arith, s .2, image-held contents bodies (s .3) .few)
 
 pub refused-alike : RefusedAlike
-unfolding walkStart begun walkStep stepped numberOr getBytes lookup placeOf refusalIn
+unfolding walkStart begun walkStep stepped numberOr getBytesWithin lookup placeOf refusalIn
 refused-alike contents bodies name class w = at (isImage contents bodies) (queryOf name class)
   where
     numbered : (o : Option ℕ) → refusalIn (numberOr o) ≡ none

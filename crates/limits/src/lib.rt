@@ -35,3 +35,8 @@ pub const WRITTEN_BYTES: usize = 2 * BODY_BYTES + MOST_ENTRIES;
 pub const QUERY_BYTES: usize = 1024;
 
 pub const QUERY_PARTS: usize = 32;
+
+// Of one that the dictionary window asks: document 02 (vi).
+pub const WINDOW_BYTES: usize = 128;
+
+pub const WINDOW_PARTS: usize = 8;

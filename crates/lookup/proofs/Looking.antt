@@ -1,38 +1,43 @@
 -- The loop over the entries, and the tests before it. Assumes nothing.
-use mathlib.Core.Bool.{Bool, true, false, not}
+use mathlib.Core.Bool.{Bool, true, false, _&&_, not}
 use mathlib.Core.List.{List, [], _∷_}
-use mathlib.Core.Option.{Option, none}
+use mathlib.Core.Option.{Option, some, none}
 use mathlib.Core.Path.{_≡_, refl, sym, ap, _∙_}
-use Prim.Native.Nat.{ℕ, suc, _+_, _-_, _≤_, _<_, max}
+use Prim.Native.Nat.{ℕ, zero, suc, _+_, _-_, _≤_, _<_, min, max}
 use native.Mathlib.Numerals.{add-one}
 use native.Mathlib.Nat.{sub-zero}
 use native.Mathlib.Omega.{arith}
-use lib.ListN.{length, getD, take}
-use Rattle.definition.specs.Lists.{if_then_else_}
+use lib.ListN.{length, getD, take, drop, length-take}
+use borrow.Author.Tests.{lt-ltb, le-ltb}
+use Rattle.definition.specs.Lists.{if_then_else_, lower}
 use Rattle.definition.specs.Limits.{bodyBytes}
 use Rattle.definition.specs.Text.{Part}
 use Rattle.definition.specs.Image as image
 use Rattle.definition.specs.Image.{rowsFrom, rowsIn, countOf, keyEnd, valueEnd, keyAt, keyParts, entriesIn, isImage}
-use Rattle.definition.specs.Query.{Position, Query, positions, malformed, pastLimit, positionsOf, queryOf}
+use Rattle.definition.specs.Query.{Position, Query, positions, malformed, pastLimit, Bounds, queryWithin}
 use Rattle.definition.specs.Ranking.{Best, noEntry, best, rankOf, better, bestFrom, bestOf}
-use Rattle.definition.specs.Lookup.{keysOf, Reply, given, noValue, refused, Place, placeOf, lookup, getBytes}
-use Rattle.query.specs.Splits.{namesIn}
-use Rattle.query.specs.Shapes.{parsedNames, bothShapes, shaped}
-use Rattle.query.specs.declared.Names.{Names}
-use Rattle.query.specs.declared.Split.{Split}
-use Rattle.query.specs.declared.Shape.{Shape}
-use Rattle.query.proofs.Queries.{query-is}
+use Rattle.definition.specs.Lookup.{keysOf, Reply, given, noValue, refused, Place, placeOf, lookup, getBytesWithin}
 use Rattle.laws.proofs.Image.{count-rows}
 use Rattle.laws.proofs.Ranking.{best-beats}
-use Rattle.marks.specs.Rows.{marksOf, bestIn, winsOver}
-use Rattle.positions.specs.Spans.{queried}
+use Rattle.query.specs.Splits.{Inside}
+use Rattle.query.specs.Shapes.{bothShapes, shaped, splitNames}
+use Rattle.query.specs.declared.Names.{Names}
+use Rattle.query.specs.declared.Shape.{Shape}
+use Rattle.query.specs.declared.Shape.the-variants.{Good, Malformed, Many, Long}
+use Rattle.query.proofs.Queries.{Told, query-is, counted-shell}
+use Rattle.marks.specs.Rows.{marksOf, isLive, marksIn, rowIn, bestIn, Long as RowLong, Stands, Held, winsOver}
+use Rattle.positions.specs.Parts.{queried}
 use Rattle.marks.specs.declared.Marks.{Marks}
-use Rattle.marks.proofs.Rows.{Long, rank-long, stands-row, wins-better}
+use Rattle.marks.proofs.Rows.{rank-long, none-stands, stands-own, wins-better}
 use Rattle.positions.proofs.Positions.{length-queried}
 use Rattle.image.specs.Rows.{rowAt, rowsLeft, RowIs}
 use Rattle.image.specs.declared.Row.{Row}
 use Rattle.image.proofs.Rows.{rows-turn, row-is}
 use Rattle.image_judge.proofs.Judged.{judged}
+use Rattle.lookup.specs.Replies.{replied, LiesIn}
+use Rattle.lookup.specs.Searches.{startsOf, lengthsOf, SplitIn, isEntry, searched, numbered, searchedIn, numberOr, entryFound, entryIn, entryWithin, valueIn}
+use Rattle.lookup.specs.declared.Lookup.{Lookup}
+use Rattle.lookup.specs.declared.Lookup.the-variants.{Found, Nothing, Refused}
 
 -- ---- One entry
 
@@ -42,100 +47,258 @@ module _ (len i at : ℕ) (b : Marks) (o : Option (List ℕ)) where
   passed-over e = rw e refl
 
   -- the row of that rank, as the code holds it, against the best so far
-  module _ (r : Marks) (row : r ≡ marksOf o) (long : Long len o) (n : ℕ) (z : n ≡ len) (w : Bool) (won : w ≡ winsOver n r b) where
+  module _ (held : Held len b) (r : Marks) (row : r ≡ marksOf o) (long : RowLong len o) (w : Bool) (won : w ≡ winsOver r b) where
+    stands : Stands len r o
+    stands = record { is = row; long = long }
+
     decided : better i o (bestIn len at b) ≡ (if w then bestIn len i r else bestIn len at b)
-    decided = ap (λ (x : Option (List ℕ)). better i x (bestIn len at b)) (sym (stands-row len r o (record { is = row; long = long }))) ∙ rw (won, z) (wins-better len i at r b)
+    decided = rw won (wins-better len i at r b o (rowIn len b) stands held)
 
-    pub takes-over : w ≡ true → bestIn len i r ≡ better i o (bestIn len at b)
-    takes-over e = sym (decided ∙ rw e refl)
+    pub takes-over : w ≡ true → (bestIn len i r ≡ better i o (bestIn len at b)) × Held len r
+    takes-over e = (sym (decided ∙ rw e refl), stands-own len r o stands)
 
-    pub stays : w ≡ false → bestIn len at b ≡ better i o (bestIn len at b)
-    stays e = sym (decided ∙ rw e refl)
+    pub stays : w ≡ false → (bestIn len at b ≡ better i o (bestIn len at b)) × Held len b
+    stays e = (sym (decided ∙ rw e refl), held)
 
-pub queried-long : (ps : List Part) (t : List ℕ) (s : Split) (u : List ℕ) (c : Split) → Long (max (s .count) (c .count)) (rankOf ps (queried t s u c))
-queried-long ps t s u c = rw (length-queried t s u c) at (rank-long ps (queried t s u c))
+pub none-held : (len : ℕ) (r : Marks) → r ≡ marksOf none → Held len r
+none-held len r e = rw e (stands-own len (marksOf none) none (none-stands len))
+
+pub queried-long : (ps : List Part) (t ns nl u cs cl : List ℕ) → RowLong (max (length ns) (length cs)) (rankOf ps (queried t ns nl u cs cl))
+queried-long ps t ns nl u cs cl = rw (length-queried t ns nl u cs cl) at (rank-long ps (queried t ns nl u cs cl))
 
 -- ---- The loop
 
-module _ (contents bodies : List ℕ) (qs : List Position) where
+and-false : (b : Bool) → (b && false) ≡ false
+and-false true = refl
+and-false false = refl
+
+module _ (contents bodies : List ℕ) (qs : List Position) (first : Bool) (next last : ℕ) where
+  abbrev keysLeft : ℕ → List (List Part)
+  keysLeft i = keysOf (entriesIn (rowsLeft contents last i) bodies)
+
+  -- going on from entry i with the best so far comes to what is looked for
+  pub record Searching (i : ℕ) (b : Best) : Type 0 where
+    pub same : searched first (keysLeft i) qs i b ≡ searched first (keysLeft next) qs next noEntry
+    pub unended : (first && isEntry b) ≡ false
+
+  pub searching-first : (len at : ℕ) (r : Marks) → r ≡ marksOf none → Searching next (bestIn len at r)
+  unfolding bestIn marksOf isEntry
+  searching-first len at r e = rw e (record { same = refl; unended = and-false first })
+
+  module _ (i : ℕ) (b b′ : Best) (s : Searching i b) (h : i < last) (e : b′ ≡ better i (rankOf (keyParts (keyAt bodies (rowAt contents i))) qs) b) where
+    turn : searched first (keysLeft i) qs i b ≡ (if first && isEntry b′ then b′ else searched first (keysLeft (i + 1)) qs (i + 1) b′)
+    unfolding searched entriesIn
+    turn = rw (rows-turn contents last i h, ← add-one i, e) refl
+
+    pub searching-more : (first && isEntry b′) ≡ false → Searching (i + 1) b′
+    searching-more f = record { same = sym (sym (s .same) ∙ turn ∙ rw f refl); unended = f }
+
+    searching-stops : (first && isEntry b′) ≡ true → b′ ≡ searched first (keysLeft next) qs next noEntry
+    searching-stops f = sym (sym (s .same) ∙ turn ∙ rw f refl)
+
+  searching-ends : (i : ℕ) (b : Best) → Searching i b → last ≤ i → b ≡ searched first (keysLeft next) qs next noEntry
+  unfolding searched rowsFrom entriesIn
+  searching-ends i b s h =
+      let e : last - i ≡ 0 = omega arith in
+      sym (sym (s .same) ∙ rw e refl)
+
+-- an entry as the code tells it
+live-entry : (len at : ℕ) (r : Marks) → isEntry (bestIn len at r) ≡ isLive r
+unfolding bestIn isEntry
+live-entry len at r = by (isLive r)
+  where
+    by : (b : Bool) → isEntry (if b then best at (marksIn len r) else noEntry) ≡ b
+    by true = refl
+    by false = refl
+
+number-is : (last len at : ℕ) (r : Marks) → (if isLive r then at else last) ≡ numberOr last (bestIn len at r)
+unfolding bestIn numberOr
+number-is last len at r = by (isLive r)
+  where
+    by : (b : Bool) → (if b then at else last) ≡ numberOr last (if b then best at (marksIn len r) else noEntry)
+    by true = refl
+    by false = refl
+
+module _ (contents bodies : List ℕ) (qs : List Position) (first : Bool) (next last : ℕ) (x len at : ℕ) (r : Marks) (told : x ≡ (if isLive r then at else last)) where
+  pub stops-at : (i : ℕ) (b : Best) → Searching contents bodies qs first next last i b → i < last
+      → bestIn len at r ≡ better i (rankOf (keyParts (keyAt bodies (rowAt contents i))) qs) b
+      → (w : Bool) → w ≡ (first && isLive r) → w ≡ true → x ≡ numberOr last (searchedIn first next last contents bodies qs)
+  stops-at i b s h e w f g =
+      told ∙ number-is last len at r
+      ∙ ap (numberOr last) (searching-stops contents bodies qs first next last i b (bestIn len at r) s h e (rw (live-entry len at r) (sym f ∙ g)))
+
+  pub ends-at : (i : ℕ) → Searching contents bodies qs first next last i (bestIn len at r) → last ≤ i → x ≡ numberOr last (searchedIn first next last contents bodies qs)
+  ends-at i s h = told ∙ number-is last len at r ∙ ap (numberOr last) (searching-ends contents bodies qs first next last i (bestIn len at r) s h)
+
+-- the search goes on: past an entry that has no row, and past one that does not end it
+module _ (contents bodies : List ℕ) (qs : List Position) (first : Bool) (next last i len at : ℕ) (r : Marks) (b : Best)
+    (s : Searching contents bodies qs first next last i b) (h : i < last) where
+  pub passes : b ≡ better i (rankOf (keyParts (keyAt bodies (rowAt contents i))) qs) b → Searching contents bodies qs first next last (i + 1) b
+  passes e = searching-more contents bodies qs first next last i b b s h e (s .unended)
+
+  pub goes-on : bestIn len at r ≡ better i (rankOf (keyParts (keyAt bodies (rowAt contents i))) qs) b → (w : Bool) → w ≡ (first && isLive r) → w ≡ false
+      → Searching contents bodies qs first next last (i + 1) (bestIn len at r)
+  goes-on e w f g = searching-more contents bodies qs first next last i b (bestIn len at r) s h e (rw (live-entry len at r) (sym f ∙ g))
+
+-- ---- What is found stands below `last`
+
+abbrev Below : ℕ → Best → Type 0
+Below last noEntry = Unit {0}
+Below last (best i row) = i < last
+
+better-below : (last i : ℕ) (o : Option (List ℕ)) (b : Best) → i < last → Below last b → Below last (better i o b)
+unfolding better
+better-below last i none b h k = k
+better-below last i (some r) noEntry h k = h
+better-below last i (some r) (best j s) h k = by (lower r s)
+  where
+    by : (t : Bool) → Below last (if t then best j s else best i r)
+    by true = k
+    by false = h
+
+module _ (contents bodies : List ℕ) (qs : List Position) (first : Bool) (last : ℕ) where
+  searched-below : (k i : ℕ) (b : Best) → last - i ≡ k → Below last b → Below last (searched first (keysOf (entriesIn (rowsLeft contents last i) bodies)) qs i b)
+  unfolding searched rowsFrom entriesIn
+  searched-below zero i b e h = rw e h
+  searched-below (suc k) i b e h =
+      let l : i < last = omega arith in
+      rw (rows-turn contents last i l, ← add-one i) (by (first && isEntry new) (searched-below k (i + 1) new (omega arith) below))
+    where
+      new : Best
+      new = better i (rankOf (keyParts (keyAt bodies (rowAt contents i))) qs) b
+
+      below : Below last (better i (rankOf (keyParts (keyAt bodies (rowAt contents i))) qs) b)
+      below = better-below last i (rankOf (keyParts (keyAt bodies (rowAt contents i))) qs) b (omega arith) h
+
+      by : (t : Bool) → Below last (searched first (keysOf (entriesIn (rowsLeft contents last (i + 1)) bodies)) qs (i + 1) new)
+          → Below last (if t then new else searched first (keysOf (entriesIn (rowsLeft contents last (i + 1)) bodies)) qs (i + 1) new)
+      by true k = below
+      by false k = k
+
+found-number : (last : ℕ) (b : Best) → Below last b → entryFound last (numberOr last b) ≡ numbered b
+unfolding entryFound numberOr numbered
+found-number last noEntry h = rw (le-ltb last last (omega arith)) refl
+found-number last (best i row) h = rw (lt-ltb i last h) refl
+
+-- the answer of a search, by its number
+module _ (contents bodies : List ℕ) (qs : List Position) (first : Bool) (next last i : ℕ) (e : i ≡ numberOr last (searchedIn first next last contents bodies qs)) where
+  number-told : entryFound last i ≡ numbered (searchedIn first next last contents bodies qs)
+  number-told = rw e (found-number last _ (searched-below contents bodies qs first last (last - next) next noEntry refl tt))
+
+-- ---- A lookup is a search for the best of all
+
+searched-best : (ks : List (List Part)) (qs : List Position) (i : ℕ) (b : Best) → searched false ks qs i b ≡ bestFrom ks qs i b
+unfolding searched bestFrom
+searched-best [] qs i b = refl
+searched-best (k ∷ ks) qs i b = searched-best ks qs (suc i) (better i (rankOf k qs) b)
+
+keys-long : (rows : List image.Row) (bodies : List ℕ) → length (keysOf (entriesIn rows bodies)) ≡ length rows
+unfolding entriesIn
+keys-long [] bodies = refl
+keys-long (r ∷ rows) bodies = ap suc (keys-long rows bodies)
+
+module _ (contents bodies : List ℕ) where
   abbrev keys : List (List Part)
   keys = keysOf (entriesIn (rowsIn contents) bodies)
 
-  abbrev keysLeft : ℕ → List (List Part)
-  keysLeft i = keysOf (entriesIn (rowsLeft contents (countOf contents) i) bodies)
+  best-inside : (qs : List Position) (i : ℕ) (row : List ℕ) → bestOf keys qs ≡ best i row → i < countOf contents
+  best-inside qs i row e =
+      let b = best-beats keys qs i row e in
+      omega (arith, b .inside, keys-long (rowsIn contents) bodies, count-rows contents)
 
-  -- going on from entry i with the best so far comes to the best of all
-  pub record Searching (i : ℕ) (b : Best) : Type 0 where
-    pub most : i ≤ countOf contents
-    pub same : bestFrom (keysLeft i) qs i b ≡ bestOf keys qs
+  searched-all : (qs : List Position) → searched false (keysOf (entriesIn (rowsLeft contents (countOf contents) 0) bodies)) qs 0 noEntry ≡ bestOf keys qs
+  unfolding bestOf
+  searched-all qs = searched-best (keysOf (entriesIn (rowsLeft contents (countOf contents) 0) bodies)) qs 0 noEntry ∙ rw (sub-zero (countOf contents)) refl
 
-  pub searching-first : (len at : ℕ) (r : Marks) → r ≡ marksOf none → Searching 0 (bestIn len at r)
-  unfolding bestOf bestIn marksOf
-  searching-first len at r e = rw e (record { most = omega arith; same = rw (sub-zero (countOf contents)) refl })
+  value-is : (qs : List Position) → valueIn contents (numbered (searchedIn false 0 (countOf contents) contents bodies qs)) ≡ lookup contents bodies (positions qs)
+  unfolding lookup valueIn
+  value-is qs = rw (searched-all qs) (at (bestOf keys qs) refl)
+    where
+      at : (b : Best) → bestOf keys qs ≡ b → valueIn contents (numbered b) ≡ placeOf (rowsIn contents) b
+      at noEntry e = unfold numbered placeOf in refl
+      at (best i row) e = unfold numbered placeOf in
+          rw (row-is contents i (record { start = 0; keyLength = 0; valueLength = 0 }) (best-inside qs i row e)) refl
 
-  pub searching-more : (i : ℕ) (b b′ : Best) → Searching i b → i < countOf contents
-      → b′ ≡ better i (rankOf (keyParts (keyAt bodies (rowAt contents i))) qs) b → Searching (i + 1) b′
-  unfolding bestFrom entriesIn
-  searching-more i b b′ s h e = record {
-    most = omega arith;
-    same = sym (sym (s .same) ∙ rw (rows-turn contents (countOf contents) i h, add-one i, e) refl);
-  }
+-- ---- The calls
 
-  keys-long : (rows : List image.Row) → length (keysOf (entriesIn rows bodies)) ≡ length rows
-  unfolding entriesIn
-  keys-long [] = refl
-  keys-long (r ∷ rows) = ap suc (keys-long rows)
+-- an image is judged before any query
+module _ (most : Bounds) (contents bodies name class : List ℕ) where
+  pub no-bytes : isImage contents bodies ≡ false → refused 8 ≡ getBytesWithin most contents bodies name class
+  unfolding getBytesWithin
+  no-bytes e = rw e refl
 
-  -- past the last entry
-  module _ (i len at : ℕ) (r : Marks) (s : Searching i (bestIn len at r)) (h : countOf contents ≤ i) where
-    won : bestOf keys qs ≡ bestIn len at r
-    unfolding bestFrom rowsFrom entriesIn
-    won =
-        let e : countOf contents - i ≡ 0 = omega arith in
-        sym (s .same) ∙ rw e refl
-
-    pub finds-none : r .live ≡ false → noValue ≡ lookup contents bodies (positions qs)
-    unfolding lookup placeOf bestIn
-    finds-none e = rw (won, e) refl
-
-    is-best : r .live ≡ true → bestOf keys qs ≡ best at (take len (r .marks))
-    unfolding bestIn
-    is-best e = won ∙ rw e refl
-
-    pub best-inside : r .live ≡ true → at < countOf contents
-    best-inside e =
-        let b = best-beats keys qs at (take len (r .marks)) (is-best e) in
-        omega (arith, b .inside, keys-long (rowsIn contents), count-rows contents)
-
-    pub finds : r .live ≡ true
-        → given (record { start = keyEnd (rowAt contents at); length = rowAt contents at .valueLength }) ≡ lookup contents bodies (positions qs)
-    unfolding lookup placeOf
-    finds e = rw (is-best e, row-is contents at (record { start = 0; keyLength = 0; valueLength = 0 }) (best-inside e)) refl
-
--- ---- The call
-
-module _ (contents bodies name class : List ℕ) where
-  pub no-image : isImage contents bodies ≡ false → refused 8 ≡ getBytes contents bodies name class
-  unfolding getBytes
-  no-image e = rw e refl
-
-  pub past : isImage contents bodies ≡ true → (k : ℕ) → queryOf name class ≡ pastLimit k → refused k ≡ getBytes contents bodies name class
-  unfolding getBytes lookup
+  pub past : isImage contents bodies ≡ true → (k : ℕ) → queryWithin most name class ≡ pastLimit k → refused k ≡ getBytesWithin most contents bodies name class
+  unfolding getBytesWithin lookup
   past e k f = rw (e, f) refl
 
-  module _ (e : isImage contents bodies ≡ true) (n c : Names) (p : n ≡ parsedNames name) (q : c ≡ parsedNames class) where
-    -- what the shape of both decides
-    pub by-shape : (s : Shape) → s ≡ bothShapes (n .shape) (c .shape)
-        → lookup contents bodies (shaped s (positionsOf (namesIn name (n .split)) (namesIn class (c .split)))) ≡ getBytes contents bodies name class
-    unfolding getBytes
-    by-shape s f = sym (rw (e, query-is name class n c p q, f) refl)
+  pub no-image : (first : Bool) (next count : ℕ) → isImage contents bodies ≡ false → refused 8 ≡ entryWithin most first next count contents bodies name class
+  unfolding entryWithin
+  no-image first next count e = rw e refl
+
+  -- what the shape of name and class decides
+  module _ (image : isImage contents bodies ≡ true) {a b : Shape} {ns nl cs cl : List ℕ} (N : Told most name a ns nl) (C : Told most class b cs cl) (s : Shape) (e : s ≡ bothShapes a b) where
+    abbrev ps : List Position
+    ps = queried name ns nl class cs cl
+
+    query-shaped : (t : Shape) → s ≡ t → queryWithin most name class ≡ shaped t ps
+    query-shaped t f = query-is most name class N C ∙ ap (λ (x : Shape). shaped x ps) (sym e ∙ f)
+
+    bytes-shaped : (t : Shape) → s ≡ t → lookup contents bodies (shaped t ps) ≡ getBytesWithin most contents bodies name class
+    unfolding getBytesWithin
+    bytes-shaped t f = rw (image, query-shaped t f) refl
+
+    pub bytes-long : s ≡ Long → refused 9 ≡ getBytesWithin most contents bodies name class
+    bytes-long f = unfold lookup shaped in bytes-shaped Long f
+
+    pub bytes-malformed : s ≡ Malformed → noValue ≡ getBytesWithin most contents bodies name class
+    bytes-malformed f = unfold lookup shaped in bytes-shaped Malformed f
+
+    pub bytes-many : s ≡ Many → refused 10 ≡ getBytesWithin most contents bodies name class
+    bytes-many f = unfold lookup shaped in bytes-shaped Many f
+
+    pub bytes-good : s ≡ Good → (i last : ℕ) → last ≡ countOf contents → i ≡ numberOr last (searchedIn false 0 last contents bodies ps)
+        → valueIn contents (entryFound last i) ≡ getBytesWithin most contents bodies name class
+    unfolding shaped
+    bytes-good f i last z g =
+        ap (valueIn contents) (number-told contents bodies ps false 0 last i g) ∙ rw z (value-is contents bodies ps ∙ bytes-shaped Good f)
+
+    module _ (first : Bool) (next count : ℕ) where
+      entry-shaped : (t : Shape) → s ≡ t → entryIn first next (min count (countOf contents)) contents bodies (shaped t ps) ≡ entryWithin most first next count contents bodies name class
+      unfolding entryWithin
+      entry-shaped t f = rw (image, query-shaped t f) refl
+
+      pub entry-long : s ≡ Long → refused 9 ≡ entryWithin most first next count contents bodies name class
+      entry-long f = unfold entryIn shaped in entry-shaped Long f
+
+      pub entry-malformed : s ≡ Malformed → noValue ≡ entryWithin most first next count contents bodies name class
+      entry-malformed f = unfold entryIn shaped in entry-shaped Malformed f
+
+      pub entry-many : s ≡ Many → refused 10 ≡ entryWithin most first next count contents bodies name class
+      entry-many f = unfold entryIn shaped in entry-shaped Many f
+
+      pub entry-good : s ≡ Good → (i last : ℕ) → last ≡ min count (countOf contents) → i ≡ numberOr last (searchedIn first next last contents bodies ps)
+          → entryFound last i ≡ entryWithin most first next count contents bodies name class
+      unfolding shaped entryIn
+      entry-good f i last z g = number-told contents bodies ps first next last i g ∙ rw z (entry-shaped Good f)
+
+-- the shell's parts, held by value
+module _ (t : List ℕ) (n : Names) (e : n ≡ splitNames t) where
+  pub split-in : Inside t (startsOf (n .split)) (lengthsOf (n .split)) → SplitIn t (n .split)
+  split-in i = record { inside = i; starts-held = counted-shell t n e .0; lengths-held = counted-shell t n e .1 }
 
 -- ---- The answer
 
--- from the row of the best entry
-pub found-is : (contents : List ℕ) (i : ℕ) (r : Row) → RowIs contents i r
-    → _≡_ {A = Reply Place} (given (record { start = r .start + r .key; length = r .value })) (given (record { start = keyEnd (rowAt contents i); length = rowAt contents i .valueLength }))
-found-is contents i r e = ap (λ (x : image.Row). given (record { start = keyEnd x; length = x .valueLength })) (e .is)
+module _ (contents bodies : List ℕ) (i : ℕ) (r : Row) (e : RowIs contents i r) where
+  module _ (image : isImage contents bodies ≡ true) (h : i < countOf contents) where
+    pub key-short : length (take (r .start + r .key - r .start) (drop (r .start) bodies)) ≤ bodyBytes
+    key-short =
+        let j = judged contents bodies image in
+        let v : r .start + r .key + r .value ≡ valueEnd (rowAt contents i) = ap valueEnd (e .is) in
+        omega (arith, length-take (r .start + r .key - r .start) (drop (r .start) bodies), v, j .row-inside i h, j .used-most)
+
+  -- the answer from the row of the best entry
+  pub found-is : _≡_ {A = Reply Place} (given (record { start = r .start + r .key; length = r .value })) (given (record { start = keyEnd (rowAt contents i); length = rowAt contents i .valueLength }))
+  found-is = ap (λ (x : image.Row). given (record { start = keyEnd x; length = x .valueLength })) (e .is)
 
 -- ---- A value that is found lies in the bodies that an image has
 
@@ -151,7 +314,7 @@ module _ (contents bodies : List ℕ) (image : isImage contents bodies ≡ true)
   best-placed qs noEntry f e = absurd (let z : _≡_ {A = ℕ} 0 1 = cc in omega arith)
   best-placed qs (best i row) f e =
       let w = best-beats (keysOf (entriesIn (rowsIn contents) bodies)) qs i row f in
-      let h : i < countOf contents = omega (arith, w .inside, keys-long contents bodies qs (rowsIn contents), count-rows contents) in
+      let h : i < countOf contents = omega (arith, w .inside, keys-long (rowsIn contents) bodies, count-rows contents) in
       let r = getD (rowsIn contents) i (record { start = 0; keyLength = 0; valueLength = 0 }) in
       let q : _≡_ {A = Reply Place} (given place) (given (record { start = keyEnd r; length = r .valueLength })) = e in
       let same : place ≡ record { start = keyEnd r; length = r .valueLength } = cc in
@@ -166,15 +329,21 @@ module _ (contents bodies : List ℕ) (image : isImage contents bodies ≡ true)
   looked-placed malformed e = absurd (let z : _≡_ {A = ℕ} 0 1 = cc in omega arith)
   looked-placed (pastLimit k) e = absurd (let z : _≡_ {A = ℕ} 0 1 = cc in omega arith)
 
-pub found-placed : (contents bodies name class : List ℕ) (p n : ℕ) → given (record { start = p; length = n }) ≡ getBytes contents bodies name class
+pub found-placed : (most : Bounds) (contents bodies name class : List ℕ) (p n : ℕ) → given (record { start = p; length = n }) ≡ getBytesWithin most contents bodies name class
     → (p + n ≤ bodyBytes) × (bodyBytes ≤ length bodies)
-unfolding getBytes
-found-placed contents bodies name class p n = at (isImage contents bodies) refl
+unfolding getBytesWithin
+found-placed most contents bodies name class p n = at (isImage contents bodies) refl
   where
-    at : (b : Bool) → isImage contents bodies ≡ b → given (record { start = p; length = n }) ≡ (if not b then refused 8 else lookup contents bodies (queryOf name class))
+    at : (b : Bool) → isImage contents bodies ≡ b → given (record { start = p; length = n }) ≡ (if not b then refused 8 else lookup contents bodies (queryWithin most name class))
         → (p + n ≤ bodyBytes) × (bodyBytes ≤ length bodies)
-    at true i e = looked-placed contents bodies i p n (queryOf name class) e
+    at true i e = looked-placed contents bodies i p n (queryWithin most name class) e
     at false i e = absurd (let z : _≡_ {A = ℕ} 0 1 = cc in omega arith)
 
-pub found-inside : (contents bodies name class : List ℕ) (p n : ℕ) → given (record { start = p; length = n }) ≡ getBytes contents bodies name class → p + n ≤ length bodies
-found-inside contents bodies name class p n e = let f = found-placed contents bodies name class p n e in omega (arith, f .0, f .1)
+pub found-inside : (most : Bounds) (contents bodies name class : List ℕ) (p n : ℕ) → given (record { start = p; length = n }) ≡ getBytesWithin most contents bodies name class
+    → p + n ≤ length bodies
+found-inside most contents bodies name class p n e = let f = found-placed most contents bodies name class p n e in omega (arith, f .0, f .1)
+
+pub bytes-within : (most : Bounds) (contents bodies name class : List ℕ) (r : Lookup) → replied r ≡ getBytesWithin most contents bodies name class → LiesIn r (length bodies)
+bytes-within most contents bodies name class (Found p n) e = found-inside most contents bodies name class p n e
+bytes-within most contents bodies name class Nothing e = tt
+bytes-within most contents bodies name class (Refused k) e = tt

@@ -1,2 +1,3 @@
 -- What the contracts of the lookups cite beside the definition.
 pub mod Replies
+pub mod Searches

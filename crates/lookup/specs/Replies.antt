@@ -1,6 +1,8 @@
 -- A lookup's answer in document 01's numbers and values.
 use Prim.Native.Nat.{ℕ, _+_, _≤_}
 use Rattle.definition.specs.Lookup.{Reply, given, noValue, refused, Place}
+use Rattle.lookup.specs.declared.Entry.{Entry}
+use Rattle.lookup.specs.declared.Entry.the-variants as entry
 use Rattle.lookup.specs.declared.Lookup.{Lookup}
 use Rattle.lookup.specs.declared.Lookup.the-variants.{Found, Nothing, Refused}
 
@@ -15,3 +17,9 @@ abbrev pub LiesIn : Lookup → ℕ → Type 0
 LiesIn (Found place size) n = place + size ≤ n
 LiesIn Nothing n = Unit {0}
 LiesIn (Refused k) n = Unit {0}
+
+-- an entry's number, none, or the number of a refusal
+abbrev pub entryReplied : Entry → Reply ℕ
+entryReplied (entry.At i) = given i
+entryReplied entry.Nothing = noValue
+entryReplied (entry.Refused k) = refused k

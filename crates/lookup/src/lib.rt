@@ -1,18 +1,25 @@
 // Lookups: `match_entry` and `Database::get_bytes` of the Rust.
 ghost use mathlib.Core.Path.{_≡_};
-ghost use mathlib.Core.Bool.{true};
-ghost use Prim.Native.Nat.{max};
-ghost use Rattle.definition.specs.Image.{keyParts, isKey, isImage};
-ghost use Rattle.definition.specs.Query.{positions};
+ghost use mathlib.Core.Bool.{true, _&&_};
+ghost use Prim.Native.Nat.{_≤_, min, max};
+ghost use lib.ListN.{length};
+ghost use Rattle.definition.specs.Lists.{if_then_else_};
+ghost use Rattle.definition.specs.Limits.{bodyBytes};
+ghost use Rattle.definition.specs.Image.{countOf, keyParts, isKey, isImage};
+ghost use Rattle.definition.specs.Query.{shell, window};
 ghost use Rattle.definition.specs.Ranking.{rankOf, better};
-ghost use Rattle.definition.specs.Lookup.{lookup, getBytes};
+ghost use Rattle.definition.specs.Lookup.{getBytesWithin, getBytes};
+ghost use Rattle.image.specs.Rows.{rowStart};
 ghost use Rattle.query.specs.Splits.{Inside};
-ghost use Rattle.marks.specs.Rows.{bestIn};
-ghost use Rattle.positions.specs.Spans.{queried};
-ghost use Rattle.lookup.specs.Replies.{replied};
+ghost use Rattle.marks.specs.Rows.{isLive, bestIn, Held};
+ghost use Rattle.positions.specs.Parts.{queried};
+ghost use Rattle.lookup.specs.Replies.{replied, entryReplied};
+ghost use Rattle.lookup.specs.Searches.{startsOf, lengthsOf, SplitIn, searchedIn, numberOr, entryFound, entryWithin, valueIn};
 use image::row_at;
 use image_judge::is_image;
 use key_end::may_match;
+use limits::WINDOW_BYTES;
+use limits::WINDOW_PARTS;
 use marks::Marks;
 use marks::no_row;
 use marks::wins;
@@ -23,10 +30,18 @@ use query::Shape;
 use query::Split;
 use query::both;
 use query::parse_query;
+use query::split_names;
 
 // What a lookup answers: the value's place in the bodies and its length, none, or the number that refuses it.
 pub enum Lookup {
     Found(usize, usize),
+    Nothing,
+    Refused(u8),
+}
+
+// The number of an entry that is looked for, none, or the number that refuses it.
+pub enum Entry {
+    At(usize),
     Nothing,
     Refused(u8),
 }
@@ -41,25 +56,109 @@ struct Best {
 fn consider(
     key: &[u8],
     name: &[u8],
-    names: Split,
+    starts: &[u16],
+    lengths: &[u16],
     class: &[u8],
-    classes: Split,
+    class_starts: &[u16],
+    class_lengths: &[u16],
     entry: usize,
     best: Best,
 ) -> Best
-    requires { ⌜ (isKey (now key) ≡ true) × Inside (now name) names × Inside (now class) classes ⌝ }
-    ensures { λ r. ⌜ bestIn (max (names .count) (classes .count)) (r .entry) (r .marks) ≡ better entry (rankOf (keyParts (now (key .entry))) (queried (now (name .entry)) names (now (class .entry)) classes)) (bestIn (max (names .count) (classes .count)) (best .entry) (best .marks)) ⌝ }
+    requires { ⌜ (isKey (now key) ≡ true) × (length (now key) ≤ bodyBytes) × Inside (now name) (now starts) (now lengths) × Inside (now class) (now «class_starts») (now «class_lengths») × Held (max (length (now starts)) (length (now «class_starts»))) (best .marks) ⌝ }
+    ensures { λ r. ⌜ (bestIn (max (length (now (starts .entry))) (length (now («class_starts» .entry)))) (r .entry) (r .marks) ≡ better entry (rankOf (keyParts (now (key .entry))) (queried (now (name .entry)) (now (starts .entry)) (now (lengths .entry)) (now (class .entry)) (now («class_starts» .entry)) (now («class_lengths» .entry)))) (bestIn (max (length (now (starts .entry))) (length (now («class_starts» .entry)))) (best .entry) (best .marks))) × Held (max (length (now (starts .entry))) (length (now («class_starts» .entry)))) (r .marks) ⌝ }
 {
-    let marks = match_key(key, name, names, class, classes);
-    let len = longer(names.count, classes.count);
+    let marks = match_key(
+        key,
+        name,
+        starts,
+        lengths,
+        class,
+        class_starts,
+        class_lengths,
+    );
     let other = best.marks;
-    if wins(marks, other, len) {
+    if wins(marks, other) {
         return Best { marks, entry };
     }
     best
 }
 
-// The value of the entry that beats the rest.
+// Does a search end here? It does at the first entry that aligns, where that is asked for.
+fn ends(first: bool, best: Best) -> bool
+    ensures { λ r. ⌜ r ≡ (first && isLive (best .marks)) ⌝ }
+{
+    let marks = best.marks;
+    if first {
+        return 0 < marks.low;
+    }
+    false
+}
+
+fn entry_of(best: Best, last: usize) -> usize
+    ensures { λ r. ⌜ r ≡ (if isLive (best .marks) then best .entry else last) ⌝ }
+{
+    let marks = best.marks;
+    if 0 < marks.low {
+        return best.entry;
+    }
+    last
+}
+
+// Of the entries from `next` on and below `last`, the one that beats the rest, or the first that aligns: its number, and `last` for none. The
+// one search for the shell's queries and the dictionary window's.
+fn search(
+    contents: &[u16],
+    bodies: &[u8],
+    name: &[u8],
+    starts: &[u16],
+    lengths: &[u16],
+    class: &[u8],
+    class_starts: &[u16],
+    class_lengths: &[u16],
+    next: usize,
+    last: usize,
+    first: bool,
+) -> usize
+    requires { ⌜ (isImage (now contents) (now bodies) ≡ true) × Inside (now name) (now starts) (now lengths) × Inside (now class) (now «class_starts») (now «class_lengths») × (last ≤ countOf (now contents)) ⌝ }
+    ensures { λ r. ⌜ r ≡ numberOr last (searchedIn first next last (now (contents .entry)) (now (bodies .entry)) (queried (now (name .entry)) (now (starts .entry)) (now (lengths .entry)) (now (class .entry)) (now («class_starts» .entry)) (now («class_lengths» .entry)))) ⌝ }
+{
+    let len = longer(starts.len(), class_starts.len());
+    let n = last_part(name, starts, lengths, len);
+    let c = last_part(class, class_starts, class_lengths, len);
+    let none = no_row();
+    let mut best = Best {
+        marks: none,
+        entry: 0,
+    };
+    let mut i = next;
+    while i < last {
+        let row = row_at(contents, i);
+        let start = row.start;
+        let end = start + row.key;
+        let key = &bodies[start..end];
+        // Few keys end as the query does. For the others nothing is copied.
+        if may_match(key, n, c) {
+            best = consider(
+                key,
+                name,
+                starts,
+                lengths,
+                class,
+                class_starts,
+                class_lengths,
+                i,
+                best,
+            );
+            if ends(first, best) {
+                return entry_of(best, last);
+            }
+        }
+        i += 1;
+    }
+    entry_of(best, last)
+}
+
+// The same for queries of the shell, whose parts are held by value.
 fn match_entry(
     contents: &[u16],
     bodies: &[u8],
@@ -67,41 +166,53 @@ fn match_entry(
     names: Split,
     class: &[u8],
     classes: Split,
-) -> Lookup
-    requires { ⌜ (isImage (now contents) (now bodies) ≡ true) × Inside (now name) names × Inside (now class) classes ⌝ }
-    ensures { λ r. ⌜ replied r ≡ lookup (now (contents .entry)) (now (bodies .entry)) (positions (queried (now (name .entry)) names (now (class .entry)) classes)) ⌝ }
+    next: usize,
+    last: usize,
+    first: bool,
+) -> usize
+    requires { ⌜ (isImage (now contents) (now bodies) ≡ true) × SplitIn (now name) names × SplitIn (now class) classes × (last ≤ countOf (now contents)) ⌝ }
+    ensures { λ r. ⌜ r ≡ numberOr last (searchedIn first next last (now (contents .entry)) (now (bodies .entry)) (queried (now (name .entry)) (startsOf names) (lengthsOf names) (now (class .entry)) (startsOf classes) (lengthsOf classes))) ⌝ }
 {
-    let count = contents[0] as usize;
-    let len = longer(names.count, classes.count);
-    let n = last_part(names, len);
-    let c = last_part(classes, len);
-    let none = no_row();
-    let mut best = Best {
-        marks: none,
-        entry: 0,
-    };
-    let mut i = 0;
-    while i < count {
-        let row = row_at(contents, i);
-        let start = row.start;
-        let end = start + row.key;
-        let key = &bodies[start..end];
-        // Few keys end as the query does. For the others nothing is copied.
-        if may_match(key, name, n, class, c) {
-            best = consider(key, name, names, class, classes, i, best);
-        }
-        i += 1;
-    }
-    let marks = best.marks;
-    let entry = best.entry;
-    if !marks.live {
-        return Lookup::Nothing;
-    }
-    let row = row_at(contents, entry);
-    Lookup::Found(row.start + row.key, row.value)
+    let i = names.count;
+    let j = classes.count;
+    let starts = names.starts;
+    let lengths = names.lengths;
+    let class_starts = classes.starts;
+    let class_lengths = classes.lengths;
+    search(
+        contents,
+        bodies,
+        name,
+        &starts[..i],
+        &lengths[..i],
+        class,
+        &class_starts[..j],
+        &class_lengths[..j],
+        next,
+        last,
+        first,
+    )
 }
 
-// The value that a query gets from a database image: 8, 9, malformed, 10.
+fn lesser(a: usize, b: usize) -> usize
+    ensures { λ r. ⌜ r ≡ min a b ⌝ }
+{
+    if b < a { b } else { a }
+}
+
+// The value of an entry that a search below `last` gave.
+fn value_of(contents: &[u16], entry: usize, last: usize) -> Lookup
+    requires { ⌜ rowStart last ≤ length (now contents) ⌝ }
+    ensures { λ r. ⌜ replied r ≡ valueIn (now (contents .entry)) (entryFound last entry) ⌝ }
+{
+    if entry < last {
+        let row = row_at(contents, entry);
+        return Lookup::Found(row.start + row.key, row.value);
+    }
+    Lookup::Nothing
+}
+
+// The shell's lookup, at the bounds of document 01: 8, 9, malformed, 10. The image is judged before the search, and not on top of its stack.
 pub fn get_bytes(contents: &[u16], bodies: &[u8], name: &[u8], class: &[u8]) -> Lookup
     ensures { λ r. ⌜ replied r ≡ getBytes (now (contents .entry)) (now (bodies .entry)) (now (name .entry)) (now (class .entry)) ⌝ }
 {
@@ -120,7 +231,87 @@ pub fn get_bytes(contents: &[u16], bodies: &[u8], name: &[u8], class: &[u8]) -> 
         Shape::Good => {
             let n = instances.split;
             let c = classes.split;
-            match_entry(contents, bodies, name, n, class, c)
+            let last = contents[0] as usize;
+            let entry = match_entry(contents, bodies, name, n, class, c, 0, last, false);
+            value_of(contents, entry, last)
+        }
+    }
+}
+
+// The dictionary window's, which has little stack: document 02 (vi). Its parts are lent, not copied.
+pub fn window_get_bytes(contents: &[u16], bodies: &[u8], name: &[u8], class: &[u8]) -> Lookup
+    ensures { λ r. ⌜ replied r ≡ getBytesWithin window (now (contents .entry)) (now (bodies .entry)) (now (name .entry)) (now (class .entry)) ⌝ }
+{
+    if !is_image(contents, bodies) {
+        return Lookup::Refused(8);
+    }
+    let mut starts = [0; WINDOW_PARTS];
+    let mut lengths = [0; WINDOW_PARTS];
+    let mut class_starts = [0; WINDOW_PARTS];
+    let mut class_lengths = [0; WINDOW_PARTS];
+    let n = split_names(name, WINDOW_BYTES, &mut starts, &mut lengths);
+    let c = split_names(class, WINDOW_BYTES, &mut class_starts, &mut class_lengths);
+    let a = n.shape;
+    let b = c.shape;
+    let shape = both(a, b);
+    match shape {
+        Shape::Long => Lookup::Refused(9),
+        Shape::Malformed => Lookup::Nothing,
+        Shape::Many => Lookup::Refused(10),
+        Shape::Good => {
+            let i = n.count;
+            let j = c.count;
+            let last = contents[0] as usize;
+            let entry = search(
+                contents,
+                bodies,
+                name,
+                &starts[..i],
+                &lengths[..i],
+                class,
+                &class_starts[..j],
+                &class_lengths[..j],
+                0,
+                last,
+                false,
+            );
+            value_of(contents, entry, last)
+        }
+    }
+}
+
+// The first entry that aligns with a query, from `next` on and below both `count` and the image's own count.
+pub fn first_entry(
+    contents: &[u16],
+    bodies: &[u8],
+    name: &[u8],
+    class: &[u8],
+    next: usize,
+    count: usize,
+) -> Entry
+    ensures { λ r. ⌜ entryReplied r ≡ entryWithin shell true next count (now (contents .entry)) (now (bodies .entry)) (now (name .entry)) (now (class .entry)) ⌝ }
+{
+    if !is_image(contents, bodies) {
+        return Entry::Refused(8);
+    }
+    let instances = parse_query(name);
+    let classes = parse_query(class);
+    let a = instances.shape;
+    let b = classes.shape;
+    let shape = both(a, b);
+    match shape {
+        Shape::Long => Entry::Refused(9),
+        Shape::Malformed => Entry::Nothing,
+        Shape::Many => Entry::Refused(10),
+        Shape::Good => {
+            let n = instances.split;
+            let c = classes.split;
+            let last = lesser(count, contents[0] as usize);
+            let entry = match_entry(contents, bodies, name, n, class, c, next, last, true);
+            if entry < last {
+                return Entry::At(entry);
+            }
+            Entry::Nothing
         }
     }
 }

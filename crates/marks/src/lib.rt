@@ -2,31 +2,35 @@
 ghost use mathlib.Core.Path.{_≡_};
 ghost use mathlib.Core.List.{[]};
 ghost use mathlib.Core.Option.{some, none};
-ghost use Prim.Native.Nat.{_+_, _≤_, _<_};
-ghost use lib.ListN.{length, take, getD};
-ghost use Rattle.definition.specs.Lists.{lower};
-ghost use Rattle.definition.specs.Limits.{queryParts};
+ghost use Prim.Native.Nat.{_+_, _<_};
+ghost use lib.ListN.{length, getD};
 ghost use Rattle.definition.specs.Matching.{markAt};
 ghost use Rattle.key.specs.Keys.{partBetween};
-ghost use Rattle.positions.specs.Spans.{Within, positionIn, markByte};
-ghost use Rattle.marks.specs.Rows.{marksOf, stepped, skipped, nextOf, winsOver};
-use limits::QUERY_PARTS;
-use positions::Span;
+ghost use Rattle.positions.specs.Parts.{positionOf, markByte};
+ghost use Rattle.marks.specs.Rows.{marksOf, Roomy, marked, stepped, skipped, nextOf, lowerRow, winsOver};
 use positions::mark;
 
-// A row of marks, one for each position passed, if there is one. The marks after them are 0.
+// How many marks the first of a row's three numbers has, and the first two.
+const FIRST: usize = 11;
+
+const FIRST_TWO: usize = 22;
+
+// A row of marks, one for each position passed, if there is one. Each mark is a digit of base 7: 11 are in `high`, the next 11 in `middle`, those
+// after them in `low`, where a digit 1 leads them: without a row `low` is 0. So a row of 32 marks is 12 bytes, and of two rows the numbers
+// tell which is lower.
 pub struct Marks {
-    pub live: bool,
-    pub marks: [u8; QUERY_PARTS],
+    pub high: u32,
+    pub middle: u32,
+    pub low: u32,
 }
 
-// No row. Its marks are 0 all the same.
 pub fn no_row() -> Marks
     ensures { λ r. ⌜ r ≡ marksOf none ⌝ }
 {
     Marks {
-        live: false,
-        marks: [0; QUERY_PARTS],
+        high: 0,
+        middle: 0,
+        low: 0,
     }
 }
 
@@ -34,31 +38,60 @@ pub fn no_row() -> Marks
 pub fn first_row() -> Marks
     ensures { λ r. ⌜ r ≡ marksOf (some []) ⌝ }
 {
-    let mut r = no_row();
-    r.live = true;
-    r
+    Marks {
+        high: 0,
+        middle: 0,
+        low: 1,
+    }
 }
 
-// A row over a position that is skipped: the marks after it are 0 already.
-pub fn skip_loose(row: Marks, binding: u8) -> Marks
-    ensures { λ r. ⌜ r ≡ skipped row binding ⌝ }
+// A row with mark `m` after its `p` marks.
+fn with_mark(row: Marks, m: u8, p: usize) -> Marks
+    requires { ⌜ Roomy p row × (m < 7) ⌝ }
+    ensures { λ r. ⌜ r ≡ marked row m p ⌝ }
 {
-    if binding == b'*' {
-        return row;
+    if p < FIRST {
+        return Marks {
+            high: row.high * 7 + m as u32,
+            middle: row.middle,
+            low: row.low,
+        };
+    }
+    if p < FIRST_TWO {
+        return Marks {
+            high: row.high,
+            middle: row.middle * 7 + m as u32,
+            low: row.low,
+        };
+    }
+    Marks {
+        high: row.high,
+        middle: row.middle,
+        low: row.low * 7 + m as u32,
+    }
+}
+
+// A row over position `p`, which is skipped.
+pub fn skip_loose(row: Marks, binding: u8, p: usize) -> Marks
+    requires { ⌜ Roomy p row ⌝ }
+    ensures { λ r. ⌜ r ≡ skipped row binding p ⌝ }
+{
+    if 0 < row.low {
+        if binding == b'*' {
+            return with_mark(row, 0, p);
+        }
     }
     no_row()
 }
 
-// A row over a position that is matched with mark `m`, if it is not 0.
+// A row over position `p`, which is matched with mark `m`, if it is not 0.
 pub fn step(row: Marks, m: u8, p: usize) -> Marks
-    requires { ⌜ p < queryParts ⌝ }
+    requires { ⌜ Roomy p row × (m < 7) ⌝ }
     ensures { λ r. ⌜ r ≡ stepped row m p ⌝ }
 {
-    if row.live {
+    if 0 < row.low {
         if 0 < m {
-            let mut r = row;
-            r.marks[p] = m;
-            return r;
+            return with_mark(row, m, p);
         }
     }
     no_row()
@@ -71,55 +104,45 @@ pub fn next_row(
     key: &[u8],
     b: usize,
     e: usize,
-    name: &[u8],
-    n: Span,
-    class: &[u8],
-    c: Span,
+    n: &[u8],
+    c: &[u8],
     p: usize,
 ) -> Marks
-    requires { ⌜ (b + 1 < e) × (e < length (now key)) × Within (now name) n × Within (now class) c × (p < queryParts) ⌝ }
-    ensures { λ r. ⌜ r ≡ nextOf row before (getD (now (key .entry)) e 0) (markByte (markAt (partBetween (now (key .entry)) b e) (positionIn (now (name .entry)) n (now (class .entry)) c))) p ⌝ }
+    requires { ⌜ (b + 1 < e) × (e < length (now key)) × Roomy p row × Roomy p before ⌝ }
+    ensures { λ r. ⌜ r ≡ nextOf row before (getD (now (key .entry)) e 0) (markByte (markAt (partBetween (now (key .entry)) b e) (positionOf (now (n .entry)) (now (c .entry))))) p ⌝ }
 {
-    if row.live {
+    if 0 < row.low {
         if key[e] == b'*' {
-            return row;
+            return with_mark(row, 0, p);
         }
     }
-    if before.live {
-        let m = mark(key, b, e, name, n, class, c);
+    if 0 < before.low {
+        let m = mark(key, b, e, n, c);
         return step(before, m, p);
     }
     no_row()
 }
 
 // Is the first row lower than the second? The first difference of their marks from the left decides.
-fn is_lower(a: Marks, b: Marks, len: usize) -> bool
-    requires { ⌜ len ≤ queryParts ⌝ }
-    ensures { λ r. ⌜ r ≡ lower (take len (a .marks)) (take len (b .marks)) ⌝ }
+fn is_lower(a: Marks, b: Marks) -> bool
+    ensures { λ r. ⌜ r ≡ lowerRow a b ⌝ }
 {
-    let mut i = 0;
-    while i < len {
-        let x = a.marks[i];
-        let y = b.marks[i];
-        if x < y {
-            return true;
+    if a.high == b.high {
+        if a.middle == b.middle {
+            return a.low < b.low;
         }
-        if y < x {
-            return false;
-        }
-        i += 1;
+        return a.middle < b.middle;
     }
-    false
+    a.high < b.high
 }
 
 // Does the row of a later entry win over the best so far? Of equals the last wins.
-pub fn wins(r: Marks, best: Marks, len: usize) -> bool
-    requires { ⌜ len ≤ queryParts ⌝ }
-    ensures { λ w. ⌜ w ≡ winsOver len r best ⌝ }
+pub fn wins(r: Marks, best: Marks) -> bool
+    ensures { λ w. ⌜ w ≡ winsOver r best ⌝ }
 {
-    if r.live {
-        if best.live {
-            return !is_lower(r, best, len);
+    if 0 < r.low {
+        if 0 < best.low {
+            return !is_lower(r, best);
         }
         return true;
     }

@@ -1,5 +1,4 @@
 -- The invariants of `check_match`: over the positions, and at a position over the parts. Assumes nothing.
-use mathlib.Core.Bool.{false}
 use mathlib.Core.List.{List, [], _∷_}
 use mathlib.Core.Option.{Option, some, none}
 use mathlib.Core.Path.{_≡_, refl, sym, ap, _∙_}
@@ -17,17 +16,16 @@ use Rattle.definition.specs.Ranking.{rankOf}
 use Rattle.definition.specs.Image.{keyParts}
 use Rattle.laws.proofs.Lists.{Order, below, equal, above, order}
 use Rattle.key.specs.Keys.{partBetween, Bounded}
-use Rattle.key.specs.declared.Key.{Key}
-use Rattle.positions.specs.Spans.{markByte}
+use Rattle.positions.specs.Parts.{markByte}
 use Rattle.positions.proofs.Marking.{markIn, mark-in}
-use Rattle.marks.specs.Rows.{marksOf, rowIn, skipped, stepped, nextOf}
+use Rattle.marks.specs.Rows.{marksOf, rowIn, Stands, Roomy, skipped, stepped, nextOf}
 use Rattle.marks.specs.declared.Marks.{Marks}
-use Rattle.marks.proofs.Rows.{skipOf, extended, Stands, none-stands, first-stands, stands-row, stands-own, skipped-stands, stepped-stands, next-stands}
+use Rattle.marks.proofs.Rows.{skipOf, extended, none-stands, first-stands, stands-row, stands-own, stands-roomy, skipped-stands, stepped-stands, mark-digit, next-stands}
 use Rattle.matcher.proofs.Reached.{part, reached, reached-first, reached-turned, reached-last}
 
 -- what an index past the rows has
 abbrev pub blank : Marks
-blank = record { live = false; marks = [] }
+blank = record { high = 0; middle = 0; low = 0 }
 
 abbrev pub rowAt : ℕ → List Marks → ℕ → Option (List ℕ)
 rowAt p rows j = rowIn p (getD rows j blank)
@@ -53,25 +51,25 @@ module _ (ps : List Part) where
 -- ---- The first turn of both
 
 -- rows that are all none
-none-dead : (n j : ℕ) (r : Marks) → r .live ≡ false → getD (replicate n r) j blank .live ≡ false
+none-dead : (n j : ℕ) (r : Marks) → r .low ≡ 0 → getD (replicate n r) j blank .low ≡ 0
 none-dead zero j r e = refl
 none-dead (suc n) zero r e = e
 none-dead (suc n) (suc j) r e = none-dead n j r e
 
-module _ (key : List ℕ) (k : Key) (B : Bounded key k) where
+module _ (key bounds : List ℕ) (count : ℕ) (B : Bounded key bounds count) where
   abbrev ps : List Part
   ps = keyParts key
 
   abbrev top : ℕ
-  top = k .count - 1
+  top = count - 1
 
   few : top < mostParts
   few = omega (arith, B .few, B .some)
 
   all : suc top ≡ length ps
-  all = omega (arith, B .count, B .some)
+  all = omega (arith, B .counted, B .some)
 
-  binding-at : (i : ℕ) → i < k .count → bindingOf (getD key (getD (k .bounds) i 0) 0 ∷ []) ≡ part ps i .binding
+  binding-at : (i : ℕ) → i < count → bindingOf (getD key (getD bounds i 0) 0 ∷ []) ≡ part ps i .binding
   unfolding partBetween
   binding-at i h = sym (ap (λ (p : Part). p .binding) (B .part i h))
 
@@ -109,7 +107,7 @@ module _ (key : List ℕ) (k : Key) (B : Bounded key k) where
 
     module _ (rows : List Marks) (i : ℕ) (T : Turning ps q top p old rows i) (h : 0 < i) where
       -- the part before i, and i, as `next_row` reads them
-      pub bounds-at : (getD (k .bounds) (i - 1) 0 + 1 < getD (k .bounds) (i - 1 + 1) 0) × (getD (k .bounds) (i - 1 + 1) 0 < length key)
+      pub bounds-at : (getD bounds (i - 1) 0 + 1 < getD bounds (i - 1 + 1) 0) × (getD bounds (i - 1 + 1) 0 < length key)
       bounds-at =
           let f = B .rises (i - 1) (omega (arith, T .upto)) in
           let g = B .rises (i - 1 + 1) (omega (arith, T .upto)) in
@@ -132,23 +130,33 @@ module _ (key : List ℕ) (k : Key) (B : Bounded key k) where
           by j l (above z) m = absurd (omega arith)
 
       -- `next_row` turns part i's row
-      pub turning-next : p < queryParts → ((j : ℕ) → j ≤ top → Stands p (getD old j blank) (rowAt p old j)) → (r : Marks)
-          → r ≡ nextOf (getD rows (i - 1 + 1) blank) (getD rows (i - 1) blank) (getD key (getD (k .bounds) (i - 1 + 1) 0) 0)
-          (markByte (markAt (partBetween key (getD (k .bounds) (i - 1) 0) (getD (k .bounds) (i - 1 + 1) 0)) q)) p
+      pub rows-roomy : p < queryParts → ((j : ℕ) → j ≤ top → Stands p (getD old j blank) (rowAt p old j))
+          → Roomy p (getD rows (i - 1 + 1) blank) × Roomy p (getD rows (i - 1) blank)
+      rows-roomy f stands = (
+        rw (T .same (i - 1 + 1) (omega arith)) (stands-roomy p _ _ f (stands (i - 1 + 1) (omega (arith, T .upto)))),
+        rw (T .same (i - 1) (omega arith)) (stands-roomy p _ _ f (stands (i - 1) (omega (arith, T .upto)))),
+      )
+
+      pub turning-next : ((j : ℕ) → j ≤ top → Stands p (getD old j blank) (rowAt p old j)) → (r : Marks)
+          → r ≡ nextOf (getD rows (i - 1 + 1) blank) (getD rows (i - 1) blank) (getD key (getD bounds (i - 1 + 1) 0) 0)
+          (markByte (markAt (partBetween key (getD bounds (i - 1) 0) (getD bounds (i - 1 + 1) 0)) q)) p
           → Turning ps q top p old (set rows (i - 1 + 1) r) (i - 1)
-      turning-next f stands r e =
-          let s = next-stands p f (getD old (i - 1 + 1) blank) (getD old (i - 1) blank) (rowAt p old (i - 1 + 1)) (rowAt p old (i - 1))
-          (getD key (getD (k .bounds) (i - 1 + 1) 0) 0) (markByte (markAt (part ps (i - 1)) q))
+      turning-next stands r e =
+          let s = next-stands p (getD old (i - 1 + 1) blank) (getD old (i - 1) blank) (rowAt p old (i - 1 + 1)) (rowAt p old (i - 1))
+          (getD key (getD bounds (i - 1 + 1) 0) 0) (markByte (markAt (part ps (i - 1)) q)) (mark-digit _ (part ps (i - 1)) q refl)
           (stands (i - 1 + 1) (omega (arith, T .upto))) (stands (i - 1) (omega (arith, T .upto))) in
           more r (rw (e, T .same (i - 1 + 1) (omega arith), T .same (i - 1) (omega arith), ← B .part (i - 1) (omega (arith, T .upto)))
           (rw (mark-in (part ps (i - 1)) q, binding-at (i - 1 + 1) (omega (arith, T .upto))) at s))
 
     -- ---- One more position
 
-    pub passing-next : (qs : List Position) (rows : List Marks) (i : ℕ) → p < queryParts → Passing ps qs top p old → Turning ps q top p old rows i → i ≤ 0
-        → drop p qs ≡ q ∷ drop (p + 1) qs → p + 1 < length qs → (r : Marks) → r ≡ skipped (getD rows 0 blank) (getD key (getD (k .bounds) 0 0) 0)
+    pub first-roomy : (qs : List Position) (rows : List Marks) (i : ℕ) → p < queryParts → Passing ps qs top p old → Turning ps q top p old rows i → Roomy p (getD rows 0 blank)
+    first-roomy qs rows i f P T = rw (T .same 0 (omega arith)) (stands-roomy p _ _ f (P .stands 0 (omega arith)))
+
+    pub passing-next : (qs : List Position) (rows : List Marks) (i : ℕ) → Passing ps qs top p old → Turning ps q top p old rows i → i ≤ 0
+        → drop p qs ≡ q ∷ drop (p + 1) qs → p + 1 < length qs → (r : Marks) → r ≡ skipped (getD rows 0 blank) (getD key 0 0) p
         → Passing ps qs top (p + 1) (set rows 0 r)
-    passing-next qs rows i f P T z e h r g = record {
+    passing-next qs rows i P T z e h r g = record {
       size = length-set rows 0 r ∙ T .size;
       row = P .row ∙ ap (reached ps top (rowAt p old)) e
           ∙ reached-turned ps top (rowAt p old) (rowAt (p + 1) (set rows 0 r)) q (drop (p + 1) qs) all (omega (arith, length-drop (p + 1) qs)) first next;
@@ -163,8 +171,8 @@ module _ (key : List ℕ) (k : Key) (B : Bounded key k) where
 
         skips : Stands (p + 1) r (extended (rowAt p old 0) (skipOf (part ps 0 .binding)))
         skips =
-            let s = skipped-stands p f (getD old 0 blank) (rowAt p old 0) (getD key (getD (k .bounds) 0 0) 0) (P .stands 0 (omega arith)) in
-            rw (g, T .same 0 (omega arith)) (rw (binding-at 0 (B .some)) at s)
+            let s = skipped-stands p (getD old 0 blank) (rowAt p old 0) (getD key 0 0) (P .stands 0 (omega arith)) in
+            rw (g, T .same 0 (omega arith)) (rw (rw (B .first) at (binding-at 0 (B .some))) at s)
 
         turn : (j : ℕ) → j < top → Stands (p + 1) (getD (set rows 0 r) (j + 1) blank) (turned ps q p old j)
         turn j l = rw (other j) (T .turned-row j (omega arith) l)
@@ -181,14 +189,17 @@ module _ (key : List ℕ) (k : Key) (B : Bounded key k) where
 
   -- ---- The last part at the last position
 
-  pub last-bounds : (getD (k .bounds) top 0 + 1 < getD (k .bounds) (top + 1) 0) × (getD (k .bounds) (top + 1) 0 ≤ length key)
+  pub last-bounds : (getD bounds top 0 + 1 < getD bounds (top + 1) 0) × (getD bounds (top + 1) 0 ≤ length key)
   last-bounds = (B .rises top (omega (arith, B .some)), B .inside (top + 1) (omega (arith, B .some)))
 
-  pub passing-last : (qs : List Position) (p : ℕ) (rows : List Marks) (q : Position) (m : ℕ) (r : Marks) → p < queryParts → Passing ps qs top p rows → drop p qs ≡ q ∷ []
-      → m ≡ markByte (markAt (partBetween key (getD (k .bounds) top 0) (getD (k .bounds) (top + 1) 0)) q)
+  pub last-roomy : (qs : List Position) (p : ℕ) (rows : List Marks) → p < queryParts → Passing ps qs top p rows → Roomy p (getD rows top blank)
+  last-roomy qs p rows f P = stands-roomy p _ _ f (P .stands top (omega arith))
+
+  pub passing-last : (qs : List Position) (p : ℕ) (rows : List Marks) (q : Position) (m : ℕ) (r : Marks) → Passing ps qs top p rows → drop p qs ≡ q ∷ []
+      → m ≡ markByte (markAt (partBetween key (getD bounds top 0) (getD bounds (top + 1) 0)) q)
       → r ≡ stepped (getD rows top blank) m p → r ≡ marksOf (rankOf ps qs)
-  passing-last qs p rows q m r f P e g h =
-      let s = stepped-stands p f (getD rows top blank) (rowAt p rows top) (markByte (markAt (part ps top) q)) (P .stands top (omega arith)) in
+  passing-last qs p rows q m r P e g h =
+      let s = stepped-stands p (getD rows top blank) (rowAt p rows top) (markByte (markAt (part ps top) q)) (mark-digit _ (part ps top) q refl) (P .stands top (omega arith)) in
       let z : m ≡ markByte (markAt (part ps top) q) = rw (B .part top (omega (arith, B .some))) g in
       let w : extended (rowAt p rows top) (markIn (markByte (markAt (part ps top) q))) ≡ rankOf ps qs =
       rw (mark-in (part ps top) q) (sym (P .row ∙ ap (reached ps top (rowAt p rows)) e ∙ reached-last ps top (rowAt p rows) q all)) in

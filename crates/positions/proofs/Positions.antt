@@ -1,20 +1,17 @@
 -- A query's positions, one by one. Assumes nothing.
-use mathlib.Core.Bool.{true, false}
-use mathlib.Core.List.{List, [], _∷_, _++_}
+use mathlib.Core.List.{List, [], _∷_, _++_, map}
 use mathlib.Core.Option.{Option, some, none}
 use mathlib.Core.Path.{_≡_, refl, sym, ap, _∙_}
 use Prim.Native.Nat.{ℕ, zero, suc, _+_, _-_, _≤_, _<_, max}
 use native.Mathlib.Omega.{arith}
 use native.Mathlib.Numerals.{add-one}
 use native.Mathlib.Decide.{decLt}
-use lib.ListN.{length, getD, take, drop, length-map, drop-of-length-le, take-append-drop}
+use lib.ListN.{length, getD, take, drop, length-map, length-take, length-drop, drop-of-length-le, take-append-drop}
 use borrow.Author.Tests.{lt-ltb, le-ltb}
 use Rattle.definition.specs.Query.{Position, positionsOf}
-use Rattle.query.specs.Splits.{each, partIn, namesIn, Inside}
-use Rattle.query.specs.declared.Split.{Split}
-use Rattle.query.proofs.Splits.{length-names}
-use Rattle.positions.specs.declared.Span.{Span}
-use Rattle.positions.specs.Spans.{spanOf, spanned, Within, positionIn, queried}
+use Rattle.query.specs.Splits.{partIn, namesIn, Inside}
+use Rattle.query.proofs.Splits.{length-names, name-at}
+use Rattle.positions.specs.Parts.{partAt, partOf, positionOf, queried}
 
 -- the i-th, if there is one
 unfoldable nth : {A : Type 0} → List A → ℕ → Option A
@@ -40,65 +37,72 @@ position-at (n ∷ ns) (c ∷ cs) zero h = refl
 position-at (n ∷ ns) (c ∷ cs) (suc i) h = position-at ns cs i (omega arith)
 
 module _ {A : Type 0} where
-  nth-each : (n : ℕ) (f : ℕ → A) (i : ℕ) → i < n → nth (each n f) i ≡ some (f i)
-  unfolding each nth
-  nth-each zero f i h = absurd (omega arith)
-  nth-each (suc n) f zero h = refl
-  nth-each (suc n) f (suc i) h = nth-each n (λ j. f (suc j)) i (omega arith)
+  nth-here : (xs : List A) (i : ℕ) (d : A) → i < length xs → nth xs i ≡ some (getD xs i d)
+  unfolding nth
+  nth-here [] i d h = absurd (omega arith)
+  nth-here (x ∷ xs) zero d h = refl
+  nth-here (x ∷ xs) (suc i) d h = nth-here xs i d (omega arith)
 
-  nth-past : (n : ℕ) (f : ℕ → A) (i : ℕ) → n ≤ i → nth (each n f) i ≡ none
-  unfolding each nth
-  nth-past zero f i h = refl
-  nth-past (suc n) f zero h = absurd (omega arith)
-  nth-past (suc n) f (suc i) h = nth-past n (λ j. f (suc j)) i (omega arith)
+  nth-past : (xs : List A) (i : ℕ) → length xs ≤ i → nth xs i ≡ none
+  unfolding nth
+  nth-past [] i h = refl
+  nth-past (x ∷ xs) zero h = absurd (omega arith)
+  nth-past (x ∷ xs) (suc i) h = nth-past xs i (omega arith)
 
--- a part that the split has at i, and none past its count
-module _ (t : List ℕ) (s : Split) (i : ℕ) where
-  span-here : i < s .count → spanOf s i ≡ record { here = true; start = getD (s .starts) i 0; end = getD (s .starts) i 0 + getD (s .lengths) i 0 }
-  span-here h = rw (lt-ltb i (s .count) h) refl
+part-some : (t : List ℕ) → 0 < length t → partOf t ≡ some t
+unfolding partOf
+part-some [] h = absurd (omega arith)
+part-some (c ∷ t) h = refl
 
-  span-past : s .count ≤ i → spanOf s i ≡ record { here = false; start = 0; end = 0 }
-  span-past h = rw (le-ltb i (s .count) h) refl
+-- the part at i, and none past the last
+module _ (t starts lengths : List ℕ) (i : ℕ) where
+  part-here : i < length starts → partIn t starts lengths i ≡ partAt t starts lengths i
+  unfolding partAt
+  part-here h = rw (lt-ltb i (length starts) h) refl
 
-  spanned-is : nth (namesIn t s) i ≡ spanned t (spanOf s i)
-  unfolding namesIn
-  spanned-is = at (decLt i (s .count))
+  pub part-between : i < length starts → take (getD starts i 0 + getD lengths i 0 - getD starts i 0) (drop (getD starts i 0) t) ≡ partAt t starts lengths i
+  part-between h = let z : getD starts i 0 + getD lengths i 0 - getD starts i 0 ≡ getD lengths i 0 = omega arith in rw z (part-here h)
+
+  pub part-past : length starts ≤ i → [] ≡ partAt t starts lengths i
+  unfolding partAt
+  part-past h = rw (le-ltb i (length starts) h) refl
+
+  part-is : Inside t starts lengths → nth (namesIn t starts lengths) i ≡ partOf (partAt t starts lengths i)
+  part-is k = at (decLt i (length starts))
     where
-      at : Dec (i < s .count) → nth (each (s .count) (partIn t s)) i ≡ spanned t (spanOf s i)
+      at : Dec (i < length starts) → nth (namesIn t starts lengths) i ≡ partOf (partAt t starts lengths i)
       at (yes h) =
-          let e : getD (s .starts) i 0 + getD (s .lengths) i 0 - getD (s .starts) i 0 ≡ getD (s .lengths) i 0 = omega arith in
-          rw (span-here h, e) (nth-each (s .count) (partIn t s) i h)
-      at (no h) = rw (span-past (omega arith)) (nth-past (s .count) (partIn t s) i (omega arith))
-
-  pub span-within : Inside t s → (p : Span) → p ≡ spanOf s i → Within t p
-  span-within k p e = rw e (at (decLt i (s .count)))
-    where
-      at : Dec (i < s .count) → Within t (spanOf s i)
-      at (yes h) = rw (span-here h) (record { ordered = omega arith; inside = k .within i h })
-      at (no h) = rw (span-past (omega arith)) (record { ordered = omega arith; inside = omega arith })
+          let s : length (partIn t starts lengths i) ≡ getD lengths i 0 =
+          length-take (getD lengths i 0) (drop (getD starts i 0) t) ∙ omega (arith, length-drop (getD starts i 0) t, k .within i h) in
+          nth-here (namesIn t starts lengths) i [] (omega (arith, length-names t starts lengths)) ∙ ap some (name-at t starts lengths i [] h)
+          ∙ sym (rw (← part-here h) (part-some (partIn t starts lengths i) (omega (arith, k .some i h))))
+      at (no h) =
+          nth-past (namesIn t starts lengths) i (omega (arith, length-names t starts lengths)) ∙ rw (← part-past (omega arith)) (unfold partOf in refl)
 
 -- ---- The positions of a split query
 
-module _ (name : List ℕ) (names : Split) (class : List ℕ) (classes : Split) where
-  pub length-queried : length (queried name names class classes) ≡ max (names .count) (classes .count)
-  length-queried = length-positions _ _ ∙ rw (length-names name names, length-names class classes) refl
+module _ (name ns nl class cs cl : List ℕ) where
+  abbrev all : List Position
+  all = queried name ns nl class cs cl
 
-  -- the i-th, which is what the code's spans stand for
-  pub queried-at : (i : ℕ) → i < max (names .count) (classes .count) → (n c : Span) → n ≡ spanOf names i → c ≡ spanOf classes i
-      → drop i (queried name names class classes) ≡ positionIn name n class c ∷ drop (i + 1) (queried name names class classes)
-  queried-at i h n c e f =
-      let k : i < max (length (namesIn name names)) (length (namesIn class classes)) = rw (length-names name names, length-names class classes) h in
-      position-at (namesIn name names) (namesIn class classes) i k
-      ∙ rw (e, f, spanned-is name names i, spanned-is class classes i, add-one) refl
+  pub length-queried : length all ≡ max (length ns) (length cs)
+  length-queried = length-positions _ _ ∙ rw (length-names name ns nl, length-names class cs cl) refl
 
-  pub queried-last : (last : ℕ) → last + 1 ≡ max (names .count) (classes .count) → (n c : Span) → n ≡ spanOf names last → c ≡ spanOf classes last
-      → drop last (queried name names class classes) ≡ positionIn name n class c ∷ []
-  queried-last last e n c d f =
-      let z : drop (last + 1) (queried name names class classes) ≡ [] = drop-of-length-le (queried name names class classes) {i = last + 1} (omega (arith, length-queried)) in
-      queried-at last (omega arith) n c d f ∙ rw z refl
+  module _ (I : Inside name ns nl) (J : Inside class cs cl) where
+    -- the i-th, of the parts that the code has there
+    pub queried-at : (i : ℕ) → i < max (length ns) (length cs) → (n c : List ℕ) → n ≡ partAt name ns nl i → c ≡ partAt class cs cl i
+        → drop i all ≡ positionOf n c ∷ drop (i + 1) all
+    queried-at i h n c e f =
+        let k : i < max (length (namesIn name ns nl)) (length (namesIn class cs cl)) = rw (length-names name ns nl, length-names class cs cl) h in
+        position-at (namesIn name ns nl) (namesIn class cs cl) i k
+        ∙ rw (e, f, part-is name ns nl i I, part-is class cs cl i J, add-one) refl
 
-  -- all positions but the last, and the last
-  pub queried-ends : (last : ℕ) → last + 1 ≡ max (names .count) (classes .count) → (n c : Span) → n ≡ spanOf names last → c ≡ spanOf classes last
-      → queried name names class classes ≡ take last (queried name names class classes) ++ (positionIn name n class c ∷ [])
-  queried-ends last e n c d f =
-      sym (take-append-drop last (queried name names class classes)) ∙ ap (λ (l : List Position). take last (queried name names class classes) ++ l) (queried-last last e n c d f)
+    module _ (last : ℕ) (e : last + 1 ≡ max (length ns) (length cs)) (n c : List ℕ) (d : n ≡ partAt name ns nl last) (f : c ≡ partAt class cs cl last) where
+      pub queried-last : drop last all ≡ positionOf n c ∷ []
+      queried-last =
+          let z : drop (last + 1) all ≡ [] = drop-of-length-le all {i = last + 1} (omega (arith, length-queried)) in
+          queried-at last (omega arith) n c d f ∙ rw z refl
+
+      -- all positions but the last, and the last
+      pub queried-ends : all ≡ take last all ++ (positionOf n c ∷ [])
+      queried-ends = sym (take-append-drop last all) ∙ ap (λ (l : List Position). take last all ++ l) queried-last

@@ -1,2 +1,2 @@
--- What the code's spans and bytes stand for.
-pub mod Spans
+-- What the code's parts and bytes stand for.
+pub mod Parts

@@ -1,16 +1,17 @@
--- Laws of lists by their indexes, and of what a split stands for. Assumes nothing.
-use mathlib.Core.List.{List, [], _∷_, _++_, map, append-assoc}
+-- Laws of lists by their indexes, of what parts stand for, and of what is kept of them. Assumes nothing.
+use mathlib.Core.List.{List, [], _∷_, _++_, map}
 use mathlib.Core.Path.{_≡_, refl, sym, ap, _∙_}
 use Prim.Native.Nat.{ℕ, zero, suc, _+_, _-_, _≤_, _<_}
 use native.Mathlib.Omega.{arith}
-use lib.ListN.{length, getD, drop, set, length-append, length-drop, length-map, List·getD-append}
-use lib.Seq.{ext-getD, set-append-seam}
-use Rattle.definition.specs.Lists.{zeroes}
+use lib.ListN.{length, getD, take, drop, set, length-drop, length-map}
+use lib.Seq.{ext-getD}
 use Rattle.definition.specs.Limits.{queryParts}
 use Rattle.definition.specs.Bytes.{isName}
 use Rattle.laws.proofs.Lists.{take-run, getD-map, length-takeWhile-le}
-use Rattle.query.specs.Splits.{nameFrom, padded, splitAt, each, partIn, namesIn}
-use Rattle.query.specs.declared.Split.{Split}
+use Rattle.query.specs.Splits.{nameFrom, lengthFrom, each, partIn, namesIn, Inside}
+use Rattle.query.specs.Shapes.{keptOver}
+
+-- ---- Lists by their indexes
 
 module _ {A : Type 0} where
   length-each : (n : ℕ) (f : ℕ → A) → length (each n f) ≡ n
@@ -24,53 +25,68 @@ module _ {A : Type 0} where
   getD-each (suc n) f zero d h = refl
   getD-each (suc n) f (suc i) d h = getD-each n (λ j. f (suc j)) i d (omega arith)
 
-module _ (text : List ℕ) (split : Split) where
-  pub length-names : length (namesIn text split) ≡ split .count
+module _ (text starts lengths : List ℕ) where
+  pub length-names : length (namesIn text starts lengths) ≡ length starts
   unfolding namesIn
-  length-names = length-each (split .count) (partIn text split)
+  length-names = length-each (length starts) (partIn text starts lengths)
 
-  name-at : (i : ℕ) (d : List ℕ) → i < split .count → getD (namesIn text split) i d ≡ partIn text split i
+  pub name-at : (i : ℕ) (d : List ℕ) → i < length starts → getD (namesIn text starts lengths) i d ≡ partIn text starts lengths i
   unfolding namesIn
-  name-at i d h = getD-each (split .count) (partIn text split) i d h
+  name-at i d h = getD-each (length starts) (partIn text starts lengths) i d h
 
--- ---- Padded lists
-
-getD-padded : (xs : List ℕ) (i : ℕ) → i < length xs → getD (padded xs) i 0 ≡ getD xs i 0
-unfolding padded
-getD-padded xs i h = List·getD-append xs (zeroes (queryParts - length xs)) 0 i h
-
--- one more
-pub padded-more : (xs : List ℕ) (x : ℕ) → length xs < queryParts → set (padded xs) (length xs) x ≡ padded (xs ++ (x ∷ []))
-unfolding padded zeroes
-padded-more xs x h =
-    let z : queryParts - length xs ≡ suc (queryParts - length (xs ++ (x ∷ []))) = omega (arith, length-append xs (x ∷ [])) in
-    rw (z, set-append-seam xs 0 (zeroes (queryParts - length (xs ++ (x ∷ [])))) x, append-assoc) refl
-
--- ---- The split of parts that begin at `starts`
+-- ---- Parts that begin at `starts`
 
 module _ (t starts : List ℕ) where
-  part-length : (i : ℕ) → i < length starts → getD (splitAt t starts .lengths) i 0 ≡ length (nameFrom t (getD starts i 0))
-  unfolding splitAt
-  part-length i h =
-      getD-padded (map (λ at. length (nameFrom t at)) starts) i (omega (arith, length-map starts (λ at. length (nameFrom t at))))
-      ∙ getD-map (λ at. length (nameFrom t at)) starts i 0 0 h
+  abbrev lengths : List ℕ
+  lengths = map (lengthFrom t) starts
 
-  part-start : (i : ℕ) → i < length starts → getD (splitAt t starts .starts) i 0 ≡ getD starts i 0
-  unfolding splitAt
-  part-start i h = getD-padded starts i h
+  part-length : (i : ℕ) → i < length starts → getD lengths i 0 ≡ lengthFrom t (getD starts i 0)
+  part-length i h = getD-map (lengthFrom t) starts i 0 0 h
 
-  part-from : (i : ℕ) → i < length starts → partIn t (splitAt t starts) i ≡ nameFrom t (getD starts i 0)
-  part-from i h = rw (part-length i h, part-start i h) (take-run isName (drop (getD starts i 0) t))
+  part-from : (i : ℕ) → i < length starts → partIn t starts lengths i ≡ nameFrom t (getD starts i 0)
+  part-from i h = rw (part-length i h) (take-run isName (drop (getD starts i 0) t))
 
-  pub names-from : namesIn t (splitAt t starts) ≡ map (nameFrom t) starts
-  unfolding splitAt
+  pub names-from : namesIn t starts lengths ≡ map (nameFrom t) starts
   names-from =
-      ext-getD [] _ _ (length-names t (splitAt t starts) ∙ sym (length-map starts (nameFrom t)))
-      (λ i h. let k : i < length starts = omega (arith, length-names t (splitAt t starts)) in
-      name-at t (splitAt t starts) i [] k ∙ part-from i k ∙ sym (getD-map (nameFrom t) starts i 0 [] k))
+      ext-getD [] _ _ (length-names t starts lengths ∙ sym (length-map starts (nameFrom t)))
+      (λ i h. let k : i < length starts = omega (arith, length-names t starts lengths) in
+      name-at t starts lengths i [] k ∙ part-from i k ∙ sym (getD-map (nameFrom t) starts i 0 [] k))
 
-  pub part-ends : (i : ℕ) → i < length starts → getD starts i 0 ≤ length t
-      → getD (splitAt t starts .starts) i 0 + getD (splitAt t starts .lengths) i 0 ≤ length t
-  part-ends i h k =
-      rw (part-start i h, part-length i h)
-      (omega (arith, length-takeWhile-le isName (drop (getD starts i 0) t), length-drop (getD starts i 0) t))
+  pub parts-inside : length starts ≤ queryParts → ((i : ℕ) → i < length starts → getD starts i 0 ≤ length t)
+      → ((i : ℕ) → i < length starts → 0 < lengthFrom t (getD starts i 0)) → Inside t starts lengths
+  parts-inside few begin some = record {
+    few = few;
+    same = length-map starts (lengthFrom t);
+    some = λ i h. rw (part-length i h) (some i h);
+    within = λ i h. rw (part-length i h)
+        (omega (arith, begin i h, length-takeWhile-le isName (drop (getD starts i 0) t), length-drop (getD starts i 0) t));
+  }
+
+-- ---- What is kept
+
+pub kept-long : (ps held : List ℕ) → length (keptOver ps held) ≡ length held
+unfolding keptOver
+kept-long [] held = refl
+kept-long (p ∷ ps) [] = refl
+kept-long (p ∷ ps) (h ∷ hs) = ap suc (kept-long ps hs)
+
+-- one more, where there is room, and where there is none
+pub kept-more : (ps held : List ℕ) (x : ℕ) → length ps < length held → keptOver (ps ++ (x ∷ [])) held ≡ set (keptOver ps held) (length ps) x
+unfolding keptOver
+kept-more [] [] x h = absurd (omega arith)
+kept-more [] (g ∷ held) x h = refl
+kept-more (p ∷ ps) [] x h = absurd (omega arith)
+kept-more (p ∷ ps) (g ∷ held) x h = ap (λ (l : List ℕ). p ∷ l) (kept-more ps held x (omega arith))
+
+pub kept-full : (ps held : List ℕ) (x : ℕ) → length held ≤ length ps → keptOver (ps ++ (x ∷ [])) held ≡ keptOver ps held
+unfolding keptOver
+kept-full [] [] x h = refl
+kept-full [] (g ∷ held) x h = absurd (omega arith)
+kept-full (p ∷ ps) [] x h = refl
+kept-full (p ∷ ps) (g ∷ held) x h = ap (λ (l : List ℕ). p ∷ l) (kept-full ps held x (omega arith))
+
+pub kept-front : (ps held : List ℕ) → length ps ≤ length held → take (length ps) (keptOver ps held) ≡ ps
+unfolding keptOver
+kept-front [] held h = refl
+kept-front (p ∷ ps) [] h = absurd (omega arith)
+kept-front (p ∷ ps) (g ∷ held) h = ap (λ (l : List ℕ). p ∷ l) (kept-front ps held (omega arith))

@@ -1,4 +1,4 @@
--- The invariant of `parse_query`: the parts found so far, before those of the rest, are the text's. Assumes nothing.
+-- The invariant of `split_names`: the parts found so far, before those of the rest, are the text's. Assumes nothing.
 use mathlib.Core.Bool.{false}
 use mathlib.Core.List.{List, [], _∷_, _++_, map, map-append, append-assoc, append-nil}
 use mathlib.Core.Option.{some, none}
@@ -6,16 +6,16 @@ use mathlib.Core.Path.{_≡_, refl, sym, ap, subst, _∙_}
 use Prim.Native.Nat.{ℕ, zero, suc, _+_, _-_, _≤_, _<_}
 use native.Mathlib.Omega.{arith}
 use lib.Dec.{eqb}
-use lib.ListN.{length, take, drop, set, length-set, length-append, length-drop, length-map}
-use Rattle.definition.specs.Lists.{takeWhile, dropWhile, zeroes}
-use Rattle.definition.specs.Limits.{queryParts}
+use lib.ListN.{length, take, drop, set, length-append, length-drop, length-map}
+use lib.Seq.{take-append-seam}
+use Rattle.definition.specs.Lists.{takeWhile, dropWhile}
 use Rattle.definition.specs.Bytes.{dot, isName}
 use Rattle.definition.specs.Query.{namesOf}
 use Rattle.laws.proofs.Lists.{dropWhile-le, length-takeWhile-le, drop-run, part-rest, Suffix, suffix-whole, suffix-run}
-use Rattle.query.specs.Splits.{partStarts, nameFrom, padded, splitAt, noParts}
-use Rattle.query.specs.declared.Split.{Split}
-use Rattle.query.proofs.Splits.{padded-more}
-use Rattle.query.proofs.Taken.{before, before-none-yet, before-one-more, names-end, names-stop, names-more}
+use Rattle.query.specs.Splits.{partStarts, nameFrom, lengthFrom}
+use Rattle.query.specs.Shapes.{keptOver}
+use Rattle.query.proofs.Splits.{kept-long, kept-more, kept-full}
+use Rattle.query.proofs.Taken.{before, before-none-yet, before-one-more, names-end, names-stop, names-more, itemsOf, items-stop, items-more}
 use Rattle.query.proofs.Starts.{startsLeft, starts-more, starts-end}
 
 -- ---- Parts that are found
@@ -24,12 +24,14 @@ use Rattle.query.proofs.Starts.{startsLeft, starts-more, starts-end}
 pub record PartsFound (text found rest : List ℕ) : Type 0 where
   pub suffix : Suffix rest text
   pub names : namesOf text ≡ before (map (nameFrom text) found) (namesOf rest)
+  pub items : itemsOf text ≡ map (nameFrom text) found ++ itemsOf rest
   pub starts : partStarts text ≡ found ++ startsLeft (length text) false rest
 
 pub none-found : (text : List ℕ) → PartsFound text [] text
 none-found text = record {
   suffix = suffix-whole text;
   names = before-none-yet (namesOf text);
+  items = refl;
   starts = let z : length text - length text ≡ 0 = omega arith in rw z refl;
 }
 
@@ -46,8 +48,17 @@ module _ {text found rest : List ℕ} (F : PartsFound text found rest) where
         F .names ∙ ap (before (map (nameFrom text) found)) (names-more rest h)
         ∙ before-one-more (map (nameFrom text) found) (takeWhile isName rest) (namesOf (afterPart rest))
         ∙ rw (map-append (nameFrom text) found ((length text - length rest) ∷ []), e) refl;
+    items =
+        let e : nameFrom text (length text - length rest) ≡ takeWhile isName rest = ap (takeWhile isName) (F .suffix .same) in
+        F .items ∙ rw (items-more rest h, map-append (nameFrom text) found ((length text - length rest) ∷ []), e, append-assoc) refl;
     starts = F .starts ∙ rw (starts-more (length text) rest (F .suffix .most) h, append-assoc) refl;
   }
+
+  -- no more are found
+  pub found-starts : length (takeWhile isName rest) ≡ 0 → take (length (itemsOf text)) (partStarts text) ≡ found
+  found-starts e =
+      let n : length (itemsOf text) ≡ length found = rw (F .items, items-stop rest e, append-nil (map (nameFrom text) found)) (length-map found (nameFrom text)) in
+      rw (n, F .starts) (take-append-seam found (startsLeft (length text) false rest))
 
   pub found-stop : 0 < length rest → length (takeWhile isName rest) ≡ 0 → namesOf text ≡ none
   unfolding before
@@ -91,28 +102,26 @@ names-parts text ns e = go (suc (length text)) [] text (omega arith) (none-found
 
 -- ---- The loop
 
-pub record Splitting (text : List ℕ) (split : Split) (rest : List ℕ) : Type 0 where
+-- `starts` and `lengths` have the parts that are found, as many as there is room for, in the place of what was held
+pub record Splitting (text held held-lengths starts lengths : List ℕ) (count : ℕ) (rest : List ℕ) : Type 0 where
   pub found : List ℕ
-  pub parts : PartsFound text found rest
-  pub counted : length found ≡ split .count
-  pub most : split .count + length rest ≤ length text
-  pub starts-room : length (split .starts) ≡ queryParts
-  pub lengths-room : length (split .lengths) ≡ queryParts
-  pub held : split .count ≤ queryParts → split ≡ splitAt text found
+  pub parts-found : PartsFound text found rest
+  pub counted : length found ≡ count
+  pub most : count + length rest ≤ length text
+  pub kept : starts ≡ keptOver found held
+  pub kept-lengths : lengths ≡ keptOver (map (lengthFrom text) found) held-lengths
 
-pub begun : (text : List ℕ) (split : Split) → split ≡ noParts → Splitting text split text
-unfolding splitAt padded zeroes
-begun text split e = rw e record {
-  found = [];
-  parts = none-found text;
-  counted = refl;
-  most = omega arith;
-  starts-room = refl;
-  lengths-room = refl;
-  held = λ h. refl;
-}
+pub begun : (text held held-lengths : List ℕ) → Splitting text held held-lengths held held-lengths 0 text
+unfolding keptOver
+begun text held held-lengths = record { found = []; parts-found = none-found text; counted = refl; most = omega arith; kept = refl; kept-lengths = refl }
 
-module _ {text : List ℕ} {split : Split} {rest : List ℕ} (S : Splitting text split rest) where
+module _ {text held held-lengths starts lengths : List ℕ} {count : ℕ} {rest : List ℕ} (S : Splitting text held held-lengths starts lengths count rest) where
+  pub as-long : length starts ≡ length held
+  as-long = ap length (S .kept) ∙ kept-long (S .found) held
+
+  pub lengths-as-long : length lengths ≡ length held-lengths
+  lengths-as-long = ap length (S .kept-lengths) ∙ kept-long (map (lengthFrom text) (S .found)) held-lengths
+
   -- a turn: n bytes of a name, and what is left after its dots
   module _ {n : ℕ} (e : n ≡ length (takeWhile isName rest)) (z : (n ≡ 0 → ⊥)) {left : List ℕ} (d : left ≡ dropWhile (eqb dot) (take (length rest - n) (drop n rest))) where
     left-is : left ≡ afterPart rest
@@ -121,56 +130,34 @@ module _ {text : List ℕ} {split : Split} {rest : List ℕ} (S : Splitting text
     pub shorter : length left + n ≤ length rest
     shorter = omega (arith, ap length left-is, part-shorter rest)
 
-    abbrev found′ : List ℕ
-    found′ = S .found ++ ((length text - length rest) ∷ [])
+    abbrev start : ℕ
+    start = length text - length rest
 
-    parts′ : PartsFound text found′ left
-    parts′ = subst (PartsFound text found′) (sym left-is) (found-more (S .parts) (omega (arith, z)))
+    -- the lengths with that of the part that is found
+    with-length : map (lengthFrom text) (S .found ++ (start ∷ [])) ≡ map (lengthFrom text) (S .found) ++ n ∷ []
+    with-length =
+        let f : n ≡ lengthFrom text start = e ∙ sym (ap (λ (u : List ℕ). length (takeWhile isName u)) (S .parts-found .suffix .same)) in
+        map-append (lengthFrom text) (S .found) (start ∷ []) ∙ rw (← f) refl
 
-    counted′ : length found′ ≡ split .count + 1
-    counted′ = length-append (S .found) ((length text - length rest) ∷ []) ∙ omega (arith, S .counted)
+    counts : length (map (lengthFrom text) (S .found)) ≡ count
+    counts = length-map (S .found) (lengthFrom text) ∙ S .counted
 
-    pub past : queryParts ≤ split .count → Splitting text (record { starts = split .starts; lengths = split .lengths; count = split .count + 1 }) left
-    past h = record {
-      found = found′;
-      parts = parts′;
-      counted = counted′;
+    next : (starts′ lengths′ : List ℕ) → starts′ ≡ keptOver (S .found ++ start ∷ []) held → lengths′ ≡ keptOver (map (lengthFrom text) (S .found) ++ n ∷ []) held-lengths
+        → Splitting text held held-lengths starts′ lengths′ (count + 1) left
+    next starts′ lengths′ k l = record {
+      found = S .found ++ (start ∷ []);
+      parts-found = subst (PartsFound text (S .found ++ (start ∷ []))) (sym left-is) (found-more (S .parts-found) (omega (arith, z)));
+      counted = length-append (S .found) (start ∷ []) ∙ omega (arith, S .counted);
       most = omega (arith, S .most, shorter);
-      starts-room = S .starts-room;
-      lengths-room = S .lengths-room;
-      held = λ k. absurd (omega arith);
+      kept = k;
+      kept-lengths = l ∙ ap (λ (m : List ℕ). keptOver m held-lengths) (sym with-length);
     }
 
-    abbrev kept-split : Split
-    kept-split = record {
-      starts = set (split .starts) (split .count) (length text - length rest);
-      lengths = set (split .lengths) (split .count) n;
-      count = split .count + 1;
-    }
+    module _ (same : length held-lengths ≡ length held) where
+      pub past : length held ≤ count → Splitting text held held-lengths starts lengths (count + 1) left
+      past h = next starts lengths (S .kept ∙ sym (kept-full (S .found) held start (omega (arith, S .counted))))
+          (S .kept-lengths ∙ sym (kept-full (map (lengthFrom text) (S .found)) held-lengths n (omega (arith, counts))))
 
-    module _ (h : split .count < queryParts) where
-      held′ : kept-split ≡ splitAt text found′
-      unfolding splitAt
-      held′ =
-          let f : ℕ → ℕ = λ at. length (nameFrom text at) in
-          let s = S .held (omega arith) in
-          let k : length (S .found) < queryParts = omega (arith, S .counted) in
-          let c : split .count ≡ length (map f (S .found)) = sym (length-map (S .found) f ∙ S .counted) in
-          let starts : set (split .starts) (split .count) (length text - length rest) ≡ padded found′ =
-          rw (← S .counted, ap (λ (x : Split). x .starts) s) (padded-more (S .found) (length text - length rest) k) in
-          let new : f (length text - length rest) ≡ n = ap (λ (u : List ℕ). length (takeWhile isName u)) (S .parts .suffix .same) ∙ sym e in
-          let lengths : set (split .lengths) (split .count) n ≡ padded (map f found′) =
-          let more : map f found′ ≡ map f (S .found) ++ (n ∷ []) = rw (map-append f (S .found) ((length text - length rest) ∷ []), new) refl in
-          rw (ap (λ (x : Split). x .lengths) s, c, more) (padded-more (map f (S .found)) n (omega arith)) in
-          λ i. record { starts = starts i; lengths = lengths i; count = sym counted′ i }
-
-      pub kept : Splitting text kept-split left
-      kept = record {
-        found = found′;
-        parts = parts′;
-        counted = counted′;
-        most = omega (arith, S .most, shorter);
-        starts-room = length-set (split .starts) (split .count) _ ∙ S .starts-room;
-        lengths-room = length-set (split .lengths) (split .count) _ ∙ S .lengths-room;
-        held = λ k. held′;
-      }
+      pub more : count < length held → Splitting text held held-lengths (set starts count start) (set lengths count n) (count + 1) left
+      more h = next _ _ (rw (S .kept, ← S .counted) (sym (kept-more (S .found) held start (omega (arith, S .counted)))))
+          (rw (S .kept-lengths, ← counts) (sym (kept-more (map (lengthFrom text) (S .found)) held-lengths n (omega (arith, counts)))))

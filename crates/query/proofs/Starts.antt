@@ -5,7 +5,7 @@ use mathlib.Core.Path.{_≡_, refl, sym, ap, _∙_}
 use Prim.Native.Nat.{ℕ, zero, suc, _+_, _-_, _≤_, _<_}
 use native.Mathlib.Omega.{arith}
 use lib.Dec.{eqb}
-use lib.ListN.{length, getD}
+use lib.ListN.{length, getD, drop}
 use borrow.Author.Tests.{eqb-true}
 use Rattle.definition.specs.Lists.{if_then_else_, takeWhile, dropWhile}
 use Rattle.definition.specs.Bytes.{dot, isDigit, isName}
@@ -89,3 +89,33 @@ starts-inside named at (c ∷ t) i h = by (isName c && not named) i h (starts-in
     by true zero h ih = omega arith
     by true (suc i) h ih = omega (arith, ih i (omega arith))
     by false i h ih = omega (arith, ih i (omega arith))
+
+-- and none of them is empty
+pub starts-some : (named : Bool) (at : ℕ) (t : List ℕ) (i : ℕ) → i < length (startsFrom named at t)
+    → (at ≤ getD (startsFrom named at t) i 0) × (0 < length (takeWhile isName (drop (getD (startsFrom named at t) i 0 - at) t)))
+unfolding startsFrom takeWhile
+starts-some named at [] i h = absurd (omega arith)
+starts-some named at (c ∷ t) i h = by (isName c) refl (not named) i h (starts-some (isName c) (at + 1) t)
+  where
+    on : List ℕ
+    on = startsFrom (isName c) (at + 1) t
+
+    Some : ℕ → Type 0
+    Some x = (at ≤ x) × (0 < length (takeWhile isName (drop (x - at) (c ∷ t))))
+
+    later : (x : ℕ) → (at + 1 ≤ x) × (0 < length (takeWhile isName (drop (x - (at + 1)) t))) → Some x
+    later x s = let z : x - at ≡ suc (x - (at + 1)) = omega arith in (omega arith, rw z (s .1))
+
+    first : isName c ≡ true → Some at
+    first e = let z : at - at ≡ 0 = omega arith in (omega arith, rw (z, e) (omega arith))
+
+    by : (a : Bool) → isName c ≡ a → (b : Bool) (i : ℕ) → i < length ((if a && b then at ∷ [] else []) ++ on)
+        → ((j : ℕ) → j < length on → (at + 1 ≤ getD on j 0) × (0 < length (takeWhile isName (drop (getD on j 0 - (at + 1)) t))))
+        → Some (getD ((if a && b then at ∷ [] else []) ++ on) i 0)
+    by true e true zero h ih = first e
+    by true e true (suc i) h ih = later (getD on i 0) (ih i (omega arith))
+    by true e false i h ih = later (getD on i 0) (ih i h)
+    by false e b i h ih = later (getD on i 0) (ih i h)
+
+pub part-some : (t : List ℕ) (i : ℕ) → i < length (startsFrom false 0 t) → 0 < length (takeWhile isName (drop (getD (startsFrom false 0 t) i 0) t))
+part-some t i h = let z : getD (startsFrom false 0 t) i 0 - 0 ≡ getD (startsFrom false 0 t) i 0 = omega arith in rw z at (starts-some false 0 t i h .1)

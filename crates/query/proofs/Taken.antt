@@ -2,13 +2,13 @@
 use mathlib.Core.Bool.{Bool, true, false}
 use mathlib.Core.List.{List, [], _∷_, _++_, append-assoc}
 use mathlib.Core.Option.{Option, some, none}
-use mathlib.Core.Path.{_≡_, refl}
+use mathlib.Core.Path.{_≡_, refl, ap}
 use Prim.Native.Nat.{ℕ, _≤_, _<_}
 use native.Mathlib.Omega.{arith}
 use lib.Dec.{eqb}
 use lib.ListN.{length}
 use Rattle.definition.specs.Lists.{if_then_else_, takeWhile, dropWhile, isEmpty}
-use Rattle.definition.specs.Parsing.{many, atMost}
+use Rattle.definition.specs.Parsing.{Parsed, many, atMost}
 use Rattle.definition.specs.Bytes.{dot, isName}
 use Rattle.definition.specs.Query.{queryPartAt, namesOf}
 use Rattle.laws.proofs.Parsing.{many-stop, many-more}
@@ -69,3 +69,40 @@ names-more (c ∷ t) h = at (isName c) refl h
         rw (many-more queryPartAt query-part-shrinks (c ∷ t) (c ∷ takeWhile isName t) rest (rw k refl))
         (end (isEmpty (many queryPartAt rest .rest)) (many queryPartAt rest .items) (c ∷ takeWhile isName t))
     at false k h = absurd (omega arith)
+
+-- ---- The names that are found
+
+abbrev pub itemsOf : List ℕ → List (List ℕ)
+itemsOf t = many queryPartAt t .items
+
+abbrev items : Parsed (List ℕ) → List (List ℕ)
+items p = p .items
+
+pub items-stop : (t : List ℕ) → length (takeWhile isName t) ≡ 0 → itemsOf t ≡ []
+unfolding queryPartAt takeWhile
+items-stop [] e = unfold many atMost in refl
+items-stop (c ∷ t) e = at (isName c) refl e
+  where
+    at : (b : Bool) → isName c ≡ b → length (if b then c ∷ takeWhile isName t else []) ≡ 0 → itemsOf (c ∷ t) ≡ []
+    at true k e = absurd (omega arith)
+    at false k e = ap items (many-stop queryPartAt query-part-shrinks (c ∷ t) (rw k refl))
+
+pub items-more : (t : List ℕ) → 0 < length (takeWhile isName t) → itemsOf t ≡ takeWhile isName t ∷ itemsOf (dropWhile (eqb dot) (dropWhile isName t))
+unfolding queryPartAt takeWhile dropWhile
+items-more [] h = absurd (omega arith)
+items-more (c ∷ t) h = at (isName c) refl h
+  where
+    at : (b : Bool) → isName c ≡ b → 0 < length (if b then c ∷ takeWhile isName t else [])
+        → itemsOf (c ∷ t) ≡ (if b then c ∷ takeWhile isName t else []) ∷ itemsOf (dropWhile (eqb dot) (if b then dropWhile isName t else c ∷ t))
+    at true k h =
+        ap items (many-more queryPartAt query-part-shrinks (c ∷ t) (c ∷ takeWhile isName t) (dropWhile (eqb dot) (dropWhile isName t)) (rw k refl))
+    at false k h = absurd (omega arith)
+
+-- of a text that is well formed they are all
+pub items-all : (t : List ℕ) (ns : List (List ℕ)) → namesOf t ≡ some ns → itemsOf t ≡ ns
+unfolding namesOf
+items-all t ns e = at (isEmpty (many queryPartAt t .rest)) e
+  where
+    at : (b : Bool) → (if b then some (itemsOf t) else none) ≡ some ns → itemsOf t ≡ ns
+    at true e = cc
+    at false e = absurd (let z : _≡_ {A = ℕ} 0 1 = cc in omega arith)

@@ -1,14 +1,14 @@
 -- Where the parts of a text stand in it.
 use mathlib.Core.Bool.{Bool, false, _&&_, not}
-use mathlib.Core.List.{List, [], _∷_, _++_, map}
-use Prim.Native.Nat.{ℕ, zero, suc, _+_, _-_, _≤_, _<_}
+use mathlib.Core.List.{List, [], _∷_, _++_}
+use mathlib.Core.Path.{_≡_}
+use Prim.Native.Nat.{ℕ, zero, suc, _+_, _≤_, _<_}
 use lib.ListN.{length, getD, take, drop}
-use Rattle.definition.specs.Lists.{if_then_else_, takeWhile, zeroes}
+use Rattle.definition.specs.Lists.{if_then_else_, takeWhile}
 use Rattle.definition.specs.Limits.{queryParts}
 use Rattle.definition.specs.Bytes.{isName}
-use Rattle.query.specs.declared.Split.{Split}
 
--- ---- A split, from a text
+-- ---- Parts, from a text
 
 -- where the parts of t begin, which stands at `at`: a byte of a name begins one, if none stands before it
 unfoldable pub startsFrom : Bool → ℕ → List ℕ → List ℕ
@@ -22,30 +22,25 @@ partStarts t = startsFrom false 0 t
 abbrev pub nameFrom : List ℕ → ℕ → List ℕ
 nameFrom t at = takeWhile isName (drop at t)
 
-unfoldable pub padded : List ℕ → List ℕ
-padded xs = xs ++ zeroes (queryParts - length xs)
+abbrev pub lengthFrom : List ℕ → ℕ → ℕ
+lengthFrom t at = length (nameFrom t at)
 
--- parts that begin there
-unfoldable pub splitAt : List ℕ → List ℕ → Split
-splitAt t starts = record { starts = padded starts; lengths = padded (map (λ at. length (nameFrom t at)) starts); count = length starts }
-
-abbrev pub noParts : Split
-noParts = record { starts = zeroes queryParts; lengths = zeroes queryParts; count = 0 }
-
--- ---- What a split stands for
+-- ---- What parts stand for
 
 -- f 0, f 1 and so on, n of them
 unfoldable pub each : {A : Type 0} → ℕ → (ℕ → A) → List A
 each zero f = []
 each (suc n) f = f 0 ∷ each n (λ i. f (suc i))
 
-abbrev pub partIn : List ℕ → Split → ℕ → List ℕ
-partIn text split i = take (getD (split .lengths) i 0) (drop (getD (split .starts) i 0) text)
+abbrev pub partIn : List ℕ → List ℕ → List ℕ → ℕ → List ℕ
+partIn text starts lengths i = take (getD lengths i 0) (drop (getD starts i 0) text)
 
-unfoldable pub namesIn : List ℕ → Split → List (List ℕ)
-namesIn text split = each (split .count) (partIn text split)
+unfoldable pub namesIn : List ℕ → List ℕ → List ℕ → List (List ℕ)
+namesIn text starts lengths = each (length starts) (partIn text starts lengths)
 
--- no more parts than a query may have, each within the text
-pub record Inside (text : List ℕ) (split : Split) : Type 0 where
-  pub few : split .count ≤ queryParts
-  pub within : (i : ℕ) → i < split .count → getD (split .starts) i 0 + getD (split .lengths) i 0 ≤ length text
+-- no more parts than any query may have, none of them empty, each within the text
+pub record Inside (text starts lengths : List ℕ) : Type 0 where
+  pub few : length starts ≤ queryParts
+  pub same : length lengths ≡ length starts
+  pub some : (i : ℕ) → i < length starts → 0 < getD lengths i 0
+  pub within : (i : ℕ) → i < length starts → getD starts i 0 + getD lengths i 0 ≤ length text

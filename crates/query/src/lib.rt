@@ -1,25 +1,27 @@
 // A query's text split into its names: the Rust's `parse_query`.
 ghost use mathlib.Core.Path.{_≡_};
-ghost use Rattle.query.specs.Splits.{noParts};
-ghost use Rattle.query.specs.Shapes.{parsedNames, bothShapes};
+ghost use Prim.Native.Nat.{_≤_};
+ghost use lib.ListN.{length};
+ghost use Rattle.definition.specs.Limits.{queryBytes};
+ghost use Rattle.query.specs.Shapes.{boundsOf, parsedNames, keptStarts, keptLengths, splitNames, bothShapes};
 use limits::QUERY_BYTES;
 use limits::QUERY_PARTS;
 use scan::next_component;
 use skips::skip_byte;
 
-// A text's parts: where each starts and how long it is. Past them all is 0.
-pub struct Split {
-    pub starts: [u16; QUERY_PARTS],
-    pub lengths: [u16; QUERY_PARTS],
-    pub count: usize,
-}
-
-// Whether a text is names, no more and no longer than a query's may be.
+// Whether a text is names, no more and no longer than its bounds allow.
 pub enum Shape {
     Good,
     Malformed,
     Many,
     Long,
+}
+
+// A text's parts: where each starts and how long it is, and how many there are.
+pub struct Split {
+    pub starts: [u16; QUERY_PARTS],
+    pub lengths: [u16; QUERY_PARTS],
+    pub count: usize,
 }
 
 // An enum may not hold an array, so the shape stands beside the parts.
@@ -28,55 +30,67 @@ pub struct Names {
     pub split: Split,
 }
 
-fn no_parts() -> Split
-    ensures { λ r. ⌜ r ≡ noParts ⌝ }
-{
-    Split {
-        starts: [0; QUERY_PARTS],
-        lengths: [0; QUERY_PARTS],
-        count: 0,
-    }
+// A text's shape and, if it is good, how many parts it has.
+pub struct Parsed {
+    pub shape: Shape,
+    pub count: usize,
 }
 
-fn no_names(shape: Shape) -> Names
-    ensures { λ r. ⌜ r ≡ record { shape = shape; split = noParts } ⌝ }
+fn no_parts(shape: Shape) -> Parsed
+    ensures { λ r. ⌜ r ≡ record { shape = shape; count = 0 } ⌝ }
 {
-    let split = no_parts();
-    Names { shape, split }
+    Parsed { shape, count: 0 }
 }
 
-// Parts past the most are counted and not kept: what is malformed after them is malformed all the same.
-pub fn parse_query(text: &[u8]) -> Names
-    ensures { λ r. ⌜ r ≡ parsedNames (now (text .entry)) ⌝ }
+// A text of at most `most` bytes, and of as many parts as are lent: the one loop for the shell's bounds and the dictionary window's. Parts past
+// the most are counted and not kept: what is malformed after them is malformed all the same.
+pub fn split_names(text: &[u8], most: usize, starts: &mut [u16], lengths: &mut [u16]) -> Parsed
+    requires { ⌜ (most ≤ queryBytes) × (length (now lengths) ≡ length (now starts)) ⌝ }
+    ensures { λ r. ⌜ (r ≡ parsedNames (boundsOf most (now (starts .entry))) (now (text .entry))) × (now (starts .exit) ≡ keptStarts most (now (text .entry)) (now (starts .entry))) × (now (lengths .exit) ≡ keptLengths most (now (text .entry)) (now (lengths .entry))) ⌝ }
 {
-    if text.len() > QUERY_BYTES {
-        return no_names(Shape::Long);
+    if text.len() > most {
+        return no_parts(Shape::Long);
     }
-    let mut split = no_parts();
+    let mut count = 0;
     let mut rest = text;
     loop {
         let n = next_component(rest);
         if n == 0 {
             break;
         }
-        let count = split.count;
-        if count < QUERY_PARTS {
-            split.starts[count] = (text.len() - rest.len()) as u16;
-            split.lengths[count] = n as u16;
+        if count < starts.len() {
+            starts[count] = (text.len() - rest.len()) as u16;
+            lengths[count] = n as u16;
         }
-        split.count = count + 1;
+        count += 1;
         rest = skip_byte(&rest[n..], b'.');
     }
     if rest.len() > 0 {
-        return no_names(Shape::Malformed);
+        return no_parts(Shape::Malformed);
     }
-    if QUERY_PARTS < split.count {
-        return no_names(Shape::Many);
+    if starts.len() < count {
+        return no_parts(Shape::Many);
     }
-    Names {
+    Parsed {
         shape: Shape::Good,
-        split: split,
+        count: count,
     }
+}
+
+// A text of the shell, with its parts by value.
+pub fn parse_query(text: &[u8]) -> Names
+    ensures { λ r. ⌜ r ≡ splitNames (now (text .entry)) ⌝ }
+{
+    let mut starts = [0; QUERY_PARTS];
+    let mut lengths = [0; QUERY_PARTS];
+    let parsed = split_names(text, QUERY_BYTES, &mut starts, &mut lengths);
+    let shape = parsed.shape;
+    let split = Split {
+        starts,
+        lengths,
+        count: parsed.count,
+    };
+    Names { shape, split }
 }
 
 // Of name and class: number 9 comes before malformed, and malformed before number 10.

@@ -2,21 +2,16 @@
 use mathlib.Core.Bool.{Bool, true, false}
 use mathlib.Core.List.{List}
 use mathlib.Core.Option.{Option, some, none}
-use mathlib.Core.Path.{_≡_, refl, sym}
-use Prim.Native.Nat.{ℕ, _+_, _≤_}
+use mathlib.Core.Path.{_≡_, refl, sym, ap}
+use Prim.Native.Nat.{ℕ}
 use native.Mathlib.Omega.{arith}
-use lib.ListN.{length}
 use Rattle.definition.specs.Lists.{if_then_else_}
-use Rattle.definition.specs.Lookup.{Reply, given, noValue, refused, Place, getBytes, bytesAt}
-use Rattle.definition.specs.Value.{isUtf8, replied, readAs, bytesOr, getString, shown}
-use Rattle.lookup.specs.Replies.{replied as lookedUp, LiesIn}
+use Rattle.definition.specs.Query.{Bounds}
+use Rattle.definition.specs.Lookup.{Reply, given, noValue, refused, Place, getBytesWithin, bytesAt}
+use Rattle.definition.specs.Value.{isUtf8, replied, readAs, asString, bytesOr, shownWithin}
+use Rattle.lookup.specs.Replies.{replied as lookedUp}
 use Rattle.lookup.specs.declared.Lookup.{Lookup}
-use Rattle.lookup.specs.declared.Lookup.the-variants.{Found, Nothing, Refused}
-use Rattle.lookup.proofs.Looking.{found-inside}
 use Rattle.readings.specs.Showing.{shownAt}
-
-abbrev at : ℕ → ℕ → Place
-at p n = record { start = p; length = n }
 
 -- what any reading of the value's bytes makes of a reply
 module _ {A : Type 0} (f : Place → Option A) (r : Reply Place) where
@@ -32,39 +27,35 @@ module _ {A : Type 0} (f : Place → Option A) (r : Reply Place) where
   unfolding readAs
   read-given p o e h = rw (← e, ← h) refl
 
-module _ (contents bodies name class : List ℕ) where
-  pub bytes-within : (r : Lookup) → lookedUp r ≡ getBytes contents bodies name class → LiesIn r (length bodies)
-  bytes-within (Found p n) e = found-inside contents bodies name class p n e
-  bytes-within Nothing e = tt
-  bytes-within (Refused k) e = tt
+-- a string is what was found, if it is well formed, and else none
+module _ (bodies : List ℕ) (r : Reply Place) where
+  pub string-refused : (k : ℕ) → refused k ≡ r → refused k ≡ asString bodies r
+  unfolding asString
+  string-refused k e = read-refused _ r k e
 
+  pub string-none : noValue ≡ r → noValue ≡ asString bodies r
+  unfolding asString
+  string-none e = read-none _ r e
+
+  pub string-read : (p : Place) (b : Bool) → given p ≡ r → isUtf8 (bytesAt bodies p) ≡ b → replied (if b then some p else none) ≡ asString bodies r
+  unfolding asString
+  string-read p b e u = read-given _ r p _ e (ap (λ (x : Bool). if x then some p else none) (sym u))
+
+-- it is then a value that is found
+pub string-found : (bodies : List ℕ) (q : Place) (r : Reply Place) → given q ≡ asString bodies r → given q ≡ r
+unfolding asString readAs replied
+string-found bodies q (given p) e = kept (isUtf8 (bytesAt bodies p)) e
+  where
+    kept : (b : Bool) → given q ≡ replied (if b then some p else none) → given q ≡ given p
+    kept true e = e
+    kept false e = absurd (let z : _≡_ {A = ℕ} 0 1 = cc in omega arith)
+string-found bodies q noValue e = absurd (let z : _≡_ {A = ℕ} 0 1 = cc in omega arith)
+string-found bodies q (refused k) e = absurd (let z : _≡_ {A = ℕ} 0 1 = cc in omega arith)
+
+module _ (most : Bounds) (contents bodies name class : List ℕ) where
   -- what is shown of the answer of a lookup is what the lookup shows
-  pub shows : (r : Lookup) (default bytes : List ℕ) (atBodies atDefault starts : ℕ × ℕ) → lookedUp r ≡ getBytes contents bodies name class
+  pub shows : (r : Lookup) (default bytes : List ℕ) (atBodies atDefault starts : ℕ × ℕ) → lookedUp r ≡ getBytesWithin most contents bodies name class
       → (bytes ≡ bytesOr bodies default (lookedUp r)) × (starts ≡ shownAt (lookedUp r) atBodies atDefault)
-      → (bytes ≡ shown contents bodies name class default) × (starts ≡ shownAt (getBytes contents bodies name class) atBodies atDefault)
-  unfolding shown
+      → (bytes ≡ shownWithin most contents bodies name class default) × (starts ≡ shownAt (getBytesWithin most contents bodies name class) atBodies atDefault)
+  unfolding shownWithin
   shows r default bytes atBodies atDefault starts e s = rw e at s
-
-  pub string-read : (p : Place) (b : Bool) → given p ≡ getBytes contents bodies name class → isUtf8 (bytesAt bodies p) ≡ b
-      → replied (if b then some p else none) ≡ getString contents bodies name class
-  unfolding getString
-  string-read p b e h = read-given _ _ p _ e (rw h refl)
-
-  -- a string is a value that is found
-  pub string-found : (p n : ℕ) → given (at p n) ≡ getString contents bodies name class → given (at p n) ≡ getBytes contents bodies name class
-  unfolding getString readAs replied
-  string-found p n = from (getBytes contents bodies name class) refl
-    where
-      kept : (q : Place) (b : Bool) → given q ≡ getBytes contents bodies name class → given (at p n) ≡ replied (if b then some q else none)
-          → given (at p n) ≡ getBytes contents bodies name class
-      kept q true f e = let s : at p n ≡ q = cc in rw s f
-      kept q false f e = absurd (let z : _≡_ {A = ℕ} 0 1 = cc in omega arith)
-
-      from : (r : Reply Place) → getBytes contents bodies name class ≡ r → given (at p n) ≡ readAs (λ q. if isUtf8 (bytesAt bodies q) then some q else none) r
-          → given (at p n) ≡ getBytes contents bodies name class
-      from (given q) f e = kept q (isUtf8 (bytesAt bodies q)) (sym f) e
-      from noValue f e = absurd (let z : _≡_ {A = ℕ} 0 1 = cc in omega arith)
-      from (refused k) f e = absurd (let z : _≡_ {A = ℕ} 0 1 = cc in omega arith)
-
-  pub string-inside : (p n : ℕ) → given (at p n) ≡ getString contents bodies name class → p + n ≤ length bodies
-  string-inside p n e = found-inside contents bodies name class p n (string-found p n e)

@@ -2,8 +2,9 @@
 ghost use mathlib.Core.Path.{_≡_};
 ghost use Prim.Native.Nat.{_+_, _≤_};
 ghost use lib.ListN.{length};
-ghost use Rattle.definition.specs.Lookup.{getBytes, bytesAt};
-ghost use Rattle.definition.specs.Value.{getString, getBool, getValue, bytesOr, shown};
+ghost use Rattle.definition.specs.Query.{window};
+ghost use Rattle.definition.specs.Lookup.{getBytesWithin, getBytes, bytesAt};
+ghost use Rattle.definition.specs.Value.{asString, asBool, asNumber, bytesOr, getStringWithin, getBoolWithin, getValueWithin, shownWithin, getString, getBool, getValue, shown};
 ghost use Rattle.lookup.specs.Replies.{replied, LiesIn};
 ghost use Rattle.readings.specs.Replies.{truthReplied, valueReplied};
 ghost use Rattle.readings.specs.Showing.{shownAt};
@@ -13,6 +14,7 @@ use integers::Number;
 use integers::parse_i64;
 use lookup::Lookup;
 use lookup::get_bytes;
+use lookup::window_get_bytes;
 use utf8::is_utf8;
 
 // The bytes that stand at a value's place.
@@ -23,11 +25,11 @@ fn bytes_at(bodies: &[u8], place: usize, size: usize) -> &[u8]
     &bodies[place..place + size]
 }
 
-// The value's place if it is well-formed UTF-8.
-pub fn get_string(contents: &[u16], bodies: &[u8], name: &[u8], class: &[u8]) -> Lookup
-    ensures { λ r. ⌜ replied r ≡ getString (now (contents .entry)) (now (bodies .entry)) (now (name .entry)) (now (class .entry)) ⌝ }
+// What a lookup found, if it is well-formed UTF-8.
+fn string_of(found: Lookup, bodies: &[u8]) -> Lookup
+    requires { ⌜ LiesIn found (length (now bodies)) ⌝ }
+    ensures { λ r. ⌜ replied r ≡ asString (now (bodies .entry)) (replied found) ⌝ }
 {
-    let found = get_bytes(contents, bodies, name, class);
     match found {
         Lookup::Refused(k) => Lookup::Refused(k),
         Lookup::Nothing => Lookup::Nothing,
@@ -47,15 +49,20 @@ pub enum Truth {
     Refused(u8),
 }
 
-pub fn get_bool(contents: &[u16], bodies: &[u8], name: &[u8], class: &[u8]) -> Truth
-    ensures { λ r. ⌜ truthReplied r ≡ getBool (now (contents .entry)) (now (bodies .entry)) (now (name .entry)) (now (class .entry)) ⌝ }
+// The boolean of what a lookup found, if that is a string.
+fn bool_of(found: Lookup, bodies: &[u8]) -> Truth
+    requires { ⌜ LiesIn found (length (now bodies)) ⌝ }
+    ensures { λ r. ⌜ truthReplied r ≡ asBool (now (bodies .entry)) (asString (now (bodies .entry)) (replied found)) ⌝ }
 {
-    let found = get_string(contents, bodies, name, class);
     match found {
         Lookup::Refused(k) => Truth::Refused(k),
         Lookup::Nothing => Truth::Nothing,
         Lookup::Found(place, size) => {
-            let truth = to_bool(bytes_at(bodies, place, size));
+            let bytes = bytes_at(bodies, place, size);
+            if !is_utf8(bytes) {
+                return Truth::Nothing;
+            }
+            let truth = to_bool(bytes);
             match truth {
                 Boolean::True => Truth::Is(true),
                 Boolean::False => Truth::Is(false),
@@ -73,15 +80,20 @@ pub enum Value {
     Refused(u8),
 }
 
-pub fn get_value(contents: &[u16], bodies: &[u8], name: &[u8], class: &[u8]) -> Value
-    ensures { λ r. ⌜ valueReplied r ≡ getValue (now (contents .entry)) (now (bodies .entry)) (now (name .entry)) (now (class .entry)) ⌝ }
+// The number of what a lookup found, if that is a string.
+fn value_of(found: Lookup, bodies: &[u8]) -> Value
+    requires { ⌜ LiesIn found (length (now bodies)) ⌝ }
+    ensures { λ r. ⌜ valueReplied r ≡ asNumber (now (bodies .entry)) (asString (now (bodies .entry)) (replied found)) ⌝ }
 {
-    let found = get_string(contents, bodies, name, class);
     match found {
         Lookup::Refused(k) => Value::Refused(k),
         Lookup::Nothing => Value::Nothing,
         Lookup::Found(place, size) => {
-            let number = parse_i64(bytes_at(bodies, place, size));
+            let bytes = bytes_at(bodies, place, size);
+            if !is_utf8(bytes) {
+                return Value::Nothing;
+            }
+            let number = parse_i64(bytes);
             match number {
                 Number::Is(n) => Value::Is(n),
                 Number::NotANumber => Value::NotANumber,
@@ -102,6 +114,28 @@ pub fn value_or<'a>(found: Lookup, bodies: &'a [u8], default: &'a [u8]) -> &'a [
     }
 }
 
+// The shell's calls. The value's place if it is well-formed UTF-8:
+pub fn get_string(contents: &[u16], bodies: &[u8], name: &[u8], class: &[u8]) -> Lookup
+    ensures { λ r. ⌜ replied r ≡ getString (now (contents .entry)) (now (bodies .entry)) (now (name .entry)) (now (class .entry)) ⌝ }
+{
+    let found = get_bytes(contents, bodies, name, class);
+    string_of(found, bodies)
+}
+
+pub fn get_bool(contents: &[u16], bodies: &[u8], name: &[u8], class: &[u8]) -> Truth
+    ensures { λ r. ⌜ truthReplied r ≡ getBool (now (contents .entry)) (now (bodies .entry)) (now (name .entry)) (now (class .entry)) ⌝ }
+{
+    let found = get_bytes(contents, bodies, name, class);
+    bool_of(found, bodies)
+}
+
+pub fn get_value(contents: &[u16], bodies: &[u8], name: &[u8], class: &[u8]) -> Value
+    ensures { λ r. ⌜ valueReplied r ≡ getValue (now (contents .entry)) (now (bodies .entry)) (now (name .entry)) (now (class .entry)) ⌝ }
+{
+    let found = get_bytes(contents, bodies, name, class);
+    value_of(found, bodies)
+}
+
 // A query's value, or else the default; none and refusals show the default.
 pub fn show<'a>(
     contents: &[u16],
@@ -113,5 +147,41 @@ pub fn show<'a>(
     ensures { λ r. ⌜ (now r ≡ shown (now (contents .entry)) (now (bodies .entry)) (now (name .entry)) (now (class .entry)) (now (default .entry))) × (r .ptr ≡ shownAt (getBytes (now (contents .entry)) (now (bodies .entry)) (now (name .entry)) (now (class .entry))) (bodies .entry .ptr) (default .entry .ptr)) ⌝ }
 {
     let found = get_bytes(contents, bodies, name, class);
+    value_or(found, bodies, default)
+}
+
+// The dictionary window's calls, shaped as the shell's: document 02 (vi).
+pub fn window_get_string(contents: &[u16], bodies: &[u8], name: &[u8], class: &[u8]) -> Lookup
+    ensures { λ r. ⌜ replied r ≡ getStringWithin window (now (contents .entry)) (now (bodies .entry)) (now (name .entry)) (now (class .entry)) ⌝ }
+{
+    let found = window_get_bytes(contents, bodies, name, class);
+    string_of(found, bodies)
+}
+
+pub fn window_get_bool(contents: &[u16], bodies: &[u8], name: &[u8], class: &[u8]) -> Truth
+    ensures { λ r. ⌜ truthReplied r ≡ getBoolWithin window (now (contents .entry)) (now (bodies .entry)) (now (name .entry)) (now (class .entry)) ⌝ }
+{
+    let found = window_get_bytes(contents, bodies, name, class);
+    bool_of(found, bodies)
+}
+
+pub fn window_get_value(contents: &[u16], bodies: &[u8], name: &[u8], class: &[u8]) -> Value
+    ensures { λ r. ⌜ valueReplied r ≡ getValueWithin window (now (contents .entry)) (now (bodies .entry)) (now (name .entry)) (now (class .entry)) ⌝ }
+{
+    let found = window_get_bytes(contents, bodies, name, class);
+    value_of(found, bodies)
+}
+
+// A query's value, or else the default; none and refusals show the default.
+pub fn window_show<'a>(
+    contents: &[u16],
+    bodies: &'a [u8],
+    name: &[u8],
+    class: &[u8],
+    default: &'a [u8],
+) -> &'a [u8]
+    ensures { λ r. ⌜ (now r ≡ shownWithin window (now (contents .entry)) (now (bodies .entry)) (now (name .entry)) (now (class .entry)) (now (default .entry))) × (r .ptr ≡ shownAt (getBytesWithin window (now (contents .entry)) (now (bodies .entry)) (now (name .entry)) (now (class .entry))) (bodies .entry .ptr) (default .entry .ptr)) ⌝ }
+{
+    let found = window_get_bytes(contents, bodies, name, class);
     value_or(found, bodies, default)
 }

@@ -11,8 +11,9 @@ use Rattle.laws.proofs.Reading.{accepted-small}
 use Rattle.laws.proofs.Walking.{step-small}
 use Rattle.laws.proofs.Writing.{image-text-long, written-text}
 use Rattle.laws.proofs.Adding.{adding-small}
-use Rattle.definition.specs.Lookup.{getBytes}
-use Rattle.definition.specs.Value.{getString}
+use Rattle.definition.specs.Query.{Bounds}
+use Rattle.definition.specs.Lookup.{getBytesWithin}
+use Rattle.definition.specs.Value.{getStringWithin}
 use Rattle.definition.specs.Walking.{Walk, walkStep}
 use Rattle.definition.specs.Writing.{Filled, filled, writing}
 use Rattle.definition.specs.Adding.{Addition, addition, adding}
@@ -52,17 +53,19 @@ module _ (texts : List (List ℕ)) (archive contents bodies c b : List ℕ) wher
 pub read-crosses : (r : Answer) (n : ℕ) (c b : List ℕ) (o : Outcome) → outcome (said r) c b ≡ o → n ≡ readCode (said r) → crossing n c b ≡ crossed o
 read-crosses r n c b o e f = rw (← e, f) refl
 
-module _ (contents bodies name class : List ℕ) where
-  pub bytes-small : (r : Lookup) → replied r ≡ getBytes contents bodies name class → Small r
-  bytes-small (Found p n) e = found-placed contents bodies name class p n e .0
+module _ (most : Bounds) (contents bodies name class : List ℕ) where
+  pub bytes-small : (r : Lookup) → replied r ≡ getBytesWithin most contents bodies name class → Small r
+  bytes-small (Found p n) e = found-placed most contents bodies name class p n e .0
   bytes-small Nothing e = tt
   bytes-small (Refused k) e = tt
 
-  pub string-small : (r : Lookup) → replied r ≡ getString contents bodies name class → Small r
-  string-small (Found p n) e = found-placed contents bodies name class p n (string-found contents bodies name class p n e) .0
+  pub string-small : (r : Lookup) → replied r ≡ getStringWithin most contents bodies name class → Small r
+  unfolding getStringWithin
+  string-small (Found p n) e = found-placed most contents bodies name class p n (string-found bodies (record { start = p; length = n }) _ e) .0
   string-small Nothing e = tt
   string-small (Refused k) e = tt
 
+module _ (contents bodies name class : List ℕ) where
   pub step-numbered : (w : Walk) (r : Stepped) → stepReplied r ≡ walkStep contents bodies name class w → Numbered r
   step-numbered w (Listed i) e = step-small contents bodies name class w i (sym e)
   step-numbered w End e = tt
@@ -96,8 +99,8 @@ module _ (c : Case) (struck : List ℕ) where
   pub both-small : (r : Compared) (s c₁ b₁ c₂ b₂ : List ℕ) → leaving r s c₁ b₁ c₂ b₂ ≡ comparing c struck → SmallBoth r
   both-small (Both a b second) s c₁ b₁ c₂ b₂ e =
       let m = answered-both c struck _ (replied a) (replied b) (said second) refl e in (
-        bytes-small (withFile c .contents) (withFile c .bodies) (c .name) (c .class) a (m .first-looked),
-        bytes-small (withoutFile c .contents) (withoutFile c .bodies) (c .name) (c .class) b (m .second-looked),
+        bytes-small (c .bounds) (withFile c .contents) (withFile c .bodies) (c .name) (c .class) a (m .first-looked),
+        bytes-small (c .bounds) (withoutFile c .contents) (withoutFile c .bodies) (c .name) (c .class) b (m .second-looked),
       )
   both-small NoFile s c₁ b₁ c₂ b₂ e = tt
   both-small (RefusedCall k) s c₁ b₁ c₂ b₂ e = tt

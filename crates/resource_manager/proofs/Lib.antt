@@ -1,2 +1,3 @@
 -- Laws of the boundary.
 pub mod Fitting
+pub mod Agreeing

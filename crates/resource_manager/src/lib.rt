@@ -1,6 +1,7 @@
 // The calls for C, Rust and the tests to link. A slice passes as a pointer and an element count.
 mod comparing;
 mod walking;
+mod window;
 
 ghost use mathlib.Core.List.{[], _∷_};
 ghost use mathlib.Core.Path.{_≡_};

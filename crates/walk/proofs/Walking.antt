@@ -1,45 +1,44 @@
--- A step's loop over the entries, and the tests before it. Assumes nothing.
-use mathlib.Core.Bool.{true, false}
+-- A step is a search for the first entry that aligns; and the tests before a start. Assumes nothing.
+use mathlib.Core.Bool.{Bool, true, false, _&&_, not}
 use mathlib.Core.List.{List, [], _∷_}
 use mathlib.Core.Option.{Option, some, none}
 use mathlib.Core.Path.{_≡_, refl, sym, ap, _∙_}
-use Prim.Native.Nat.{ℕ, zero, suc, _+_, _≤_, _<_, min}
+use Prim.Native.Nat.{ℕ, zero, suc, _+_, _-_, _<_, min}
 use native.Mathlib.Numerals.{add-one}
 use native.Mathlib.Omega.{arith}
 use lib.ListN.{length, getD, take, drop, length-take, drop-of-length-le}
 use lib.Seq.{drop-cons, getD-take}
+use Rattle.definition.specs.Lists.{if_then_else_}
 use Rattle.definition.specs.Text.{Entry}
-use Rattle.definition.specs.Image.{Row, rowsIn, countOf, keyAt, keyParts, entryAt, entriesIn, isImage}
+use Rattle.definition.specs.Image.{Row, rowsFrom, rowsIn, countOf, entryAt, entriesIn, isImage}
 use Rattle.definition.specs.Writing.{entriesOfImage}
-use Rattle.definition.specs.Query.{Position, Query, positions, positionsOf}
-use Rattle.definition.specs.Ranking.{rankOf}
-use Rattle.definition.specs.Lookup.{given, noValue, refused}
-use Rattle.definition.specs.Walking.{hasRow, aligns, alignedFrom, firstOf, Walk, nextOf, begun, walkStart, numberOr, stepped, walkStep}
+use Rattle.definition.specs.Query.{Position, Query, positions, malformed, pastLimit, shell, queryOf}
+use Rattle.definition.specs.Ranking.{noEntry, rankOf, better}
+use Rattle.definition.specs.Lookup.{keysOf, refused}
+use Rattle.definition.specs.Walking.{hasRow, aligns, alignedFrom, firstOf, walk, nextOf, begun, walkStart, numberOr, stepped, walkStep}
 use Rattle.laws.proofs.Lists.{getD-inside}
 use Rattle.laws.proofs.Image.{image-sizes}
-use Rattle.query.specs.Splits.{namesIn}
-use Rattle.query.specs.Shapes.{parsedNames, bothShapes, shaped}
-use Rattle.query.specs.declared.Names.{Names}
+use Rattle.query.specs.Shapes.{shaped}
 use Rattle.query.specs.declared.Shape.{Shape}
-use Rattle.query.proofs.Queries.{query-is}
-use Rattle.marks.specs.Rows.{marksOf}
-use Rattle.marks.specs.declared.Marks.{Marks}
-use Rattle.image.specs.Rows.{rowAt}
-use Rattle.image.proofs.Rows.{row-is}
+use Rattle.image.specs.Rows.{rowAt, rowsLeft}
+use Rattle.image.proofs.Rows.{rows-turn, row-is}
+use Rattle.lookup.specs.Searches.{isEntry, searched, numbered, entryIn, entryWithin}
 
--- ---- One key
+-- ---- The first that aligns
 
--- the row that the code holds is there just where the rank is
-pub live-row : (o : Option (List ℕ)) (r : Marks) → r ≡ marksOf o → r .live ≡ hasRow o
-unfolding marksOf hasRow
-live-row none r e = ap (λ (x : Marks). x .live) e
-live-row (some row) r e = ap (λ (x : Marks). x .live) e
+-- a search that ends at the first entry that aligns
+searched-first : (es : List Entry) (qs : List Position) (i : ℕ) → numbered (searched true (keysOf es) qs i noEntry) ≡ numberOr (firstOf (alignedFrom i qs es))
+unfolding searched numbered numberOr firstOf alignedFrom aligns
+searched-first [] qs i = refl
+searched-first (e ∷ es) qs i = at (rankOf (e .parts) qs) (searched-first es qs (suc i))
+  where
+    at : (o : Option (List ℕ)) → numbered (searched true (keysOf es) qs (suc i) noEntry) ≡ numberOr (firstOf (alignedFrom (suc i) qs es))
+        → numbered (if true && isEntry (better i o noEntry) then better i o noEntry else searched true (keysOf es) qs (suc i) (better i o noEntry))
+        ≡ numberOr (firstOf (if hasRow o then i ∷ alignedFrom (suc i) qs es else alignedFrom (suc i) qs es))
+    at none ih = unfold better isEntry hasRow in ih
+    at (some row) ih = unfold better isEntry hasRow in refl
 
-pub without-row : (o : Option (List ℕ)) → o ≡ none → false ≡ hasRow o
-unfolding hasRow
-without-row o e = rw e refl
-
--- ---- The loop
+-- ---- The entries from the next on, below both counts
 
 entry-at : (rows : List Row) (bodies : List ℕ) (i : ℕ) (r : Row) → getD (entriesIn rows bodies) i (entryAt bodies r) ≡ entryAt bodies (getD rows i r)
 unfolding entriesIn
@@ -55,71 +54,55 @@ entry-of contents bodies i d image h =
     getD-inside (entriesOfImage contents bodies) i d (entryAt bodies r) (omega (arith, h, image-sizes contents bodies image .0))
     ∙ entry-at (rowsIn contents) bodies i r ∙ ap (entryAt bodies) (row-is contents i r h)
 
-module _ (contents bodies : List ℕ) (qs : List Position) (w : Walk) where
-  abbrev held : List Entry
-  held = entriesOfImage contents bodies
+module _ (contents bodies : List ℕ) (image : isImage contents bodies ≡ true) (count : ℕ) where
+  abbrev last : ℕ
+  last = min count (countOf contents)
 
   abbrev left : ℕ → List Entry
-  left i = drop i (take (w .count) held)
+  left i = drop i (take count (entriesOfImage contents bodies))
 
-  -- the first that aligns from entry i on is the step's
-  pub record Stepping (i : ℕ) : Type 0 where
-    pub same : firstOf (alignedFrom i qs (left i)) ≡ nextOf w qs held
+  long : length (take count (entriesOfImage contents bodies)) ≡ last
+  long = omega (arith, length-take count (entriesOfImage contents bodies), image-sizes contents bodies image .0)
 
-  pub stepping-first : Stepping (w .next)
-  unfolding nextOf
-  stepping-first = record { same = refl }
+  left-turn : (i : ℕ) → i < last → left i ≡ entryAt bodies (rowAt contents i) ∷ left (suc i)
+  left-turn i h =
+      let d = rowAt contents i in
+      let here : getD (take count (entriesOfImage contents bodies)) i (entryAt bodies d) ≡ entryAt bodies d =
+      getD-take count (entriesOfImage contents bodies) i (entryAt bodies d) (omega (arith, h)) ∙ entry-of contents bodies i (entryAt bodies d) image (omega (arith, h)) in
+      drop-cons (take count (entriesOfImage contents bodies)) i (entryAt bodies d) (omega (arith, h, long)) ∙ ap (λ (e : Entry). e ∷ left (suc i)) here
 
-  module _ (image : isImage contents bodies ≡ true) (i : ℕ) (s : Stepping i) where
-    module _ (h : i < min (w .count) (countOf contents)) where
-      left-turn : left i ≡ entryAt bodies (rowAt contents i) ∷ left (suc i)
-      left-turn =
-          let d = rowAt contents i in
-          let inside : i < length (take (w .count) held) = omega (arith, h, length-take (w .count) held, image-sizes contents bodies image .0) in
-          let here : getD (take (w .count) held) i (entryAt bodies d) ≡ entryAt bodies d =
-          getD-take (w .count) held i (entryAt bodies d) (omega (arith, h)) ∙ entry-of contents bodies i (entryAt bodies d) image (omega (arith, h)) in
-          drop-cons (take (w .count) held) i (entryAt bodies d) inside ∙ ap (λ (e : Entry). e ∷ left (suc i)) here
+  -- n entries are left
+  entries-left : (n i : ℕ) → last - i ≡ n → entriesIn (rowsLeft contents last i) bodies ≡ left i
+  unfolding entriesIn rowsFrom
+  entries-left zero i e = rw e (sym (drop-of-length-le (take count (entriesOfImage contents bodies)) {i = i} (omega (arith, e, long))))
+  entries-left (suc n) i e =
+      let h : i < last = omega (arith, e) in
+      rw (rows-turn contents last i h, left-turn i h) (ap (λ (l : List Entry). entryAt bodies (rowAt contents i) ∷ l) (rw (← add-one i) (entries-left n (i + 1) (omega (arith, e)))))
 
-      pub steps-here : hasRow (rankOf (keyParts (keyAt bodies (rowAt contents i))) qs) ≡ true → given i ≡ stepped w held (positions qs)
-      unfolding stepped numberOr alignedFrom aligns firstOf
-      steps-here e =
-          let f : firstOf (alignedFrom i qs (left i)) ≡ some i = rw (left-turn, e) refl in
-          ap numberOr (sym f ∙ s .same)
-
-      pub stepping-more : hasRow (rankOf (keyParts (keyAt bodies (rowAt contents i))) qs) ≡ false → Stepping (i + 1)
-      unfolding alignedFrom aligns
-      stepping-more e =
-          let f : firstOf (alignedFrom i qs (left i)) ≡ firstOf (alignedFrom (suc i) qs (left (suc i))) = rw (left-turn, e) refl in
-          record { same = rw (add-one i) (sym f ∙ s .same) }
-
-    pub steps-end : min (w .count) (countOf contents) ≤ i → noValue ≡ stepped w held (positions qs)
-    unfolding stepped numberOr alignedFrom firstOf
-    steps-end h =
-        let past : left i ≡ [] = drop-of-length-le (take (w .count) held) {i = i} (omega (arith, h, length-take (w .count) held, image-sizes contents bodies image .0)) in
-        let f : firstOf (alignedFrom i qs (left i)) ≡ none = rw past refl in
-        ap numberOr (sym f ∙ s .same)
+  step-is : (next : ℕ) (q : Query) → entryIn true next last contents bodies q ≡ stepped (walk next count) (entriesOfImage contents bodies) q
+  unfolding entryIn stepped nextOf
+  step-is next (positions qs) = rw (entries-left (last - next) next refl) (searched-first (left next) qs next)
+  step-is next malformed = refl
+  step-is next (pastLimit k) = refl
 
 -- ---- The calls
 
 module _ (contents bodies name class : List ℕ) where
-  module _ (e : isImage contents bodies ≡ false) where
-    pub start-no-image : refused 8 ≡ walkStart contents bodies name class
-    unfolding walkStart
-    start-no-image = rw e refl
+  pub steps : (next count : ℕ) → entryWithin shell true next count contents bodies name class ≡ walkStep contents bodies name class (walk next count)
+  unfolding entryWithin walkStep
+  steps next count = at (isImage contents bodies) refl
+    where
+      at : (b : Bool) → isImage contents bodies ≡ b
+          → (if not b then refused 8 else entryIn true next (min count (countOf contents)) contents bodies (queryOf name class))
+          ≡ (if not b then refused 8 else stepped (walk next count) (entriesOfImage contents bodies) (queryOf name class))
+      at true e = step-is contents bodies e count next (queryOf name class)
+      at false e = refl
 
-    pub step-no-image : (w : Walk) → refused 8 ≡ walkStep contents bodies name class w
-    unfolding walkStep
-    step-no-image w = rw e refl
+  pub start-no-image : isImage contents bodies ≡ false → refused 8 ≡ walkStart contents bodies name class
+  unfolding walkStart
+  start-no-image e = rw e refl
 
   -- what the shape of both decides
-  module _ (e : isImage contents bodies ≡ true) (n c : Names) (p : n ≡ parsedNames name) (q : c ≡ parsedNames class) (s : Shape) (f : s ≡ bothShapes (n .shape) (c .shape)) where
-    abbrev asked : Query
-    asked = shaped s (positionsOf (namesIn name (n .split)) (namesIn class (c .split)))
-
-    pub start-by-shape : begun (countOf contents) asked ≡ walkStart contents bodies name class
-    unfolding walkStart
-    start-by-shape = sym (rw (e, query-is name class n c p q, f) refl)
-
-    pub step-by-shape : (w : Walk) → stepped w (entriesOfImage contents bodies) asked ≡ walkStep contents bodies name class w
-    unfolding walkStep
-    step-by-shape w = sym (rw (e, query-is name class n c p q, f) refl)
+  pub start-by-shape : isImage contents bodies ≡ true → (s : Shape) (ps : List Position) → queryOf name class ≡ shaped s ps → begun (countOf contents) (shaped s ps) ≡ walkStart contents bodies name class
+  unfolding walkStart
+  start-by-shape e s ps f = sym (rw (e, f) refl)

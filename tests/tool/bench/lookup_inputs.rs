@@ -1,7 +1,7 @@
 //! What the benchmark looks up: the same every time.
 
 use cases::draw::Draw;
-use model::limits::{ENTRIES, QUERY_BYTES, QUERY_PARTS};
+use model::limits::{ENTRIES, QUERY_BYTES, QUERY_PARTS, WINDOW_PARTS};
 
 pub struct Questions {
     pub name: &'static str,
@@ -19,6 +19,8 @@ pub struct Questions {
 #[derive(Clone, Copy, PartialEq)]
 pub enum Asked {
     ThePort,
+    /// The port alone, by the dictionary window's call.
+    TheWindow,
     All,
     /// All, each in a process of its own first: some do not end.
     AllThatEnd,
@@ -83,6 +85,23 @@ pub fn questions() -> Vec<Questions> {
             Answers::Found(0),
             Asked::All,
         ),
+        Questions {
+            name: "window-lookups",
+            what: "by the dictionary window: 512 entries, the same 10,000 queries",
+            text: text.clone(),
+            entries: ENTRIES,
+            queries: queries(&keys),
+            answers: Answers::Found(QUERIES_FOUND),
+            asked: Asked::TheWindow,
+        },
+        Questions {
+            name: "window-costliest",
+            what: "by the dictionary window: 512 keys of seven `*?` and `*a`, a name of 8 parts `a`",
+            text: format!("{}*a: 1\n", "*?".repeat(7)).repeat(ENTRIES).into_bytes(),
+            queries: vec![(["a"; WINDOW_PARTS].join("."), String::new())],
+            asked: Asked::TheWindow,
+            ..costliest()
+        },
         costliest(),
         costliest_of_different_keys("costliest-different", "512 different keys of that kind, found", "?", 1),
         costliest_of_different_keys(

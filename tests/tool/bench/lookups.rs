@@ -68,7 +68,8 @@ impl Asking {
     /// 0, 65535 for none, or a refusal's number in bits 0 to 15; a value's place in bits 16 to 31 and
     /// its length in bits 32 to 47.
     fn word(&self, name: &str, class: &str) -> u64 {
-        port::get_bytes_word(&self.contents, &self.bodies, name.as_bytes(), class.as_bytes())
+        let call = if self.case.asked == Asked::TheWindow { port::window_get_bytes_word } else { port::get_bytes_word };
+        call(&self.contents, &self.bodies, name.as_bytes(), class.as_bytes())
     }
 
     pub fn name(&self) -> &'static str {
@@ -91,7 +92,7 @@ impl Asking {
         let queries = &self.case.queries;
         match side {
             Side::Port => return Some(Box::new(self)),
-            _ if self.case.asked == Asked::ThePort => return None,
+            _ if matches!(self.case.asked, Asked::ThePort | Asked::TheWindow) => return None,
             Side::Rust => return Some(Box::new(Rust { database: Database::new_from_data(&self.case.text), queries })),
             _ => (),
         }

@@ -2,7 +2,7 @@
 
 use model::image;
 use model::limits::TEXT_BYTES;
-use model::lookup::{get_bool, get_bytes, get_string, get_value, show, Number};
+use model::lookup::{get_bool, get_bytes, get_string, get_value, show, Number, WINDOW};
 use model::walking::{self, Walk};
 use model::{adding, writing};
 use records::{Query, Source, Start};
@@ -241,6 +241,7 @@ impl Held {
         let number = get_value(contents, bodies, n, c).map_err(|r| r.number());
         same("get_i64", number_of(database.try_get_i64(name, class)), number)?;
         in_the_shape_of_x11rb(database, name, class)?;
+        self.look_up_in_the_window(database, name, class)?;
         self.counts.lookups += 1;
         self.counts.refused_lookups += usize::from(refused);
         #[cfg(feature = "rust")]
@@ -248,6 +249,23 @@ impl Held {
             self.counts.rusts_lookups += usize::from(self.rusts.look_up(_source, database, name, class)?);
         }
         Ok(())
+    }
+
+    /// The same at the dictionary window's bounds.
+    fn look_up_in_the_window(&self, database: &Database, name: &str, class: &str) -> Result<(), String> {
+        let (contents, bodies) = (&self.contents, &self.bodies);
+        let (n, c) = (name.as_bytes(), class.as_bytes());
+        let window = database.window();
+        let bytes = WINDOW.get_bytes(contents, bodies, n, c).map(|found| found.map(|place| place.of(bodies)));
+        let string = WINDOW.get_string(contents, bodies, n, c).map(|found| found.map(|place| place.of(bodies)));
+        same("the window's get_bytes_or", window.get_bytes_or(name, class, n), WINDOW.show(contents, bodies, n, c, n))?;
+        same("the window's get_bytes", window.try_get_bytes(name, class).map_err(Error::number), bytes.map_err(|r| r.number()))?;
+        let strings = window.try_get_string(name, class).map(|found| found.map(str::as_bytes));
+        same("the window's get_string", strings.map_err(Error::number), string.map_err(|r| r.number()))?;
+        let boolean = WINDOW.get_bool(contents, bodies, n, c).map_err(|r| r.number());
+        same("the window's get_bool", window.try_get_bool(name, class).map_err(Error::number), boolean)?;
+        let number = WINDOW.get_value(contents, bodies, n, c).map_err(|r| r.number());
+        same("the window's get_i64", number_of(window.try_get_i64(name, class)), number)
     }
 }
 

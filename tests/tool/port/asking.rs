@@ -1,20 +1,22 @@
 //! The lookups of the port and of the model in one image: the words that the calls return, the number
-//! that one of them writes, the part that one shows, and that every lent byte stays as it was.
+//! that one of them writes, the part that one shows, and that every lent byte stays as it was. A query that
+//! the dictionary window admits must get the shell's words from it.
 
 use crate::both::Both;
 use crate::fenced::Fenced;
 use model::image::Place;
 use model::limits::Refusal;
-use model::lookup::{self, Number};
+use model::lookup::{Bounds, Number, SHELL, WINDOW};
 use records::Query;
 
 pub type Lookup = fn(&[u16], &[u8], &[u8], &[u8]) -> u64;
 pub type ValueLookup = fn(&[u16], &[u8], &[u8], &[u8], &mut i64) -> u64;
 pub type ShowLookup = for<'a> fn(&[u16], &'a [u8], &[u8], &[u8], &mut &'a [u8]) -> u64;
 
-/// The lookups of the port, or faulty ones in their place.
+/// The lookups of the port at some bounds, or faulty ones in their place.
 #[derive(Clone, Copy)]
 pub struct Lookups {
+    pub bounds: Bounds,
     pub get_bytes: Lookup,
     pub get_string: Lookup,
     pub get_bool: Lookup,
@@ -23,11 +25,22 @@ pub struct Lookups {
 }
 
 pub const PORTS: Lookups = Lookups {
+    bounds: SHELL,
     get_bytes: port::get_bytes_word,
     get_string: port::get_string_word,
     get_bool: port::get_bool_word,
     get_value: port::get_value_word,
     show: port::show_word,
+};
+
+/// The dictionary window's.
+pub const WINDOWS: Lookups = Lookups {
+    bounds: WINDOW,
+    get_bytes: port::window_get_bytes_word,
+    get_string: port::window_get_string_word,
+    get_bool: port::window_get_bool_word,
+    get_value: port::window_get_value_word,
+    show: port::window_show_word,
 };
 
 const NONE: u64 = 65_535;
@@ -105,35 +118,44 @@ impl Asking {
 
     /// Compares the lookups in the image that both hold.
     pub fn compare(&mut self, both: &mut Both, query: &Query) -> Result<Words, String> {
-        let lent = self.lent_number();
         let words = self.call(both, query)?;
         both.same_buffers()?;
         let (contents, bodies) = both.models_image();
-        let models = models_words(contents, bodies, query, lent, words.show.is_some());
+        let models = models_words(self.lookups.bounds, contents, bodies, query, self.lent_number(), words.show.is_some());
         if words != models {
             return Err(format!("the port answers {}, the model {}", shown(words), shown(models)));
+        }
+        if self.lookups.bounds == WINDOW && !matches!(words.refused(), Some(9 | 10)) {
+            let shells = self.call_by(PORTS, both, query)?;
+            if words != shells {
+                return Err(format!("the window answers {}, the shell {}", shown(words), shown(shells)));
+            }
         }
         Ok(words)
     }
 
     /// Asks the port alone.
     pub fn call(&mut self, both: &mut Both, query: &Query) -> Result<Words, String> {
-        let mut out = self.lent_number();
         self.turn += 1;
+        self.call_by(self.lookups, both, query)
+    }
+
+    fn call_by(&mut self, lookups: Lookups, both: &mut Both, query: &Query) -> Result<Words, String> {
+        let mut out = self.lent_number();
         let at_end = self.turn % 2 == 0;
         // A query that is too long for the fenced memory is lent where it is.
         let name = self.name.copy(&query.name, at_end).unwrap_or(&query.name);
         let class = self.class.copy(&query.class, at_end).unwrap_or(&query.class);
         let (contents, bodies) = both.image();
         let words = Words {
-            bytes: (self.lookups.get_bytes)(contents, bodies, name, class),
-            string: (self.lookups.get_string)(contents, bodies, name, class),
-            boolean: (self.lookups.get_bool)(contents, bodies, name, class),
-            value: (self.lookups.get_value)(contents, bodies, name, class, &mut out),
+            bytes: (lookups.get_bytes)(contents, bodies, name, class),
+            string: (lookups.get_string)(contents, bodies, name, class),
+            boolean: (lookups.get_bool)(contents, bodies, name, class),
+            value: (lookups.get_value)(contents, bodies, name, class, &mut out),
             out,
             show: (self.turn % SHOWN_OF == 1).then(|| {
                 let mut shown = DEFAULT;
-                let word = (self.lookups.show)(contents, bodies, name, class, &mut shown);
+                let word = (lookups.show)(contents, bodies, name, class, &mut shown);
                 (word, part(shown, bodies))
             }),
         };
@@ -143,21 +165,21 @@ impl Asking {
         Ok(words)
     }
 
-    /// What the lent number is before the next call: another each time.
+    /// What the lent number is before a call: another in each turn.
     fn lent_number(&self) -> i64 {
         (self.turn as i64).wrapping_mul(0x5851_F42D_4C95_7F2D)
     }
 }
 
 /// The words that the model's answers make.
-fn models_words(contents: &[u16], bodies: &[u8], query: &Query, lent: i64, is_shown: bool) -> Words {
+fn models_words(bounds: Bounds, contents: &[u16], bodies: &[u8], query: &Query, lent: i64, is_shown: bool) -> Words {
     let (name, class) = (&query.name[..], &query.class[..]);
-    let value = lookup::get_value(contents, bodies, name, class);
-    let bytes = place_word(lookup::get_bytes(contents, bodies, name, class));
+    let value = bounds.get_value(contents, bodies, name, class);
+    let bytes = place_word(bounds.get_bytes(contents, bodies, name, class));
     Words {
         bytes,
-        string: place_word(lookup::get_string(contents, bodies, name, class)),
-        boolean: coded(lookup::get_bool(contents, bodies, name, class), |is| if is { TRUE } else { FALSE }),
+        string: place_word(bounds.get_string(contents, bodies, name, class)),
+        boolean: coded(bounds.get_bool(contents, bodies, name, class), |is| if is { TRUE } else { FALSE }),
         value: match value {
             Ok(Number::Is(_)) => 0,
             Ok(Number::NotANumber) => NOT_A_NUMBER,
@@ -165,7 +187,7 @@ fn models_words(contents: &[u16], bodies: &[u8], query: &Query, lent: i64, is_sh
             Err(refusal) => refusal.number().into(),
         },
         out: if let Ok(Number::Is(number)) = value { number } else { lent },
-        show: is_shown.then(|| (bytes, part(lookup::show(contents, bodies, name, class, DEFAULT), bodies))),
+        show: is_shown.then(|| (bytes, part(bounds.show(contents, bodies, name, class, DEFAULT), bodies))),
     }
 }
 

@@ -3,7 +3,7 @@
 
 use crate::both::{Calls, Read, PORTS};
 use crate::tests::{comparison_with_the_rust, whole_comparison};
-use crate::{comparing_faults, lookup_faults, path_faults, start_up_faults, walking_faults, writing_faults};
+use crate::{comparing_faults, lookup_faults, path_faults, start_up_faults, walking_faults, window_faults, writing_faults};
 use model::limits::{BODIES_BYTES, CONTENTS_WORDS, TEXT_BYTES};
 use std::os::unix::process::ExitStatusExt;
 use std::path::Path;
@@ -62,6 +62,9 @@ const SEEN_BY_THE_RUST: [&str; 7] = [
 /// Holds one fault to the comparison with both, or with the Rust alone.
 pub fn one(label: &str, with: &str, room: &str) -> Result<String, String> {
     if let Some(result) = lookup_faults::one(label, with, room) {
+        return result.map(|()| "not seen".to_string());
+    }
+    if let Some(result) = window_faults::one(label, room) {
         return result.map(|()| "not seen".to_string());
     }
     if let Some(result) = comparing_faults::one(label, with) {

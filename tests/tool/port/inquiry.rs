@@ -13,7 +13,7 @@ use crate::asking::{said, Said};
 #[cfg(feature = "rust")]
 use crate::rust::{number, texts};
 #[cfg(feature = "rust")]
-use cases::admitted::admitted_query;
+use cases::admitted::admitted_within;
 
 #[derive(Default)]
 pub struct Counts {
@@ -114,7 +114,7 @@ impl Inquiry {
             Ok(rusts) => rusts,
             Err(why) => return Ok(Some(format!("lookups in {why}"))),
         };
-        if let Err(why) = admitted_query(query, reading.entries.iter().map(|entry| &entry.key[..])) {
+        if let Err(why) = admitted_within(self.asking.lookups.bounds, query, reading.entries.iter().map(|entry| &entry.key[..])) {
             return Ok(Some(why));
         }
         let (name, class) = texts(query).expect("an admitted query");

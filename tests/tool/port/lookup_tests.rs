@@ -17,20 +17,20 @@ fn tests() -> impl Iterator<Item = (&'static str, Test)> {
 }
 
 /// What the lookups say of a query that is not refused, or the refusal's number.
-type Answer = Result<Said<'static>, u8>;
+pub type Answer = Result<Said<'static>, u8>;
 
 /// A query in a source's image, and the answer that it must get.
-struct Asked {
+pub struct Asked {
     source: Source,
     query: Query,
     expected: Answer,
 }
 
-fn asked(text: &[u8], name: &[u8], class: &[u8], expected: Answer) -> Asked {
+pub fn asked(text: &[u8], name: &[u8], class: &[u8], expected: Answer) -> Asked {
     Asked { source: Source::plain(text), query: Query::new(name, class), expected }
 }
 
-const NOTHING: Said = Said { bytes: None, string: None, boolean: None, number: Number::None };
+pub const NOTHING: Said = Said { bytes: None, string: None, boolean: None, number: Number::None };
 
 fn saying(value: &'static [u8], boolean: Option<bool>, number: Number) -> Answer {
     Ok(Said { bytes: Some(value), string: Some(value), boolean, number })
@@ -42,11 +42,11 @@ fn value(text: &'static [u8], boolean: Option<bool>, number: Number) -> Vec<Aske
 }
 
 /// A value of one digit.
-fn digit(value: &'static [u8]) -> Answer {
+pub fn digit(value: &'static [u8]) -> Answer {
     saying(value, Some(true), Number::Is((value[0] - b'0').into()))
 }
 
-type Named = (&'static str, Vec<Asked>);
+pub type Named = (&'static str, Vec<Asked>);
 
 /// Document 01's cases, each a test.
 fn named() -> Vec<Named> {
@@ -84,7 +84,7 @@ fn wide_queries() -> Vec<Named> {
     ]
 }
 
-fn values() -> Vec<Named> {
+pub fn values() -> Vec<Named> {
     use Number::{Is, NotANumber};
     vec![
         ("boolean +5", value(b"a:+5", Some(true), Is(5))),
@@ -102,7 +102,7 @@ fn values() -> Vec<Named> {
 }
 
 /// Proved examples, and the rankings that mislead.
-fn rankings() -> Vec<Named> {
+pub fn rankings() -> Vec<Named> {
     let (one, two) = (|| digit(b"1"), || digit(b"2"));
     let included = Source::with(b"#include \"p\"\na:1", &[(b"p", b"a:2")]);
     vec![
@@ -142,7 +142,7 @@ pub fn test(name: &str, lookups: Lookups, room: &str) -> Option<Result<String, S
 }
 
 /// Every lookup says what is expected, and what the model and the Rust say.
-fn as_expected(all: &[Asked], lookups: Lookups, room: &str) -> Result<String, String> {
+pub fn as_expected(all: &[Asked], lookups: Lookups, room: &str) -> Result<String, String> {
     let mut inquiry = Inquiry::new(both::PORTS, lookups, room);
     let mut answers = Vec::new();
     for Asked { source, query, expected } in all {
@@ -180,6 +180,11 @@ fn described(answer: Result<Said, u8>) -> String {
 /// What faulty lookups are held to.
 pub fn whole_comparison(lookups: Lookups, room: &str) -> Result<(), String> {
     names().into_iter().try_for_each(|name| test(name, lookups, room).expect("a test").map(drop))?;
+    families(lookups, room)
+}
+
+/// The families that see the most, for faulty lookups.
+pub fn families(lookups: Lookups, room: &str) -> Result<(), String> {
     let mut inquiry = Inquiry::new(both::PORTS, lookups, room);
     let family = |name: &str| FAMILIES.iter().find(|(of, _)| *of == name).expect("a family").1;
     ["limits", "query-words", "random"]

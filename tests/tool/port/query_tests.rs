@@ -6,7 +6,7 @@ use crate::both::{self, Both, SHAPES};
 use crate::fenced::zero_bytes;
 use crate::image_tests::image_of;
 use crate::lookup_tests::Test;
-use model::lookup;
+use model::lookup::Bounds;
 use records::{Query, Source};
 
 pub const TESTS: [(&str, Test); 4] = [
@@ -24,8 +24,8 @@ pub fn dotted(parts: usize) -> Vec<u8> {
 /// A number is written, and nothing for what is not a number, none, or a refusal.
 fn lent_number(lookups: Lookups) -> Result<String, String> {
     let (contents, bodies) = image_of(b"a:-7\nb:x\nc:\xff\nd:");
-    let long = vec![b'a'; 1025];
-    let wide = dotted(33);
+    let long = vec![b'a'; lookups.bounds.bytes + 1];
+    let wide = dotted(lookups.bounds.parts + 1);
     let cases: [(&[u16], &[u8], u64, Option<i64>); 8] = [
         (&contents, b"a", 0, Some(-7)),
         (&contents, b"b", 65_534, None),
@@ -49,20 +49,21 @@ fn lent_number(lookups: Lookups) -> Result<String, String> {
     Ok(format!("{} lookups", cases.len() * before.len()))
 }
 
-/// Names and classes around 1,024 bytes and far past them, up to lengths of over 32 bits.
+/// Names and classes around the bound and far past it, up to lengths of over 32 bits.
 fn query_lengths(lookups: Lookups) -> Result<String, String> {
     let mut both = Both::new(both::PORTS);
     let mut asking = Asking::new(lookups);
-    let text = [vec![b'a'; 1024], b":1".to_vec()].concat();
+    let most = lookups.bounds.bytes;
+    let text = [vec![b'a'; most], b":1".to_vec()].concat();
     let mut count = 0;
     for shape in SHAPES {
         both.compare_in(&Source::plain(&text), shape)?.map_err(|number| format!("the text is refused by {number}"))?;
-        for length in (1_018..=1_030).chain([2_048, 4_095, 4_096, 4_097, 65_535, 65_536, 65_537, 66_560, 200_000]) {
+        for length in (most - 6..=most + 6).chain([2_048, 4_095, 4_096, 4_097, 65_535, 65_536, 65_537, 66_560, 200_000]) {
             let dots = [b"a".to_vec(), vec![b'.'; length - 1]].concat();
             for long in [vec![b'a'; length], dots, vec![b'.'; length], vec![0; length]] {
                 for query in [Query::new(&long, b""), Query::new(b"a", &long), Query::new(&long, &long)] {
                     let words = asking.compare(&mut both, &query)?;
-                    if (words.refused() == Some(9)) != (length > 1024) {
+                    if (words.refused() == Some(9)) != (length > most) {
                         return Err(format!("{length} bytes: {}", shown(words)));
                     }
                     count += 1;
@@ -72,7 +73,7 @@ fn query_lengths(lookups: Lookups) -> Result<String, String> {
     }
     let Some(zeroes) = zero_bytes((1 << 32) + 2_000) else { return Ok(format!("{count} queries of up to 18 bits")) };
     let (contents, bodies) = both.image();
-    for more in [0, 1, 1_000, 1_024, 1_025, 2_000] {
+    for more in [0, 1, most - 1, most, most + 1, 2_000] {
         let long = &zeroes[..(1 << 32) + more];
         for (name, class) in [(long, b"a".as_slice()), (b"a", long)] {
             let mut out = 5;
@@ -101,25 +102,25 @@ struct QueryText {
     wide: bool,
 }
 
-fn query_texts() -> Vec<QueryText> {
+fn query_texts(Bounds { bytes, parts }: Bounds) -> Vec<QueryText> {
     let text = |bytes: &[u8], long, malformed, wide| QueryText { bytes: bytes.to_vec(), long, malformed, wide };
     let dotted_and = |parts, end: &[u8]| [dotted(parts), end.to_vec()].concat();
     vec![
         text(b"a", false, false, false),
         text(b"", false, false, false),
-        text(&dotted(32), false, false, false),
-        text(&dotted_and(32, b"...."), false, false, false),
-        text(&dotted(33), false, false, true),
-        text(&dotted_and(512, b"."), false, false, true),
+        text(&dotted(parts), false, false, false),
+        text(&dotted_and(parts, b"...."), false, false, false),
+        text(&dotted(parts + 1), false, false, true),
+        text(&dotted_and(bytes / 2, b"."), false, false, true),
         text(b".a", false, true, false),
         text(b"a?", false, true, false),
         text(b"\xff", false, true, false),
-        text(&dotted_and(33, b" "), false, true, true),
-        text(&dotted_and(511, b"*."), false, true, true),
-        text(&[b'a'; 1025], true, false, false),
-        text(&[b'.'; 1025], true, true, false),
-        text(&dotted(513), true, false, true),
-        text(&dotted_and(513, b"*"), true, true, true),
+        text(&dotted_and(parts + 1, b" "), false, true, true),
+        text(&dotted_and(bytes / 2 - 1, b"*."), false, true, true),
+        text(&vec![b'a'; bytes + 1], true, false, false),
+        text(&vec![b'.'; bytes + 1], true, true, false),
+        text(&dotted(bytes / 2 + 1), true, false, true),
+        text(&dotted_and(bytes / 2 + 1, b"*"), true, true, true),
     ]
 }
 
@@ -127,7 +128,7 @@ fn query_texts() -> Vec<QueryText> {
 fn order_of_refusals(lookups: Lookups) -> Result<String, String> {
     let (mut both, mut asking) = (Both::new(both::PORTS), Asking::new(lookups));
     let (contents, bodies) = image_of(b"*a:1");
-    let texts = query_texts();
+    let texts = query_texts(lookups.bounds);
     let pairs = || texts.iter().flat_map(|name| texts.iter().map(move |class| (name, class)));
     for bad in [false, true] {
         for (number, (name, class)) in pairs().enumerate() {
@@ -160,7 +161,7 @@ fn query_within_the_bodies(lookups: Lookups) -> Result<String, String> {
     for name in &places {
         for class in &places {
             let word = (lookups.get_bytes)(&contents, &bodies, name, class);
-            let models = place_word(lookup::get_bytes(&contents, &bodies, name, class));
+            let models = place_word(lookups.bounds.get_bytes(&contents, &bodies, name, class));
             if word != models {
                 return Err(format!(
                     "\"{}\" and \"{}\": {word:#x}, and not {models:#x}",

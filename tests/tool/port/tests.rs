@@ -8,7 +8,7 @@ use crate::fenced::zero_bytes;
 use crate::run::Run;
 use crate::{
     comparing, comparing_faults, comparing_tests, lookup_faults, lookup_tests, path_faults, start_up_faults, start_up_tests,
-    walking, walking_faults, walking_tests, writing_faults, writing_tests,
+    walking, walking_faults, walking_tests, window_faults, window_tests, writing_faults, writing_tests,
 };
 use cases::archives;
 use cases::draw::Draw;
@@ -95,10 +95,11 @@ pub fn names() -> Vec<&'static str> {
     let readings = NAMED.into_iter().chain(TESTS.map(|(name, _)| name)).chain(["faults", "faults of names with dots"]);
     let start_ups = start_up_tests::names().chain(["faults of start-ups"]);
     let lookups = lookup_tests::names().into_iter().chain(["faults of lookups"]);
+    let window = window_tests::names().into_iter().chain(["faults of the window"]);
     let comparing = comparing_tests::names().chain(["faults of the comparing call"]);
     let writing = writing_tests::names().chain(["faults of the writing call"]);
     let walking = walking_tests::names().chain(["faults of walks and additions"]);
-    readings.chain(start_ups).chain(lookups).chain(comparing).chain(writing).chain(walking).collect()
+    readings.chain(start_ups).chain(lookups).chain(window).chain(comparing).chain(writing).chain(walking).collect()
 }
 
 pub fn test(name: &str, room: &str) -> Result<String, String> {
@@ -114,6 +115,9 @@ pub fn test(name: &str, room: &str) -> Result<String, String> {
     if name == "faults of lookups" {
         return lookup_faults::all_seen(room);
     }
+    if name == "faults of the window" {
+        return window_faults::all_seen(room);
+    }
     if name == "faults of the comparing call" {
         return comparing_faults::all_seen(room);
     }
@@ -124,6 +128,9 @@ pub fn test(name: &str, room: &str) -> Result<String, String> {
         return walking_faults::all_seen(room);
     }
     if let Some(result) = lookup_tests::test(name, asking::PORTS, room) {
+        return result;
+    }
+    if let Some(result) = window_tests::test(name, asking::WINDOWS, room) {
         return result;
     }
     if let Some(result) = comparing_tests::test(name, comparing::PORTS) {

@@ -1,81 +1,95 @@
--- `lookup::get_bytes` meets its contract: 8, and then what the shape of name and class decides. Assumes nothing.
+-- `lookup::get_bytes` meets its contract: 8, what the shape of name and class decides, and the search. Assumes nothing.
 use mathlib.Core.Bool.{true}
-use mathlib.Core.Path.{_≡_, sym, _∙_}
+use mathlib.Core.Path.{_≡_, refl, sym, _∙_}
+use native.Mathlib.Omega.{arith}
+use borrow.Author.Needs.{needs}
 use borrow.Author.Tests.{not-true, not-false}
 use Rattle.definition.specs.Image.{isImage}
-use Rattle.definition.specs.Lookup.{lookup, getBytes}
-use Rattle.definition.specs.Query.{positionsOf}
-use Rattle.query.specs.Splits.{namesIn}
-use Rattle.query.specs.Shapes.{shaped}
-use Rattle.query.specs.declared.Shape.{Shape}
-use Rattle.query.specs.declared.Shape.the-variants.{Good, Malformed, Many, Long}
-use Rattle.query.proofs.Queries.{both-inside}
-use Rattle.lookup.proofs.Looking.{no-image, by-shape}
-use borrow.Author.Needs.{needs}
+use Rattle.definition.specs.Query.{shell}
+use Rattle.query.proofs.Queries.{Told, told-shell, both-inside}
+use Rattle.image_judge.proofs.Judged.{Judged, judged}
+use Rattle.lookup.specs.Searches.{startsOf, lengthsOf}
+use Rattle.lookup.proofs.Looking.{no-bytes, bytes-long, bytes-malformed, bytes-many, bytes-good, split-in}
 use Rattle.lookup.proofs.get_bytes.Statement.{statement}
 use Rattle.lookup.proofs.get_bytes.Tie as tie
 
+-- ---- Where both are parsed
+
+abbrev start : tie.After-both → tie.Start
+start c = c .before .before .before .before .before .before .before .before .before
+
+image-in : (c : tie.After-both) → let a = start c .args in isImage (a .contents .now) (a .bodies .now) ≡ true
+image-in c = sym (c .before .before .before .before .is-image .ensures) ∙ not-false _ (c .before .before .before .if1 .left)
+
+held : (c : tie.After-both) → let a = start c .args in Judged (a .contents .now) (a .bodies .now)
+held c = judged _ _ (image-in c)
+
+name-told : (c : tie.After-both) → let n = c .before .before .parse-query .result in Told shell (start c .args .name .now) (n .shape) (startsOf (n .split)) (lengthsOf (n .split))
+name-told c = told-shell _ _ (c .before .before .parse-query .ensures)
+
+class-told : (c : tie.After-both) → let n = c .before .parse-query2 .result in Told shell (start c .args .class .now) (n .shape) (startsOf (n .split)) (lengthsOf (n .split))
+class-told c = told-shell _ _ (c .before .parse-query2 .ensures)
+
+-- ---- Needs
+
 returns : tie.Need-returns
 returns c =
-    let a = c .before .before .before .before .before .before .args in
-    no-image (a .contents .now) (a .bodies .now) (a .name .now) (a .class .now) (sym (c .before .is-image .ensures) ∙ not-true _ (c .if1 .taken))
+    let start-here = c .before .before .before .before .before .before in
+    let is-image-here = c .before in
+    let a = start-here .args in
+    no-bytes shell (a .contents .now) (a .bodies .now) (a .name .now) (a .class .now) (sym (is-image-here .is-image .ensures) ∙ not-true _ (c .if1 .taken))
 
--- ---- From the shape of both on
+shared-slice-read-last : tie.Need-shared-slice-read-last
+shared-slice-read-last c =
+    let both-here = c .before .before .before .before .before in
+    omega (arith, held both-here .contents-long)
 
-image-in : (c : tie.Else1) → isImage (c .before .before .before .before .before .before .args .contents .now) (c .before .before .before .before .before .before .args .bodies .now) ≡ true
-image-in c = sym (c .before .is-image .ensures) ∙ not-false _ (c .if1 .left)
-
-abbrev At : tie.After-both → Shape → Type 0
-At c s =
-    let a = c .before .before .before .before .before .before .before .before .before .args in
-    let n = c .before .before .parse-query .result in
-    let k = c .before .parse-query2 .result in
-    lookup (a .contents .now) (a .bodies .now) (shaped s (positionsOf (namesIn (a .name .now) (n .split)) (namesIn (a .class .now) (k .split))))
-    ≡ getBytes (a .contents .now) (a .bodies .now) (a .name .now) (a .class .now)
-
-shape-in : (c : tie.After-both) (s : Shape) → c .both .result ≡ s → At c s
-shape-in c s e =
-    by-shape _ _ _ _ (image-in (c .before .before .before)) (c .before .before .parse-query .result) (c .before .parse-query2 .result)
-    (c .before .before .parse-query .ensures) (c .before .parse-query2 .ensures) s (sym e ∙ c .both .ensures)
+cast-last : tie.Need-cast-last
+cast-last c =
+    let both-here = c .before .before .before .before .before in
+    omega (arith, held both-here .count-most)
 
 match-entry-requires : tie.Need-match-entry-requires
 match-entry-requires c κs =
-    let both-here = c .before .before .before .before in
-    let enum-told4-here = c .before .before in
-    let n = both-here .before .before .parse-query in
-    let k = both-here .before .parse-query2 in
-    let i = both-inside _ _ (n .result) (k .result) (n .ensures) (k .ensures) (sym (enum-told4-here .enum-told4 .given .1) ∙ both-here .both .ensures) in
-    (image-in (both-here .before .before .before), i .0, i .1)
+    let both-here = c .before .before .before .before .before in
+    let parse-query-here = c .before .before .before .before .before .before .before in
+    let parse-query2-here = c .before .before .before .before .before .before in
+    let enum-told4-here = c .before .before .before in
+    let i = both-inside shell _ _ (name-told both-here) (class-told both-here) (omega arith) (sym (enum-told4-here .enum-told4 .given .1) ∙ both-here .both .ensures) in
+    (image-in both-here, split-in _ _ (parse-query-here .parse-query .ensures) (i .0), split-in _ _ (parse-query2-here .parse-query2 .ensures) (i .1), omega arith)
+
+value-of-requires : tie.Need-value-of-requires
+value-of-requires c κs =
+    let both-here = c .before .before .before .before .before .before in
+    held both-here .rows-within
 
 returns-2 : tie.Need-returns-2
-unfolding lookup shaped
 returns-2 c =
     let both-here = c .before .before in
-    let enum-told-here = c in
-    shape-in both-here Long (enum-told-here .enum-told .given .1)
+    bytes-long shell _ _ _ _ (image-in both-here) (name-told both-here) (class-told both-here) _ (both-here .both .ensures) (c .enum-told .given .1)
 
 returns-3 : tie.Need-returns-3
-unfolding lookup shaped
 returns-3 c =
     let both-here = c .before .before in
-    let enum-told2-here = c in
-    shape-in both-here Malformed (enum-told2-here .enum-told2 .given .1)
+    bytes-malformed shell _ _ _ _ (image-in both-here) (name-told both-here) (class-told both-here) _ (both-here .both .ensures) (c .enum-told2 .given .1)
 
 returns-4 : tie.Need-returns-4
-unfolding lookup shaped
 returns-4 c =
     let both-here = c .before .before in
-    let enum-told3-here = c in
-    shape-in both-here Many (enum-told3-here .enum-told3 .given .1)
+    bytes-many shell _ _ _ _ (image-in both-here) (name-told both-here) (class-told both-here) _ (both-here .both .ensures) (c .enum-told3 .given .1)
 
 returns-5 : tie.Need-returns-5
-unfolding shaped
 returns-5 c =
-    let both-here = c .before .before .before .before .before in
-    let enum-told4-here = c .before .before .before in
-    c .match-entry .ensures ∙ shape-in both-here Good (enum-told4-here .enum-told4 .given .1)
+    let both-here = c .before .before .before .before .before .before .before in
+    let enum-told4-here = c .before .before .before .before .before in
+    let match-entry-here = c .before in
+    c .value-of .ensures
+    ∙ bytes-good shell _ _ _ _ (image-in both-here) (name-told both-here) (class-told both-here) _ (both-here .both .ensures) (enum-told4-here .enum-told4 .given .1)
+    (match-entry-here .match-entry .result) _ refl (match-entry-here .match-entry .ensures)
 
 pub get-bytes-spec : {M : Type 1} → statement M
 get-bytes-spec =
     tie.close
-    (tie.spec (λ c κs. search needs) returns (λ c κs. search needs) (λ c κs. search needs) (λ c κs. search needs) (λ c. search needs) (λ c. search needs) (λ c. search needs) (λ c. search needs) match-entry-requires returns-2 returns-3 returns-4 returns-5)
+    (tie.spec
+    (λ c κs. search needs) returns (λ c κs. search needs) (λ c κs. search needs) (λ c κs. search needs) (λ c. search needs) (λ c. search needs) (λ c. search needs) (λ c. search needs)
+    shared-slice-read-last cast-last match-entry-requires value-of-requires returns-2 returns-3 returns-4 returns-5)

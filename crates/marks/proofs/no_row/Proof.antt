@@ -1,12 +1,11 @@
 -- `marks::no_row` meets its contract. Assumes nothing.
 use mathlib.Core.Path.{refl}
-use Rattle.definition.specs.Lists.{zeroes}
 use Rattle.marks.specs.Rows.{marksOf}
 use Rattle.marks.proofs.no_row.Statement.{statement}
 use Rattle.marks.proofs.no_row.Tie as tie
 
 returns : tie.Need-returns
-unfolding marksOf zeroes
+unfolding marksOf
 returns c = refl
 
 pub no-row-spec : {M : Type 1} → statement M

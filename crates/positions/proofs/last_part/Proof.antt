@@ -2,17 +2,17 @@
 use mathlib.Core.Path.{_≡_, ap, _∙_}
 use Prim.Native.Nat.{_-_}
 use native.Mathlib.Omega.{arith}
-use Rattle.positions.specs.Spans.{spanOf}
+use Rattle.positions.specs.Parts.{partAt}
 use borrow.Author.Needs.{needs}
 use Rattle.positions.proofs.last_part.Statement.{statement}
 use Rattle.positions.proofs.last_part.Tie as tie
 
 returns : tie.Need-returns
 returns c =
-    let start-here = c .before .before in
+    let start-here = c .before .before .before .before .before in
     let a = start-here .args in
     let z : 0 ≡ a .len - 1 = omega arith in
-    c .span-at .ensures ∙ ap (spanOf (a .s)) z
+    c .part-at .ensures ∙ ap (partAt (a .text .now) (a .starts .now) (a .lengths .now)) z
 
 pub last-part-spec : {M : Type 1} → statement M
 last-part-spec =

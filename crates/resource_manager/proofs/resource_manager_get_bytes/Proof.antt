@@ -1,5 +1,6 @@
 -- `resource_manager::resource_manager_get_bytes` meets its contract. Assumes nothing.
 use mathlib.Core.Path.{ap, _∙_}
+use Rattle.definition.specs.Query.{shell}
 use Rattle.codes.specs.Codes.{placeCode}
 use Rattle.resource_manager.proofs.Fitting.{bytes-small}
 use borrow.Author.Needs.{needs}
@@ -11,7 +12,7 @@ place-code-requires c κs =
     let start-here = c .before .before .before .before .before in
     let get-bytes-here = c in
     let a = start-here .args in
-    bytes-small (a .contents .now) (a .bodies .now) (a .name .now) (a .class .now) (get-bytes-here .get-bytes .result) (get-bytes-here .get-bytes .ensures)
+    bytes-small shell (a .contents .now) (a .bodies .now) (a .name .now) (a .class .now) (get-bytes-here .get-bytes .result) (get-bytes-here .get-bytes .ensures)
 
 returns : tie.Need-returns
 returns c =

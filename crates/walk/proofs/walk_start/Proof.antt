@@ -1,16 +1,19 @@
 -- `walk::walk_start` meets its contract: 8, and then what the shape of name and class decides. Assumes nothing.
 use mathlib.Core.Bool.{true}
-use mathlib.Core.Path.{_≡_, sym, _∙_}
+use mathlib.Core.List.{List}
+use mathlib.Core.Path.{_≡_, sym, ap, _∙_}
 use native.Mathlib.Omega.{arith}
+use lib.ListN.{take}
 use borrow.Author.Needs.{needs}
 use borrow.Author.Tests.{not-true, not-false}
 use Rattle.definition.specs.Image.{countOf, isImage}
-use Rattle.definition.specs.Query.{positionsOf}
+use Rattle.definition.specs.Query.{Position, positionsOf, shell, queryOf}
 use Rattle.definition.specs.Walking.{begun, walkStart}
 use Rattle.query.specs.Splits.{namesIn}
 use Rattle.query.specs.Shapes.{shaped}
 use Rattle.query.specs.declared.Shape.{Shape}
 use Rattle.query.specs.declared.Shape.the-variants.{Good, Malformed, Many, Long}
+use Rattle.query.proofs.Queries.{query-is, told-shell}
 use Rattle.image_judge.proofs.Judged.{judged}
 use Rattle.walk.proofs.Walking.{start-no-image, start-by-shape}
 use Rattle.walk.proofs.walk_start.Statement.{statement}
@@ -26,18 +29,30 @@ returns c =
 image-in : (c : tie.Else1) → let a = c .before .before .before .before .before .before .args in isImage (a .contents .now) (a .bodies .now) ≡ true
 image-in c = sym (c .before .is-image .ensures) ∙ not-false _ (c .if1 .left)
 
-abbrev At : tie.After-both → Shape → Type 0
-At c s =
-    let a = c .before .before .before .before .before .before .before .before .before .before .args in
-    let n = c .before .before .parse-query .result in
-    let k = c .before .parse-query2 .result in
-    begun (countOf (a .contents .now)) (shaped s (positionsOf (namesIn (a .name .now) (n .split)) (namesIn (a .class .now) (k .split))))
-    ≡ walkStart (a .contents .now) (a .bodies .now) (a .name .now) (a .class .now)
+abbrev start : tie.After-both → tie.Start
+start c = c .before .before .before .before .before .before .before .before .before .before
 
-shape-in : (c : tie.After-both) (s : Shape) → c .both .result ≡ s → At c s
+-- the positions of the parts that are kept
+abbrev asked : tie.After-both → List Position
+asked c =
+    let a = start c .args in
+    let n = c .before .before .parse-query .result .split in
+    let k = c .before .parse-query2 .result .split in
+    positionsOf (namesIn (a .name .now) (take (n .count) (n .starts)) (take (n .count) (n .lengths))) (namesIn (a .class .now) (take (k .count) (k .starts)) (take (k .count) (k .lengths)))
+
+asks : (c : tie.After-both) (s : Shape) → c .both .result ≡ s → let a = start c .args in queryOf (a .name .now) (a .class .now) ≡ shaped s (asked c)
+asks c s e =
+    let a = start c .args in
+    let n = c .before .before .parse-query in
+    let k = c .before .parse-query2 in
+    query-is shell (a .name .now) (a .class .now) (told-shell (a .name .now) (n .result) (n .ensures)) (told-shell (a .class .now) (k .result) (k .ensures))
+    ∙ ap (λ (x : Shape). shaped x (asked c)) (sym (c .both .ensures) ∙ e)
+
+shape-in : (c : tie.After-both) (s : Shape) → c .both .result ≡ s → let a = start c .args in
+    begun (countOf (a .contents .now)) (shaped s (asked c)) ≡ walkStart (a .contents .now) (a .bodies .now) (a .name .now) (a .class .now)
 shape-in c s e =
-    start-by-shape _ _ _ _ (image-in (c .before .before .before .before)) (c .before .before .parse-query .result) (c .before .parse-query2 .result)
-    (c .before .before .parse-query .ensures) (c .before .parse-query2 .ensures) s (sym e ∙ c .both .ensures)
+    let a = start c .args in
+    start-by-shape (a .contents .now) (a .bodies .now) (a .name .now) (a .class .now) (image-in (c .before .before .before .before)) s (asked c) (asks c s e)
 
 returns-2 : tie.Need-returns-2
 unfolding begun shaped
