@@ -12,6 +12,7 @@ pub mod limits;
 pub mod lookups;
 pub mod named;
 pub mod named_chains;
+pub mod orders;
 pub mod readings;
 pub mod realistic;
 pub mod slips;

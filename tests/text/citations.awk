@@ -18,13 +18,13 @@ BEGIN {
     for (i in words)
         citing[words[i]] = 1
     # files of examples, which are cited with the line that is meant
-    split("Examples Manual Numbers NameBytes Starts Walks bounds/Bounds bounds/Lookups bounds/Walks listing/Examples arguments/Examples " \
+    split("Examples Manual Numbers NameBytes Starts Walks Orderings bounds/Bounds bounds/Lookups bounds/Walks listing/Examples arguments/Examples " \
         "answers_listed/Examples", words, " ")
     for (i in words)
         examples[words[i]] = 1
     # what the names of a suite's tests are quoted in
     suite["model"] = "^tests/tool/model_tests.rs$"
-    suite["port"] = "^tests/(tool/port/[a-z_]*|cases/(readings|lookups|limits|dotted|struck|chains|named_chains|images|walks)).rs$"
+    suite["port"] = "^tests/(tool/port/[a-z_]*|cases/(readings|lookups|limits|dotted|struck|chains|named_chains|images|walks|orders)).rs$"
     suite["beside"] = "^tests/(cases/(readings|lookups|chains)|tool/beside/families).rs$"
     suite["list"] = "^tests/list$"
     suite["getres"] = "^tests/getres$"

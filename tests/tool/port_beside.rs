@@ -12,6 +12,8 @@
 //!     port_beside writings                          lists the families of images
 //!     port_beside walk FAMILY SEED TIMES ROOM       compares the walks and additions of one family
 //!     port_beside walks                             lists the families of walks and additions
+//!     port_beside order FAMILY SEED TIMES ROOM      rearranges one family of texts and packs
+//!     port_beside orders                            lists the families of texts and packs
 //!     port_beside test NAME ROOM                    runs one test
 //!     port_beside tests                             lists the tests
 //!     port_beside fault LABEL both|rust|third|start-ups ROOM   compares a faulty port: 'faults' asks that this fails
@@ -43,6 +45,8 @@ mod lending;
 mod lookup_faults;
 #[path = "port/lookup_tests.rs"]
 mod lookup_tests;
+#[path = "port/orders.rs"]
+mod orders;
 #[path = "port/path_faults.rs"]
 mod path_faults;
 #[path = "port/query_tests.rs"]
@@ -87,6 +91,7 @@ use cases::struck;
 use cases::walks;
 use comparing::Comparing;
 use inquiry::Inquiry;
+use orders::Orders;
 use records::Start;
 use run::Run;
 use std::collections::BTreeSet;
@@ -111,6 +116,8 @@ fn main() -> ExitCode {
         ["writings"] => Ok(names(&images::FAMILIES)),
         ["walk", family, seed, times, _] => walk(family, seed, times),
         ["walks"] => Ok(names(&walks::FAMILIES)),
+        ["order", family, seed, times, room] => order(family, seed, times, room),
+        ["orders"] => Ok(names(&cases::orders::FAMILIES)),
         ["test", name, room] => tests::test(name, room),
         ["tests"] => Ok(tests::names().join("\n")),
         ["fault", label, with, room] => faults::one(label, with, room),
@@ -195,4 +202,14 @@ fn walk(family: &str, seed: &str, times: &str) -> Result<String, String> {
     let mut walking = Walking::new(walking::PORTS);
     family(extent(seed, times)?, &mut |image, turns| walking.see(image, turns))?;
     walking.counts.report()
+}
+
+/// Both readings have a directory of their own for the Rust's files.
+fn order(family: &str, seed: &str, times: &str, room: &str) -> Result<String, String> {
+    let family = find(&cases::orders::FAMILIES, family)?;
+    let rooms = ["first", "second"].map(|name| format!("{room}/{name}"));
+    rooms.iter().try_for_each(std::fs::create_dir).map_err(|why| format!("no directory in {room}: {why}"))?;
+    let mut orders = Orders::new([&rooms[0], &rooms[1]]);
+    family(extent(seed, times)?, &mut |pair, queries| orders.see(pair, queries))?;
+    orders.counts.report()
 }

@@ -15,50 +15,52 @@ plainly : ℕ → ℕ → ℕ → ℕ → ℕ → List ℕ
 plainly t n c w s = t ∷ n ∷ c ∷ w ∷ s ∷ 0 ∷ 0 ∷ 0 ∷ 0 ∷ 0 ∷ 0 ∷ []
 
 planned :
-    (planOf (ascii "text" ∷ ascii "a.b" ∷ ascii "A.B" ∷ []) ≡ plan (plainly 1 2 3 0 0) 0 anything false false false false false)
-    × (planOf (ascii "--file" ∷ ascii "-p" ∷ ascii "-" ∷ ascii "a.b" ∷ []) ≡ plan (plainly 3 4 0 0 0) 0 anything false false false false false)
-    × (planOf (ascii "--" ∷ ascii "-t" ∷ ascii "-n" ∷ ascii "--help" ∷ []) ≡ plan (plainly 2 3 4 0 0) 0 operand false false false false false)
-    × (planOf (ascii "t" ∷ ascii "--without" ∷ ascii "p" ∷ ascii "n" ∷ []) ≡ plan (plainly 1 4 0 3 0) 0 anything false false false false false)
-    × (planOf (ascii "--status-fd" ∷ ascii "3" ∷ ascii "--status-fd" ∷ ascii "4" ∷ []) ≡ plan (plainly 0 0 0 0 2) 4 anything false false false false false)
-    × (planOf (ascii "--status-fd" ∷ ascii "2" ∷ ascii "t" ∷ ascii "-n" ∷ []) ≡ plan (plainly 3 0 0 0 0) 2 anything false false false false false)
-    × (planOf (ascii "t" ∷ ascii "n" ∷ ascii "c" ∷ ascii "more" ∷ ascii "--help" ∷ []) ≡ plan (plainly 1 2 3 0 0) 4 anything true false false false false)
-    × (planOf (ascii "--missing" ∷ ascii "t" ∷ ascii "n" ∷ ascii "--missing" ∷ []) ≡ plan (plainly 2 3 0 0 0) 0 anything false true false false false)
+    (planOf (ascii "text" ∷ ascii "a.b" ∷ ascii "A.B" ∷ []) ≡ plan (plainly 1 2 3 0 0) 0 anything false false false false false false)
+    × (planOf (ascii "--file" ∷ ascii "-p" ∷ ascii "-" ∷ ascii "a.b" ∷ []) ≡ plan (plainly 3 4 0 0 0) 0 anything false false false false false false)
+    × (planOf (ascii "--" ∷ ascii "-t" ∷ ascii "-n" ∷ ascii "--help" ∷ []) ≡ plan (plainly 2 3 4 0 0) 0 operand false false false false false false)
+    × (planOf (ascii "t" ∷ ascii "--without" ∷ ascii "p" ∷ ascii "n" ∷ []) ≡ plan (plainly 1 4 0 3 0) 0 anything false false false false false false)
+    × (planOf (ascii "--status-fd" ∷ ascii "3" ∷ ascii "--status-fd" ∷ ascii "4" ∷ []) ≡ plan (plainly 0 0 0 0 2) 4 anything false false false false false false)
+    × (planOf (ascii "--status-fd" ∷ ascii "2" ∷ ascii "t" ∷ ascii "-n" ∷ []) ≡ plan (plainly 3 0 0 0 0) 2 anything false false false false false false)
+    × (planOf (ascii "t" ∷ ascii "n" ∷ ascii "c" ∷ ascii "more" ∷ ascii "--help" ∷ []) ≡ plan (plainly 1 2 3 0 0) 4 anything true false false false false false)
+    × (planOf (ascii "--shared" ∷ ascii "t" ∷ ascii "n" ∷ []) ≡ plan (plainly 2 3 0 0 0) 0 anything false false false false true false)
+    × (planOf (ascii "--missing" ∷ ascii "t" ∷ ascii "n" ∷ ascii "--missing" ∷ []) ≡ plan (plainly 2 3 0 0 0) 0 anything false true false false false false)
 unfolding definition planOf planFrom withArgument isOption optionOf chainOption withFlag withOption withValue takes once descriptor givenFor withOperand misunderstood placed settled plainly
-planned = (refl, refl, refl, refl, refl, refl, refl, refl)
+planned = (refl, refl, refl, refl, refl, refl, refl, refl, refl)
 
 -- with a chain: format, property, .Xresources, .Xdefaults, XENVIRONMENT's, the host's
 chained :
-    (planOf (ascii "--default" ∷ ascii "n" ∷ ascii "c" ∷ []) ≡ plan (0 ∷ 2 ∷ 3 ∷ 0 ∷ 0 ∷ 0 ∷ 0 ∷ 0 ∷ 0 ∷ 0 ∷ 0 ∷ []) 0 anything false false false false true)
-    × (planOf (ascii "n" ∷ ascii "--xresources" ∷ ascii "x" ∷ ascii "--host" ∷ ascii "h" ∷ []) ≡ plan (0 ∷ 1 ∷ 0 ∷ 0 ∷ 0 ∷ 0 ∷ 0 ∷ 3 ∷ 0 ∷ 0 ∷ 5 ∷ []) 0 anything false false false false true)
-    × (planOf (ascii "--property" ∷ ascii "p" ∷ ascii "--property-format" ∷ ascii "16" ∷ []) ≡ plan (0 ∷ 0 ∷ 0 ∷ 0 ∷ 0 ∷ 4 ∷ 2 ∷ 0 ∷ 0 ∷ 0 ∷ 0 ∷ []) 0 anything false false false false true)
-    × (planOf (ascii "--xdefaults" ∷ ascii "d" ∷ ascii "--xenvironment" ∷ ascii "e" ∷ ascii "n" ∷ []) ≡ plan (0 ∷ 5 ∷ 0 ∷ 0 ∷ 0 ∷ 0 ∷ 0 ∷ 0 ∷ 2 ∷ 4 ∷ 0 ∷ []) 0 anything false false false false true)
-    × (planOf (ascii "t" ∷ ascii "n" ∷ ascii "c" ∷ ascii "--default" ∷ []) ≡ plan (0 ∷ 1 ∷ 2 ∷ 0 ∷ 0 ∷ 0 ∷ 0 ∷ 0 ∷ 0 ∷ 0 ∷ 0 ∷ []) 3 anything false false false false true)
-    × (planOf (ascii "--property-format" ∷ ascii "7" ∷ ascii "n" ∷ []) ≡ plan (0 ∷ 3 ∷ 0 ∷ 0 ∷ 0 ∷ 0 ∷ 0 ∷ 0 ∷ 0 ∷ 0 ∷ 0 ∷ []) 2 anything false false false false true)
-    × (planOf (ascii "--missing" ∷ ascii "--default" ∷ ascii "n" ∷ []) ≡ plan (0 ∷ 3 ∷ 0 ∷ 0 ∷ 0 ∷ 0 ∷ 0 ∷ 0 ∷ 0 ∷ 0 ∷ 0 ∷ []) 0 anything false true false false true)
+    (planOf (ascii "--default" ∷ ascii "n" ∷ ascii "c" ∷ []) ≡ plan (0 ∷ 2 ∷ 3 ∷ 0 ∷ 0 ∷ 0 ∷ 0 ∷ 0 ∷ 0 ∷ 0 ∷ 0 ∷ []) 0 anything false false false false false true)
+    × (planOf (ascii "n" ∷ ascii "--xresources" ∷ ascii "x" ∷ ascii "--host" ∷ ascii "h" ∷ []) ≡ plan (0 ∷ 1 ∷ 0 ∷ 0 ∷ 0 ∷ 0 ∷ 0 ∷ 3 ∷ 0 ∷ 0 ∷ 5 ∷ []) 0 anything false false false false false true)
+    × (planOf (ascii "--property" ∷ ascii "p" ∷ ascii "--property-format" ∷ ascii "16" ∷ []) ≡ plan (0 ∷ 0 ∷ 0 ∷ 0 ∷ 0 ∷ 4 ∷ 2 ∷ 0 ∷ 0 ∷ 0 ∷ 0 ∷ []) 0 anything false false false false false true)
+    × (planOf (ascii "--xdefaults" ∷ ascii "d" ∷ ascii "--xenvironment" ∷ ascii "e" ∷ ascii "n" ∷ []) ≡ plan (0 ∷ 5 ∷ 0 ∷ 0 ∷ 0 ∷ 0 ∷ 0 ∷ 0 ∷ 2 ∷ 4 ∷ 0 ∷ []) 0 anything false false false false false true)
+    × (planOf (ascii "t" ∷ ascii "n" ∷ ascii "c" ∷ ascii "--default" ∷ []) ≡ plan (0 ∷ 1 ∷ 2 ∷ 0 ∷ 0 ∷ 0 ∷ 0 ∷ 0 ∷ 0 ∷ 0 ∷ 0 ∷ []) 3 anything false false false false false true)
+    × (planOf (ascii "--property-format" ∷ ascii "7" ∷ ascii "n" ∷ []) ≡ plan (0 ∷ 3 ∷ 0 ∷ 0 ∷ 0 ∷ 0 ∷ 0 ∷ 0 ∷ 0 ∷ 0 ∷ 0 ∷ []) 2 anything false false false false false true)
+    × (planOf (ascii "--missing" ∷ ascii "--default" ∷ ascii "n" ∷ []) ≡ plan (0 ∷ 3 ∷ 0 ∷ 0 ∷ 0 ∷ 0 ∷ 0 ∷ 0 ∷ 0 ∷ 0 ∷ 0 ∷ []) 0 anything false true false false false true)
 unfolding definition planOf planFrom withArgument isOption optionOf chainOption withFlag withOption withValue takes once formatOf givenFor withOperand misunderstood placed settled inChain
 chained = (refl, refl, refl, refl, refl, refl, refl)
 
 -- a database written out: no query is asked of it
 writes :
-    (planOf (ascii "--write" ∷ ascii "t" ∷ ascii "--missing" ∷ []) ≡ plan (plainly 2 0 0 0 0) 0 anything false true true false false)
-    × (planOf (ascii "t" ∷ ascii "n" ∷ ascii "--write" ∷ []) ≡ plan (plainly 1 2 0 0 0) 2 anything false false true false false)
-    × (planOf (ascii "--without" ∷ ascii "p" ∷ ascii "--write" ∷ ascii "t" ∷ []) ≡ plan (plainly 4 0 0 2 0) 2 anything false false true false false)
-    × (planOf (ascii "--write" ∷ ascii "--nonsense" ∷ ascii "t" ∷ ascii "n" ∷ []) ≡ plan (plainly 3 4 0 0 0) 2 anything false false true false false)
-    × (planOf (ascii "--write" ∷ ascii "--default" ∷ []) ≡ plan (plainly 0 0 0 0 0) 0 anything false false true false true)
-    × (planOf (ascii "--write" ∷ ascii "--default" ∷ ascii "n" ∷ []) ≡ plan (plainly 0 3 0 0 0) 3 anything false false true false true)
+    (planOf (ascii "--write" ∷ ascii "t" ∷ ascii "--missing" ∷ []) ≡ plan (plainly 2 0 0 0 0) 0 anything false true true false false false)
+    × (planOf (ascii "t" ∷ ascii "n" ∷ ascii "--write" ∷ []) ≡ plan (plainly 1 2 0 0 0) 2 anything false false true false false false)
+    × (planOf (ascii "--without" ∷ ascii "p" ∷ ascii "--write" ∷ ascii "t" ∷ []) ≡ plan (plainly 4 0 0 2 0) 2 anything false false true false false false)
+    × (planOf (ascii "--write" ∷ ascii "--nonsense" ∷ ascii "t" ∷ ascii "n" ∷ []) ≡ plan (plainly 3 4 0 0 0) 2 anything false false true false false false)
+    × (planOf (ascii "--write" ∷ ascii "--default" ∷ []) ≡ plan (plainly 0 0 0 0 0) 0 anything false false true false false true)
+    × (planOf (ascii "--write" ∷ ascii "--default" ∷ ascii "n" ∷ []) ≡ plan (plainly 0 3 0 0 0) 3 anything false false true false false true)
 unfolding definition planOf planFrom withArgument isOption optionOf chainOption withFlag withOption withValue takes once givenFor withOperand misunderstood placed uncompared unasked settled inChain plainly
 writes = (refl, refl, refl, refl, refl, refl)
 
 -- the entries that align, listed: a query is asked, of one database
 lists :
-    (planOf (ascii "--list" ∷ ascii "t" ∷ ascii "n" ∷ ascii "c" ∷ []) ≡ plan (plainly 2 3 4 0 0) 0 anything false false false true false)
-    × (planOf (ascii "--default" ∷ ascii "n" ∷ ascii "--list" ∷ []) ≡ plan (plainly 0 2 0 0 0) 0 anything false false false true true)
-    × (planOf (ascii "--list" ∷ ascii "--without" ∷ ascii "p" ∷ ascii "t" ∷ ascii "n" ∷ []) ≡ plan (plainly 4 5 0 3 0) 3 anything false false false true false)
-    × (planOf (ascii "--list" ∷ ascii "--write" ∷ ascii "t" ∷ []) ≡ plan (plainly 3 0 0 0 0) 2 anything false false false true false)
-    × (planOf (ascii "t" ∷ ascii "--write" ∷ ascii "--list" ∷ []) ≡ plan (plainly 1 0 0 0 0) 3 anything false false true false false)
-    × (planOf (ascii "--list" ∷ ascii "--list" ∷ ascii "--lists" ∷ []) ≡ plan (plainly 0 0 0 0 0) 3 anything false false false true false)
+    (planOf (ascii "--list" ∷ ascii "t" ∷ ascii "n" ∷ ascii "c" ∷ []) ≡ plan (plainly 2 3 4 0 0) 0 anything false false false true false false)
+    × (planOf (ascii "--default" ∷ ascii "n" ∷ ascii "--list" ∷ []) ≡ plan (plainly 0 2 0 0 0) 0 anything false false false true false true)
+    × (planOf (ascii "--list" ∷ ascii "--without" ∷ ascii "p" ∷ ascii "t" ∷ ascii "n" ∷ []) ≡ plan (plainly 4 5 0 3 0) 3 anything false false false true false false)
+    × (planOf (ascii "--list" ∷ ascii "--write" ∷ ascii "t" ∷ []) ≡ plan (plainly 3 0 0 0 0) 2 anything false false false true false false)
+    × (planOf (ascii "t" ∷ ascii "--write" ∷ ascii "--list" ∷ []) ≡ plan (plainly 1 0 0 0 0) 3 anything false false true false false false)
+    × (planOf (ascii "--list" ∷ ascii "--shared" ∷ ascii "t" ∷ ascii "n" ∷ []) ≡ plan (plainly 3 4 0 0 0) 0 anything false false false true true false)
+    × (planOf (ascii "--list" ∷ ascii "--list" ∷ ascii "--lists" ∷ []) ≡ plan (plainly 0 0 0 0 0) 3 anything false false false true false false)
 unfolding definition planOf planFrom withArgument isOption optionOf chainOption withFlag withOption withValue takes once givenFor withOperand misunderstood placed uncompared unasked settled inChain plainly
-lists = (refl, refl, refl, refl, refl, refl)
+lists = (refl, refl, refl, refl, refl, refl, refl)
 
 whole :
     (isWhole (planOf (ascii "t" ∷ ascii "n" ∷ [])) ≡ true)

@@ -8,10 +8,10 @@ use lib.ListN.{length}
 use Rattle.definition.specs.Lists.{if_then_else_, takeWhile}
 use Rattle.definition.specs.Bytes.{within}
 use Rattle.io.specs.Counts.{Counts}
-use Rattle.options.specs.Options.{text, name, class, format, anything, operand, help as helpAsked, missing as missingAsked, write as writeAsked, list as listAsked, takes, optionOf}
+use Rattle.options.specs.Options.{text, name, class, format, anything, operand, help as helpAsked, missing as missingAsked, write as writeAsked, list as listAsked, shared as sharedAsked, takes, optionOf}
 use Rattle.argument_words.specs.Words.{isOption}
 use Rattle.plans.specs.declared.Plan.{Plan}
-use Rattle.plans.specs.Plans.{nothingAsked, toNext, toHelp, toMissing, toWrite, toList, toChain, givenFor, misunderstood, once, settled}
+use Rattle.plans.specs.Plans.{nothingAsked, toNext, toHelp, toMissing, toWrite, toList, toShared, toChain, givenFor, misunderstood, once, settled}
 
 -- text, name, class
 unfoldable pub withOperand : Plan → ℕ → Plan
@@ -34,6 +34,7 @@ withFlag p what i =
     if eqb what missingAsked then toMissing p else
     if eqb what writeAsked then (if p .list then misunderstood p i else toWrite p) else
     if eqb what listAsked then (if p .write then misunderstood p i else toList p) else
+    if eqb what sharedAsked then toShared p else
     misunderstood p i
 
 -- an option, by what follows it; those of a chain ask for it

@@ -10,6 +10,7 @@ use options::LIST;
 use options::MISSING;
 use options::NAME;
 use options::OPERAND;
+use options::SHARED;
 use options::TEXT;
 use options::WRITE;
 use options::option_of;
@@ -73,6 +74,10 @@ fn with_flag(plan: Plan, what: usize, i: usize) -> Plan
             return misunderstood(plan, i);
         }
         more.list = true;
+        return more;
+    }
+    if what == SHARED {
+        more.shared = true;
         return more;
     }
     misunderstood(plan, i)

@@ -20,6 +20,7 @@ pub mod Window
 pub mod Walking
 pub mod Adding
 pub mod ThirdTerm
+pub mod Orders
 pub mod Evaluation
 mod Examples
 mod NameBytes
@@ -28,5 +29,6 @@ mod Starts
 mod Paths
 mod Texts
 mod Walks
+mod Orderings
 mod Numbers
 mod Recorded

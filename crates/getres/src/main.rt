@@ -1,6 +1,6 @@
 // getres: the value that a query gets from a main text or a start-up chain and their files, and whether striking a file off changes
 // it; the entries that align with it; or the whole database that these give, written out. Its arguments come from `command_line`, what
-// they name from `loading` and `chain_input`; `answering` and `tell_missing` tell what there is to tell.
+// they name from `loading` and `chain_input`; `answering`, `tell_missing` and `tell_shared` tell what there is to tell.
 ghost use mathlib.Core.Path.{_≡_};
 ghost use mathlib.Core.Bool.{true};
 ghost use Rattle.definition.specs.Archive.{laidOut};
@@ -27,6 +27,8 @@ use sources::first_text;
 use sources::second_text;
 use tell_missing::tell_chain;
 use tell_missing::tell_main;
+use tell_shared::tell_shared;
+use tell_shared::tell_shared_chain;
 use writing::complain;
 use writing::write_help;
 
@@ -37,6 +39,9 @@ fn answer_text<'a>(plan: Plan, text: &'a [u8], archive: &[u8]) -> u8
 {
     if plan.missing {
         tell_main(text, archive);
+    }
+    if plan.shared {
+        tell_shared(text, archive);
     }
     let texts: [&'a [u8]; 1] = [text];
     answer_plan(plan, &texts, archive)
@@ -83,6 +88,9 @@ fn answer_steps<'a>(
     let b = second_text(is_set, is_read, second, is_read, second);
     if plan.missing {
         tell_chain(a, b, archive);
+    }
+    if plan.shared {
+        tell_shared_chain(a, b, archive);
     }
     let texts: [&'a [u8]; 2] = [a, b];
     answer_plan(plan, &texts, archive)

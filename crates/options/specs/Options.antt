@@ -67,8 +67,11 @@ write = 16
 abbrev pub list : ℕ
 list = 17
 
+abbrev pub shared : ℕ
+shared = 18
+
 abbrev pub unknown : ℕ
-unknown = 18
+unknown = 19
 
 -- ---- Values
 
@@ -104,4 +107,5 @@ optionOf a =
     if same a (ascii "--missing") then missing else
     if same a (ascii "--write") then write else
     if same a (ascii "--list") then list else
+    if same a (ascii "--shared") then shared else
     chainOption a

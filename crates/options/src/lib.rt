@@ -45,7 +45,9 @@ pub const WRITE: usize = 16;
 
 pub const LIST: usize = 17;
 
-pub const UNKNOWN: usize = 18;
+pub const SHARED: usize = 18;
+
+pub const UNKNOWN: usize = 19;
 
 // Is an argument a value for that?
 pub fn takes(what: usize, argument: &[u8]) -> bool
@@ -115,6 +117,9 @@ pub fn option_of(argument: &[u8]) -> usize
     }
     if is_word(argument, b"--list") {
         return LIST;
+    }
+    if is_word(argument, b"--shared") {
+        return SHARED;
     }
     chain_option(argument)
 }

@@ -9,39 +9,43 @@ use Rattle.options.specs.Options.{text, name, class, without, anything, operand
 use Rattle.plans.specs.declared.Plan.{Plan}
 
 -- the numbers of the arguments given for each thing, 0 for none; the first that is not understood; what is next; is help asked for, the
--- includes that find no file, the database written out, the entries that align, and a chain?
-abbrev pub plan : List ℕ → ℕ → ℕ → Bool → Bool → Bool → Bool → Bool → Plan
-plan given wrong next help missing write list chain =
-    record { given = given; wrong = wrong; next = next; help = help; missing = missing; write = write; list = list; chain = chain }
+-- includes that find no file, the database written out, the entries that align, the keys that two included files share, and a
+-- chain?
+abbrev pub plan : List ℕ → ℕ → ℕ → Bool → Bool → Bool → Bool → Bool → Bool → Plan
+plan given wrong next help missing write list shared chain =
+    record { given = given; wrong = wrong; next = next; help = help; missing = missing; write = write; list = list; shared = shared; chain = chain }
 
 abbrev pub nothingAsked : Plan
-nothingAsked = plan (replicate 11 0) 0 anything false false false false false
+nothingAsked = plan (replicate 11 0) 0 anything false false false false false false
 
 -- the plan with one field more
 module _ (p : Plan) where
   abbrev pub toGiven : List ℕ → Plan
-  toGiven given = plan given (p .wrong) (p .next) (p .help) (p .missing) (p .write) (p .list) (p .chain)
+  toGiven given = plan given (p .wrong) (p .next) (p .help) (p .missing) (p .write) (p .list) (p .shared) (p .chain)
 
   abbrev pub toWrong : ℕ → Plan
-  toWrong i = plan (p .given) i (p .next) (p .help) (p .missing) (p .write) (p .list) (p .chain)
+  toWrong i = plan (p .given) i (p .next) (p .help) (p .missing) (p .write) (p .list) (p .shared) (p .chain)
 
   abbrev pub toNext : ℕ → Plan
-  toNext n = plan (p .given) (p .wrong) n (p .help) (p .missing) (p .write) (p .list) (p .chain)
+  toNext n = plan (p .given) (p .wrong) n (p .help) (p .missing) (p .write) (p .list) (p .shared) (p .chain)
 
   abbrev pub toHelp : Plan
-  toHelp = plan (p .given) (p .wrong) (p .next) true (p .missing) (p .write) (p .list) (p .chain)
+  toHelp = plan (p .given) (p .wrong) (p .next) true (p .missing) (p .write) (p .list) (p .shared) (p .chain)
 
   abbrev pub toMissing : Plan
-  toMissing = plan (p .given) (p .wrong) (p .next) (p .help) true (p .write) (p .list) (p .chain)
+  toMissing = plan (p .given) (p .wrong) (p .next) (p .help) true (p .write) (p .list) (p .shared) (p .chain)
 
   abbrev pub toWrite : Plan
-  toWrite = plan (p .given) (p .wrong) (p .next) (p .help) (p .missing) true (p .list) (p .chain)
+  toWrite = plan (p .given) (p .wrong) (p .next) (p .help) (p .missing) true (p .list) (p .shared) (p .chain)
 
   abbrev pub toList : Plan
-  toList = plan (p .given) (p .wrong) (p .next) (p .help) (p .missing) (p .write) true (p .chain)
+  toList = plan (p .given) (p .wrong) (p .next) (p .help) (p .missing) (p .write) true (p .shared) (p .chain)
+
+  abbrev pub toShared : Plan
+  toShared = plan (p .given) (p .wrong) (p .next) (p .help) (p .missing) (p .write) (p .list) true (p .chain)
 
   abbrev pub toChain : Plan
-  toChain = plan (p .given) (p .wrong) (p .next) (p .help) (p .missing) (p .write) (p .list) true
+  toChain = plan (p .given) (p .wrong) (p .next) (p .help) (p .missing) (p .write) (p .list) (p .shared) true
 
 -- the argument that was given for something
 unfoldable pub givenFor : Plan → ℕ → ℕ

@@ -11,7 +11,8 @@ use options::WITHOUT;
 
 // Arguments by their numbers, of which 0, the program's own name, says that there is none. `given` has those that the options name,
 // from TEXT to HOST; `wrong` is the first that is not understood; `next` is what the next one is for; `help`, `missing`, the includes that
-// find no file, `write`, the database written out, `list`, the entries that align, and `chain`, a start-up chain, are asked for or not.
+// find no file, `write`, the database written out, `list`, the entries that align, `shared`, the keys that two included files share, and
+// `chain`, a start-up chain, are asked for or not.
 pub struct Plan {
     pub given: [usize; 11],
     pub wrong: usize,
@@ -20,6 +21,7 @@ pub struct Plan {
     pub missing: bool,
     pub write: bool,
     pub list: bool,
+    pub shared: bool,
     pub chain: bool,
 }
 
@@ -34,6 +36,7 @@ pub fn nothing_asked() -> Plan
         missing: false,
         write: false,
         list: false,
+        shared: false,
         chain: false,
     }
 }

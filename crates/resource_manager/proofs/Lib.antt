@@ -1,3 +1,4 @@
 -- Laws of the boundary.
 pub mod Fitting
 pub mod Agreeing
+pub mod Ordering

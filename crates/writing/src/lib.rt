@@ -19,12 +19,12 @@ pub fn complain(what: &[u8], why: &[u8]) {
 pub fn write_help(fd: i32) {
     write_all(
         fd,
-        b"usage: getres [--file [NAME=]PATH].. [--without NAME] [--missing] [--] TEXT NAME [CLASS]\n\
-        \x20      getres [--file [NAME=]PATH].. [--without NAME] [--missing] CHAIN.. [--] NAME [CLASS]\n\
-        \x20      getres [--file [NAME=]PATH].. --list [--missing] [--] TEXT NAME [CLASS]\n\
-        \x20      getres [--file [NAME=]PATH].. --list [--missing] CHAIN.. [--] NAME [CLASS]\n\
-        \x20      getres [--file [NAME=]PATH].. --write [--missing] [--] TEXT\n\
-        \x20      getres [--file [NAME=]PATH].. --write [--missing] CHAIN..\n\
+        b"usage: getres [--file [NAME=]PATH].. [--without NAME] [--missing] [--shared] [--] TEXT NAME [CLASS]\n\
+        \x20      getres [--file [NAME=]PATH].. [--without NAME] [--missing] [--shared] CHAIN.. [--] NAME [CLASS]\n\
+        \x20      getres [--file [NAME=]PATH].. --list [--missing] [--shared] [--] TEXT NAME [CLASS]\n\
+        \x20      getres [--file [NAME=]PATH].. --list [--missing] [--shared] CHAIN.. [--] NAME [CLASS]\n\
+        \x20      getres [--file [NAME=]PATH].. --write [--missing] [--shared] [--] TEXT\n\
+        \x20      getres [--file [NAME=]PATH].. --write [--missing] [--shared] CHAIN..\n\
         \n\
         Prints the value that the X resources of the file TEXT give to a name and a class; or those of a\n\
         start-up chain, with a line for each of its two steps that says which text is used.\n\
@@ -35,6 +35,7 @@ pub fn write_help(fd: i32) {
         \x20 --file [NAME=]PATH  a file that includes find by NAME, or else by PATH as it is written\n\
         \x20 --without NAME      two answers, with that file and without it, and whether they differ\n\
         \x20 --missing           says on standard error which includes found no file, and what they looked for\n\
+        \x20 --shared            says on standard error which keys come through two files that TEXT includes\n\
         \x20 --list              a line for each resource that aligns: its number, its key and its value\n\
         \x20 --write             the resources themselves, as a text that gives every query the same answer\n\
         \x20 --status-fd N       writes the status to descriptor N, 3 to 9\n\

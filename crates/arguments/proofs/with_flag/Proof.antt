@@ -56,8 +56,18 @@ unfolding withFlag
 returns-7 c =
     let l = c .before in
     let w = l .before in
-    rw (ne-eqb _ _ (w .before .before .if1 .left), ne-eqb _ _ (w .before .if2 .left), ne-eqb _ _ (w .if3 .left), ne-eqb _ _ (l .if5 .left)) (c .misunderstood3 .ensures)
+    rw (ne-eqb _ _ (w .before .before .if1 .left), ne-eqb _ _ (w .before .if2 .left), ne-eqb _ _ (w .if3 .left), ne-eqb _ _ (l .if5 .left), eq-eqb _ _ (c .if7 .taken)) refl
+
+returns-8 : tie.Need-returns-8
+unfolding withFlag
+returns-8 c =
+    let s = c .before in
+    let l = s .before in
+    let w = l .before in
+    rw
+    (ne-eqb _ _ (w .before .before .if1 .left), ne-eqb _ _ (w .before .if2 .left), ne-eqb _ _ (w .if3 .left), ne-eqb _ _ (l .if5 .left), ne-eqb _ _ (s .if7 .left))
+    (c .misunderstood3 .ensures)
 
 pub with-flag-spec : {M : Type 1} → statement M
 with-flag-spec =
-    tie.close (tie.spec returns returns-2 (λ c κs. search needs) returns-3 returns-4 (λ c κs. search needs) returns-5 returns-6 (λ c κs. search needs) returns-7)
+    tie.close (tie.spec returns returns-2 (λ c κs. search needs) returns-3 returns-4 (λ c κs. search needs) returns-5 returns-6 returns-7 (λ c κs. search needs) returns-8)

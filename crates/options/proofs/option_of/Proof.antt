@@ -31,6 +31,9 @@ up₆ c = c .before .before .before
 abbrev up₇ : tie.Else8 → tie.Else7
 up₇ c = c .before .before .before
 
+abbrev up₈ : tie.Else9 → tie.Else8
+up₈ c = c .before .before .before
+
 abbrev given : tie.Else1 → List ℕ
 given c = c .before .before .before .before .args .argument .now
 
@@ -58,6 +61,9 @@ not-write c = sym (c .before .is-word7 .ensures) ∙ c .if7 .left
 
 not-list : (c : tie.Else8) → same (given (up₁ (up₂ (up₃ (up₄ (up₅ (up₆ (up₇ c)))))))) (ascii "--list") ≡ false
 not-list c = sym (c .before .is-word8 .ensures) ∙ c .if8 .left
+
+not-shared : (c : tie.Else9) → same (given (up₁ (up₂ (up₃ (up₄ (up₅ (up₆ (up₇ (up₈ c))))))))) (ascii "--shared") ≡ false
+not-shared c = sym (c .before .is-word9 .ensures) ∙ c .if9 .left
 
 returns : tie.Need-returns
 unfolding optionOf
@@ -115,15 +121,26 @@ returns-8 c =
 returns-9 : tie.Need-returns-9
 unfolding optionOf
 returns-9 c =
-    let l : tie.Else8 = c .before in
+    let l : tie.Else8 = c .before .before .before in
     let w : tie.Else7 = up₇ l in
     let e : tie.Else6 = up₆ w in
     rw
-    (not-file (up₁ (up₂ (up₃ (up₄ (up₅ e))))), not-without (up₂ (up₃ (up₄ (up₅ e)))), not-status (up₃ (up₄ (up₅ e))), not-help (up₄ (up₅ e)), not-rest (up₅ e), not-missing e, not-write w, not-list l)
+    (not-file (up₁ (up₂ (up₃ (up₄ (up₅ e))))), not-without (up₂ (up₃ (up₄ (up₅ e)))), not-status (up₃ (up₄ (up₅ e))), not-help (up₄ (up₅ e)), not-rest (up₅ e), not-missing e, not-write w, not-list l, ← c .before .is-word9 .ensures, c .if9 .taken)
+    refl
+
+returns-10 : tie.Need-returns-10
+unfolding optionOf
+returns-10 c =
+    let s : tie.Else9 = c .before in
+    let l : tie.Else8 = up₈ s in
+    let w : tie.Else7 = up₇ l in
+    let e : tie.Else6 = up₆ w in
+    rw
+    (not-file (up₁ (up₂ (up₃ (up₄ (up₅ e))))), not-without (up₂ (up₃ (up₄ (up₅ e)))), not-status (up₃ (up₄ (up₅ e))), not-help (up₄ (up₅ e)), not-rest (up₅ e), not-missing e, not-write w, not-list l, not-shared s)
     (c .chain-option .ensures)
 
 pub option-of-spec : {M : Type 1} → statement M
 option-of-spec =
     tie.close
     (tie.spec
-    (λ c. search needs) (λ c κs. search needs) returns (λ c. search needs) (λ c κs. search needs) returns-2 (λ c. search needs) (λ c κs. search needs) returns-3 (λ c. search needs) (λ c κs. search needs) returns-4 (λ c. search needs) (λ c κs. search needs) returns-5 (λ c. search needs) (λ c κs. search needs) returns-6 (λ c. search needs) (λ c κs. search needs) returns-7 (λ c. search needs) (λ c κs. search needs) returns-8 (λ c κs. search needs) returns-9)
+    (λ c. search needs) (λ c κs. search needs) returns (λ c. search needs) (λ c κs. search needs) returns-2 (λ c. search needs) (λ c κs. search needs) returns-3 (λ c. search needs) (λ c κs. search needs) returns-4 (λ c. search needs) (λ c κs. search needs) returns-5 (λ c. search needs) (λ c κs. search needs) returns-6 (λ c. search needs) (λ c κs. search needs) returns-7 (λ c. search needs) (λ c κs. search needs) returns-8 (λ c. search needs) (λ c κs. search needs) returns-9 (λ c κs. search needs) returns-10)

@@ -1,0 +1,2 @@
+-- Laws for the proofs of shared keys.
+pub mod Sharing

@@ -1,0 +1,2 @@
+-- Laws for the proofs of these lines.
+pub mod Putting

@@ -1,0 +1,2 @@
+-- What the contracts of these lines cite.
+pub mod Lines
