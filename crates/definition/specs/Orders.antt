@@ -14,7 +14,7 @@ use Rattle.definition.specs.Including.{Entered}
 use Rattle.definition.specs.Image.{tooShort, isImage}
 use Rattle.definition.specs.Reading.{accepted, plain, readEntries, reading}
 use Rattle.definition.specs.Writing.{entriesOfImage}
-use Rattle.definition.specs.Query.{Position, Query, Bounds}
+use Rattle.definition.specs.Query.{Position, Query, positions, malformed, pastLimit, Bounds}
 use Rattle.definition.specs.Matching.{Aligned, Beats}
 use Rattle.definition.specs.Lookup.{keysOf, answerOf, Reply, Place, getBytesWithin, bytesAt}
 use Rattle.definition.specs.Value.{readAs, getStringWithin, getBoolWithin, getValueWithin, shownWithin}
@@ -164,8 +164,22 @@ lastOf [] = none
 lastOf (v ∷ []) = some v
 lastOf (v ∷ u ∷ vs) = lastOf (u ∷ vs)
 
--- a key decides a query in both lists: each gives the last value under it
+-- entry i beats the rest; of a malformed query nothing aligns
+abbrev pub BeatsIn : List Entry → Query → ℕ → Type 0
+BeatsIn es (positions qs) i = Beats (keysOf es) qs i
+BeatsIn es malformed i = ⊥
+BeatsIn es (pastLimit k) i = ⊥
+
+-- the entry that beats the rest has that key
+pub record Wins (key : List Part) (es : List Entry) (q : Query) : Type 0 where
+  pub winner : ℕ
+  pub beats : BeatsIn es q winner
+  pub hasIt : getD (keysOf es) winner [] ≡ key
+
+-- a key decides a query in both lists: in each the entry that beats the rest has it, and so each gives the last value under it
 pub record Decides (key : List Part) (xs ys : List Entry) (q : Query) : Type 0 where
+  pub firstWins : Wins key xs q
+  pub secondWins : Wins key ys q
   pub first : answerOf xs q ≡ lastOf (valuesUnder key xs)
   pub second : answerOf ys q ≡ lastOf (valuesUnder key ys)
 

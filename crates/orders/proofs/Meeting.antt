@@ -176,7 +176,15 @@ module _ (es fs : List Entry) (there : StandIn es fs) (back : StandIn fs es) whe
           let w = best-beats (keysOf es) qs i r e in
           let v = best-beats (keysOf fs) qs j s f in
           let same = keys-equal es fs there back qs i j w v in
-          inr (getD (keysOf es) i [], record { first = answer-last es qs i w; second = rw same (answer-last fs qs j v) })
+          inr (
+            getD (keysOf es) i [],
+            record {
+              firstWins = record { winner = i; beats = w; hasIt = refl };
+              secondWins = record { winner = j; beats = v; hasIt = sym same };
+              first = answer-last es qs i w;
+              second = rw same (answer-last fs qs j v);
+            },
+          )
 
   pub decided : (q : Query) → Either q
   unfolding answerOf
