@@ -23,8 +23,18 @@ extern "C" {
 #endif
 
 /* The two buffers of a database image: at least this long. What is lent beyond is never touched. */
-#define RESOURCE_MANAGER_CONTENTS_WORDS 1538 /* 16-bit words */
+#define RESOURCE_MANAGER_CONTENTS_WORDS 2050 /* 16-bit words: two, and four for each entry */
 #define RESOURCE_MANAGER_BODIES_BYTES 32768  /* also the most bytes of keys and values in an image */
+
+/*
+ * Contents are the entry count, the bytes used, and a row for each entry: where its key starts in the bodies, the lengths
+ * of its key and of its value, which stands behind the key, and where its line stands. That is 0 for a main text or a text
+ * of a start-up, else the place on the shelf, from 1, of the file where the line stands, or RESOURCE_MANAGER_UNKNOWN_FILE.
+ */
+#define RESOURCE_MANAGER_UNKNOWN_FILE 65535
+
+/* Contents of an old image: its rows have three words, and do not say where a line stands. */
+#define RESOURCE_MANAGER_OLD_CONTENTS_WORDS 1538
 
 /* The most that is accepted; one more is refused. */
 #define RESOURCE_MANAGER_TEXT_BYTES 32768 /* of a main text, and of each text of a start-up */
@@ -127,6 +137,18 @@ uint64_t resource_manager_read_default(uint8_t property_format, const uint8_t *p
                                        const uint8_t *host, size_t host_count, const uint8_t *shelf,
                                        size_t shelf_count, uint16_t *contents, size_t contents_count, uint8_t *bodies,
                                        size_t bodies_count);
+
+/*
+ * Carries an old image over into new buffers, without reading again: old contents of RESOURCE_MANAGER_OLD_CONTENTS_WORDS or
+ * more, with three words for each entry, and old bodies of RESOURCE_MANAGER_BODIES_BYTES or more.
+ *
+ * OK: the new image has the old entries, which are counted in the answer, with RESOURCE_MANAGER_UNKNOWN_FILE in every row;
+ * unused words and bytes are zeroed as by a reading. Every lookup in it, the window's too, every walk and the written text
+ * are those of the old image. Refused: 8 if the old buffers hold no old image, then 1. Both change nothing.
+ */
+uint64_t resource_manager_migrate(const uint16_t *old_contents, size_t old_contents_count, const uint8_t *old_bodies,
+                                  size_t old_bodies_count, uint16_t *contents, size_t contents_count, uint8_t *bodies,
+                                  size_t bodies_count);
 
 /*
  * The value of a query, as bytes: status OK with its place in the bodies and its length, NONE, or refused by 8, 9 or
@@ -263,8 +285,9 @@ uint64_t resource_manager_walk_step(const uint16_t *contents, size_t contents_co
  * Adds a line to a database image: the entry that the text makes, read with a shelf of no files, behind those that are
  * there. Comments, includes, and lines that are no resource may stand beside it.
  *
- * OK: the entry's number is in the answer. Its row of three words, the bytes of its key and its value, and the first two
- * words of contents are written, and nothing else is: what stood behind the image stays there.
+ * OK: the entry's number is in the answer. Its row of four words, the bytes of its key and its value, and the first two
+ * words of contents are written, and nothing else is: what stood behind the image stays there. Its line stands in no file
+ * that is known.
  * Refused, the first that holds: 8; 2; 12 if the text makes no entry or more than one, whatever they are; 5 if the entry
  * has too many parts; 6 or 7 if the image has no room for it. Both buffers are as they were.
  */
@@ -281,18 +304,24 @@ static inline size_t resource_manager_number_of(uint64_t answer)
 static inline struct resource_manager_bytes resource_manager_key_of(const uint16_t *contents, const uint8_t *bodies,
                                                                     size_t number)
 {
-    const uint16_t *row = contents + 2 + 3 * number;
+    const uint16_t *row = contents + 2 + 4 * number;
     struct resource_manager_bytes key;
     key.start = bodies + row[0];
     key.count = row[1];
     return key;
 }
 
+/* Where the line of an entry of an image that holds it stands: 0, a file's place, or RESOURCE_MANAGER_UNKNOWN_FILE. */
+static inline size_t resource_manager_file_of(const uint16_t *contents, size_t number)
+{
+    return contents[2 + 4 * number + 3];
+}
+
 /* The value of an entry of an image that holds it. */
 static inline struct resource_manager_bytes resource_manager_value_of(const uint16_t *contents, const uint8_t *bodies,
                                                                       size_t number)
 {
-    const uint16_t *row = contents + 2 + 3 * number;
+    const uint16_t *row = contents + 2 + 4 * number;
     struct resource_manager_bytes value;
     value.start = bodies + row[0] + row[1];
     value.count = row[2];
@@ -308,7 +337,8 @@ static inline struct resource_manager_bytes resource_manager_value_of(const uint
  * reading is, 9 or 10. *with_it and *without change only with OK.
  *
  * The buffers of both images are as resource_manager_read takes and leaves them; struck is room for the shelf with the
- * file struck off, and is at least as long as the shelf. What a call does not come to write is as it was.
+ * file struck off, and is at least as long as the shelf. Rows of contents_without have the places on that shelf: files
+ * behind the one struck off have one less. What a call does not come to write is as it was.
  */
 uint64_t resource_manager_compare_without(const uint8_t *text, size_t text_count, const uint8_t *shelf,
                                           size_t shelf_count, size_t file, const uint8_t *name, size_t name_count,

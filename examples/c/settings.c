@@ -21,10 +21,15 @@ struct shelf {
     size_t count;
 };
 
-/* An image is large: 35 kilobytes, here not on the stack. */
+/* An image is large: 37 kilobytes, here not on the stack. */
 static uint16_t contents[RESOURCE_MANAGER_CONTENTS_WORDS];
 static uint8_t bodies[RESOURCE_MANAGER_BODIES_BYTES];
 static struct shelf shelf;
+
+static const struct file files[] = {
+    {"pack/fonts", "reader.font.size: 14\nreader.font.family: Serif\n"},
+    {"pack/settings", "#include \"fonts\"\nreader.search.range: chapter\n"},
+};
 
 /* Room for the text of any image. */
 static uint8_t written[RESOURCE_MANAGER_WRITTEN_BYTES];
@@ -162,7 +167,17 @@ static void add(const char *line)
     }
 }
 
-/* A settings page: each entry that aligns with the query. A line that is added after its first entry shows in the next page. */
+/* Where the line of an entry stands. */
+static const char *place_of(size_t number)
+{
+    size_t place = resource_manager_file_of(contents, number);
+    if (place == 0) {
+        return "main text";
+    }
+    return place == RESOURCE_MANAGER_UNKNOWN_FILE ? "added" : files[place - 1].name;
+}
+
+/* A settings page: each entry that aligns with the query, and its file. A line that is added after its first entry shows in the next page. */
 static void show_page(const char *name, const char *class_name, const char *line)
 {
     uint16_t next, count;
@@ -178,8 +193,8 @@ static void show_page(const char *name, const char *class_name, const char *line
             size_t number = resource_manager_number_of(answer);
             struct resource_manager_bytes key = resource_manager_key_of(contents, bodies, number);
             struct resource_manager_bytes value = resource_manager_value_of(contents, bodies, number);
-            printf("%zu %.*s: %.*s\n", number, (int)key.count, (const char *)key.start, (int)value.count,
-                   (const char *)value.start);
+            printf("%zu %s: %.*s: %.*s\n", number, place_of(number), (int)key.count, (const char *)key.start,
+                   (int)value.count, (const char *)value.start);
         }
         if (line != NULL) {
             add(line);
@@ -205,10 +220,6 @@ int main(void)
     static const char text[] = "#include \"pack/settings\"\n"
                                "*search.range: book\n"
                                "reader.hyphenation: on\n";
-    static const struct file files[] = {
-        {"pack/fonts", "reader.font.size: 14\nreader.font.family: Serif\n"},
-        {"pack/settings", "#include \"fonts\"\nreader.search.range: chapter\n"},
-    };
     uint64_t answer;
 
     if (!lay_out(&shelf, files, sizeof files / sizeof files[0])) {

@@ -2,12 +2,15 @@
 
 use crate::error::{Error, NotANumber, ValueError};
 use crate::ffi::{self, Bounds, Image, ImageMut, Question, Room};
-use crate::limits::{BODIES_BYTES, CONTENTS_WORDS, WRITTEN_BYTES};
+use crate::limits::{BODIES_BYTES, CONTENTS_WORDS, UNKNOWN_FILE, WRITTEN_BYTES};
 use crate::{Aligned, Archive, Walk};
 use std::fmt;
 use std::io;
 use std::slice::ChunksExact;
 use std::str::FromStr;
+
+/// The words of an entry's row: its start, the lengths of its key and of its value, and where its line stands.
+const ROW_WORDS: usize = 4;
 
 /// The low 16 bits of an answer that is a value, and of one that is none.
 pub(crate) const FOUND: u64 = 0;
@@ -20,7 +23,7 @@ const NOT_A_NUMBER: u64 = 65_534;
 /// It is made from a text by [`new_from_data`](Self::new_from_data), with files for its includes by
 /// [`new_from_data_with_archive`](Self::new_from_data_with_archive), or from the default places of X by
 /// [`new_from_default`](Self::new_from_default). Lines are added by [`add`](Self::add), and all of it is written out again by
-/// [`to_text`](Self::to_text). It owns its memory, some 35 kilobytes.
+/// [`to_text`](Self::to_text). It owns its memory, some 37 kilobytes.
 ///
 /// # Queries
 ///
@@ -236,7 +239,46 @@ impl Database {
     /// ```
     pub fn entries(&self) -> Entries<'_> {
         let count = usize::from(self.contents[0]);
-        Entries { rows: self.contents[2..2 + 3 * count].chunks_exact(3), bodies: &self.bodies }
+        Entries { rows: self.contents[2..2 + ROW_WORDS * count].chunks_exact(ROW_WORDS), bodies: &self.bodies }
+    }
+
+    /// Where the line of an entry stands, by the entry's number; none if there are no more than so many.
+    ///
+    /// ```
+    /// # use resource_manager::{Archive, Database, Origin};
+    /// let archive = Archive::from_files([("pack", "*range: book"), ("school", "#include \"pack\"\n*font: large")])?;
+    /// let mut database = Database::new_from_data_with_archive(b"#include \"school\"\nreader.range: chapter", &archive)?;
+    /// database.add(b"*font: small")?;
+    /// let origins: Vec<Origin> = (0..).map_while(|number| database.origin(number)).collect();
+    /// assert_eq!(origins, [Origin::File(1), Origin::File(2), Origin::MainText, Origin::Unknown]);
+    /// assert_eq!(origins[0].name_in(&archive), Some("pack"));
+    /// assert_eq!(origins[2].name_in(&archive), None);
+    /// # Ok::<(), Box<dyn std::error::Error>>(())
+    /// ```
+    pub fn origin(&self, number: usize) -> Option<Origin> {
+        let count = usize::from(self.contents[0]);
+        (number < count).then(|| Origin::of(usize::from(self.contents[2 + ROW_WORDS * number + 3])))
+    }
+
+    /// The database of an old image, whose rows do not say where a line stands: contents of [`OLD_CONTENTS_WORDS`] words or more. Its
+    /// entries, values and answers are those of the old image, and each entry's origin is unknown. [`Error::NoImage`] if the buffers hold no
+    /// old image.
+    ///
+    /// [`OLD_CONTENTS_WORDS`]: crate::limits::OLD_CONTENTS_WORDS
+    ///
+    /// ```
+    /// # use resource_manager::{limits, Database, Error, Origin};
+    /// let (mut contents, mut bodies) = (vec![0; limits::OLD_CONTENTS_WORDS], vec![0; limits::BODIES_BYTES]);
+    /// contents[..5].copy_from_slice(&[1, 3, 0, 2, 1]);
+    /// bodies[..3].copy_from_slice(b".ax");
+    /// let database = Database::migrate(&contents, &bodies)?;
+    /// assert_eq!(database.get_bytes("a", ""), Some(&b"x"[..]));
+    /// assert_eq!(database.origin(0), Some(Origin::Unknown));
+    /// assert_eq!(Database::migrate(&contents[1..], &bodies).err(), Some(Error::NoImage));
+    /// # Ok::<(), Error>(())
+    /// ```
+    pub fn migrate(old_contents: &[u16], old_bodies: &[u8]) -> Result<Self, Error> {
+        Self::read(|contents, bodies| ffi::migrate(old_contents, old_bodies, contents, bodies))
     }
 
     /// The entry of a number, from 0, in the order in which they were read and added; none if there are no more than so many.
@@ -593,7 +635,7 @@ impl Comparison {
 /// The entries of a database: see [`Database::entries`].
 #[derive(Clone, Debug)]
 pub struct Entries<'a> {
-    /// For each entry its start, and the lengths of its key and of its value.
+    /// For each entry its start, the lengths of its key and of its value, and where its line stands.
     rows: ChunksExact<'a, u16>,
     bodies: &'a [u8],
 }
@@ -616,6 +658,36 @@ impl<'a> Iterator for Entries<'a> {
 
 impl ExactSizeIterator for Entries<'_> {}
 
+/// Where the line of an entry stands: see [`Database::origin`].
+#[derive(Clone, Copy, Debug, PartialEq, Eq, Hash)]
+pub enum Origin {
+    /// In the main text, or in a text of a start-up.
+    MainText,
+    /// In the file of that place in the archive, from 1, in the order of names.
+    File(usize),
+    /// In no file that is known: the line was added, or the image was carried over from an old one.
+    Unknown,
+}
+
+impl Origin {
+    fn of(word: usize) -> Self {
+        match word {
+            0 => Self::MainText,
+            UNKNOWN_FILE => Self::Unknown,
+            place => Self::File(place),
+        }
+    }
+
+    /// The name of the file, in the archive that was read; none if the line stands in no file of it. An archive that has changed since may
+    /// give another file's name.
+    pub fn name_in(self, archive: &Archive) -> Option<&str> {
+        match self {
+            Self::File(place) => archive.names().nth(place.checked_sub(1)?),
+            Self::MainText | Self::Unknown => None,
+        }
+    }
+}
+
 /// An entry of a database.
 #[derive(Clone, Copy, PartialEq, Eq, Hash)]
 pub struct Entry<'a> {
@@ -626,7 +698,7 @@ pub struct Entry<'a> {
 }
 
 impl<'a> Entry<'a> {
-    /// The entry of a row: its start, and the lengths of its key and of its value.
+    /// The entry of a row, wherever its line stands.
     fn of(row: &[u16], bodies: &'a [u8]) -> Self {
         let [start, key, value] = [row[0], row[1], row[2]].map(usize::from);
         let (key, value) = bodies[start..start + key + value].split_at(key);

@@ -22,7 +22,8 @@ pub enum Error {
     ManyEntries = 6,
     /// Keys and values have more than [`BODIES_BYTES`](limits::BODIES_BYTES).
     FullStore = 7,
-    /// The buffers hold no database. Those of a [`Database`](crate::Database) always do.
+    /// The buffers hold no database, or those lent to [`Database::migrate`](crate::Database::migrate) no old image. Those of a
+    /// [`Database`](crate::Database) always do.
     NoImage = 8,
     /// The name or the class of a query has more than [`QUERY_BYTES`](limits::QUERY_BYTES).
     LongQuery = 9,

@@ -50,6 +50,16 @@ struct Bytes {
 }
 
 extern "C" {
+    fn resource_manager_migrate(
+        old_contents: *const u16,
+        old_contents_count: usize,
+        old_bodies: *const u8,
+        old_bodies_count: usize,
+        contents: *mut u16,
+        contents_count: usize,
+        bodies: *mut u8,
+        bodies_count: usize,
+    ) -> u64;
     fn resource_manager_read(
         text: *const u8,
         text_count: usize,
@@ -366,6 +376,23 @@ pub(crate) fn read(text: &[u8], archive: &[u8], contents: &mut [u16], bodies: &m
     }
 }
 
+/// The answer of `read` for an old image that is carried over, with no opens.
+pub(crate) fn migrate(old_contents: &[u16], old_bodies: &[u8], contents: &mut [u16], bodies: &mut [u8]) -> u64 {
+    // SAFETY: as for `read`.
+    unsafe {
+        resource_manager_migrate(
+            old_contents.as_ptr(),
+            old_contents.len(),
+            old_bodies.as_ptr(),
+            old_bodies.len(),
+            contents.as_mut_ptr(),
+            contents.len(),
+            bodies.as_mut_ptr(),
+            bodies.len(),
+        )
+    }
+}
+
 /// Whose bounds a query has: the shell's, or the dictionary window's.
 #[derive(Clone, Copy, Debug, PartialEq, Eq)]
 pub(crate) enum Bounds {
@@ -668,7 +695,7 @@ mod tests {
     fn buffers_just_long_enough_are_accepted() {
         let (mut contents, mut bodies) = buffers(CONTENTS_WORDS, BODIES_BYTES);
         assert_eq!(read(b"a:1\nb: -5", NO_FILES, &mut contents, &mut bodies), 2 << 16);
-        assert_eq!(contents[..8], [2, 7, 0, 2, 1, 3, 2, 2]);
+        assert_eq!(contents[..10], [2, 7, 0, 2, 1, 0, 3, 2, 2, 0]);
         assert_eq!(&bodies[..8], b".a1.b-5\0");
         let image = Image { contents: &contents, bodies: &bodies };
         for bounds in [Bounds::Shell, Bounds::Window] {
@@ -760,7 +787,7 @@ mod tests {
         }
         let (mut contents, mut bodies) = buffers(CONTENTS_WORDS + 1, BODIES_BYTES + 1);
         assert_eq!(read_default(&start_up, ARCHIVE, &mut contents, &mut bodies), 3 << 16 | 2 << 32);
-        assert_eq!(contents[..12], [3, 9, 0, 2, 1, 3, 2, 1, 6, 2, 1, 0]);
+        assert_eq!(contents[..15], [3, 9, 0, 2, 1, 1, 3, 2, 1, 0, 6, 2, 1, 1, 0]);
         assert_eq!(&bodies[..10], b".a1.b2.a1\0");
         assert_eq!((contents[CONTENTS_WORDS - 1], contents[CONTENTS_WORDS]), (0, 0xA5A5));
         assert_eq!((bodies[BODIES_BYTES - 1], bodies[BODIES_BYTES]), (0, 0xA5));
@@ -820,7 +847,7 @@ mod tests {
             assert_eq!(add(b"*b:22"), 1 << 16);
             assert_eq!(add(b"a:1\nb:"), 12);
             let (mut words, mut bytes) = buffers(CONTENTS_WORDS + more, BODIES_BYTES + more);
-            words[..8].copy_from_slice(&[2, 7, 0, 2, 1, 3, 2, 2]);
+            words[..10].copy_from_slice(&[2, 7, 0, 2, 1, 65_535, 3, 2, 2, 65_535]);
             bytes[..7].copy_from_slice(b".a1*b22");
             assert_eq!((contents, bodies), (words, bytes));
         }

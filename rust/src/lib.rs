@@ -56,7 +56,7 @@ mod start_up;
 mod walk;
 
 pub use archive::{Archive, ArchiveError, ArchiveErrorKind};
-pub use database::{Comparison, Database, Entries, Entry, Window};
+pub use database::{Comparison, Database, Entries, Entry, Origin, Window};
 pub use directory::DirectoryError;
 pub use error::{Error, NotANumber, ValueError};
 pub use start_up::{GetPropertyReply, Source, StartUp};

@@ -42,5 +42,11 @@ pub const WINDOW_BYTES: usize = 128;
 /// Parts of the name, and of the class, of such a query ([`ManyQueryParts`](crate::Error::ManyQueryParts)).
 pub const WINDOW_PARTS: usize = 8;
 
-/// Words that say where entries stand: two, and three for each entry.
-pub(crate) const CONTENTS_WORDS: usize = 2 + 3 * ENTRIES;
+/// Words that say where entries stand: two, and four for each entry.
+pub(crate) const CONTENTS_WORDS: usize = 2 + 4 * ENTRIES;
+
+/// Words of the contents of an old image, from before rows said where a line stands: two, and three for each entry.
+pub const OLD_CONTENTS_WORDS: usize = 2 + 3 * ENTRIES;
+
+/// The word of a row whose line stands nobody knows where.
+pub(crate) const UNKNOWN_FILE: usize = 65_535;

@@ -19,7 +19,7 @@
 /* Where the room for each thing that is lent ends. */
 static uint8_t *text_end, *second_end, *shelf_end, *contents_end, *bodies_end, *name_end, *class_end;
 static uint8_t *struck_end, *contents_without_end, *bodies_without_end, *default_end, *written_end;
-static uint8_t *next_end, *count_end;
+static uint8_t *next_end, *count_end, *old_contents_end, *old_bodies_end;
 static size_t text_count, second_count, shelf_count;
 static size_t contents_count = RESOURCE_MANAGER_CONTENTS_WORDS, bodies_count = RESOURCE_MANAGER_BODIES_BYTES;
 static int checks;
@@ -936,13 +936,14 @@ static void else_as_it_was(size_t entry)
 {
     const uint16_t *contents = lent_contents();
     const uint8_t *bodies = lent_bodies();
-    size_t row = 2 + 3 * entry, used = words_before[1], end = contents[1];
+    size_t row = 2 + 4 * entry, used = words_before[1], end = contents[1];
     expect("the number is the old count", entry, words_before[0]);
     expect("the new count", contents[0], entry + 1);
     expect("where the entry starts", contents[row], used);
     expect("where it ends", used + contents[row + 1] + contents[row + 2], end);
+    expect("its file", resource_manager_file_of(contents, entry), RESOURCE_MANAGER_UNKNOWN_FILE);
     stays("the rows before", contents + 2, words_before + 2, 2 * (row - 2));
-    stays("what is behind its row", contents + row + 3, words_before + row + 3, 2 * (contents_count - row - 3));
+    stays("what is behind its row", contents + row + 4, words_before + row + 4, 2 * (contents_count - row - 4));
     stays("the bytes before", bodies, bytes_before, used);
     stays("what is behind its bytes", bodies + end, bytes_before + end, bodies_count - end);
 }
@@ -988,9 +989,101 @@ static void set_image(const char *piece, size_t times, const char *last)
     set_shelf(NULL, 0);
     set_text(piece, times, last);
     expect("a reading's status", resource_manager_status_of(read_it()), RESOURCE_MANAGER_OK);
-    words = 2 + 3 * (size_t)contents[0];
+    words = 2 + 4 * (size_t)contents[0];
     memset(contents + words, FILLED, 2 * (contents_count - words));
     memset(lent_bodies() + contents[1], FILLED, bodies_count - contents[1]);
+}
+
+/* ---- From which file, and old images */
+
+static void file_is(size_t entry, size_t wanted)
+{
+    expect("the file of a line", resource_manager_file_of(lent_contents(), entry), wanted);
+}
+
+static void files_of_lines(void)
+{
+    static const size_t wanted[] = {0, 1, 3, 2, 0};
+    const struct file files[] = {{"a", "x:a"}, {"p", "#include \"q\"\nx:p"}, {"q", "#include \"./a\"\nx:q"}};
+    size_t n;
+    set_shelf(files, 3);
+    set_text("", 0, "x:\n#include \"p\"\nx:");
+    expect("lines of three files", read_it(), accepted(5, 3));
+    for (n = 0; n < 5; n++)
+        file_is(n, wanted[n]);
+    lent_contents()[5] = RESOURCE_MANAGER_SHELF_FILES;
+    expect("the last place", resource_manager_length_of(ask(resource_manager_get_bytes, "x", "")), 0);
+    lent_contents()[5] = RESOURCE_MANAGER_SHELF_FILES + 1;
+    expect("a place more", ask(resource_manager_get_bytes, "x", ""), RESOURCE_MANAGER_NO_IMAGE);
+    lent_contents()[5] = RESOURCE_MANAGER_UNKNOWN_FILE - 1;
+    expect("just below unknown", ask(resource_manager_get_bytes, "x", ""), RESOURCE_MANAGER_NO_IMAGE);
+}
+
+static uint16_t *old_contents(void)
+{
+    return (uint16_t *)(void *)old_contents_end - RESOURCE_MANAGER_OLD_CONTENTS_WORDS;
+}
+
+static uint8_t *old_bodies(void)
+{
+    return old_bodies_end - RESOURCE_MANAGER_BODIES_BYTES;
+}
+
+static uint64_t migrate(size_t old_words, size_t old_bytes)
+{
+    return resource_manager_migrate(old_contents(), old_words, old_bodies(), old_bytes, lent_contents(),
+                                    contents_count, lent_bodies(), bodies_count);
+}
+
+/* Refused, with both buffers as they were. */
+static void not_carried(const char *what, size_t old_words, size_t old_bytes, uint64_t wanted)
+{
+    memcpy(words_before, lent_contents(), 2 * contents_count);
+    memcpy(bytes_before, lent_bodies(), bodies_count);
+    expect(what, migrate(old_words, old_bytes), wanted);
+    stays("contents", lent_contents(), words_before, 2 * contents_count);
+    stays("bodies", lent_bodies(), bytes_before, bodies_count);
+}
+
+/* The image of a text, as it was before rows had a fourth word, and then carried over. */
+static void old_images(void)
+{
+    const size_t words = RESOURCE_MANAGER_OLD_CONTENTS_WORDS, bytes = RESOURCE_MANAGER_BODIES_BYTES;
+    size_t n, end;
+    expect("words of an old image", words, 2 + 3 * RESOURCE_MANAGER_ENTRIES);
+    set_shelf(NULL, 0);
+    set_text("a.b:1\n", RESOURCE_MANAGER_ENTRIES - 1, "*c: last");
+    expect("a reading", read_it(), accepted(RESOURCE_MANAGER_ENTRIES, 0));
+    memcpy(old_bodies(), lent_bodies(), bytes);
+    memcpy(old_contents(), lent_contents(), 4);
+    for (n = 0; n < RESOURCE_MANAGER_ENTRIES; n++)
+        memcpy(old_contents() + 2 + 3 * n, lent_contents() + 2 + 4 * n, 6);
+    end = old_contents()[1];
+    memset(old_bodies() + end, FILLED, bytes - end);
+    memset(lent_contents(), FILLED, 2 * contents_count);
+    memset(lent_bodies(), FILLED, bodies_count);
+    not_carried("old contents one word short", words - 1, bytes, RESOURCE_MANAGER_NO_IMAGE);
+    not_carried("old bodies one byte short", words, bytes - 1, RESOURCE_MANAGER_NO_IMAGE);
+    contents_count--;
+    not_carried("new contents one word short", words, bytes, RESOURCE_MANAGER_SHORT_BUFFERS);
+    not_carried("8 before 1", words - 1, bytes, RESOURCE_MANAGER_NO_IMAGE);
+    contents_count++;
+    bodies_count--;
+    not_carried("new bodies one byte short", words, bytes, RESOURCE_MANAGER_SHORT_BUFFERS);
+    bodies_count++;
+    expect("an old image", migrate(words, bytes), accepted(RESOURCE_MANAGER_ENTRIES, 0));
+    stays("its bytes", lent_bodies(), old_bodies(), end);
+    for (n = end; n < bytes; n++)
+        expect("a byte behind them", lent_bodies()[n], 0);
+    for (n = 0; n < RESOURCE_MANAGER_ENTRIES; n++) {
+        stays("its rows", lent_contents() + 2 + 4 * n, old_contents() + 2 + 3 * n, 6);
+        file_is(n, RESOURCE_MANAGER_UNKNOWN_FILE);
+    }
+    expect("a lookup", resource_manager_length_of(ask(resource_manager_get_bytes, "c", "")), 4);
+    old_contents()[0] = old_contents()[1] = 0;
+    expect("an old image of no entries", migrate(words, bytes), accepted(0, 0));
+    for (n = 0; n < contents_count; n++)
+        expect("a word of it", lent_contents()[n], 0);
 }
 
 static void entries_added(void)
@@ -1220,6 +1313,8 @@ static void comparisons_of_both(void)
 static void readings(void)
 {
     short_buffers();
+    files_of_lines();
+    old_images();
     long_text();
     shelf_files();
     shelf_bytes();
@@ -1272,7 +1367,7 @@ int main(void)
     pthread_t thread;
     uint8_t **rooms[] = {&text_end, &second_end, &shelf_end, &contents_end, &bodies_end, &name_end, &class_end,
                          &struck_end, &contents_without_end, &bodies_without_end, &default_end, &written_end,
-                         &next_end, &count_end};
+                         &next_end, &count_end, &old_contents_end, &old_bodies_end};
     size_t n;
     for (n = 0; n < sizeof rooms / sizeof rooms[0]; n++) {
         *rooms[n] = fenced();

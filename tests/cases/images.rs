@@ -5,7 +5,7 @@ use crate::readings::{on_each_word, Extent, Seen};
 use crate::words::{keys, words};
 use crate::{archives, crowded, realistic, texts};
 use model::image;
-use model::limits::{BODIES_BYTES, ENTRIES, KEY_PARTS, TEXT_BYTES, WRITTEN_BYTES};
+use model::limits::{BODIES_BYTES, ENTRIES, KEY_PARTS, ROW_WORDS, TEXT_BYTES, WRITTEN_BYTES};
 use records::Source;
 use std::collections::BTreeSet;
 
@@ -25,8 +25,8 @@ impl Image {
         let (mut contents, mut bodies) = records::buffers();
         let mut used = 0;
         for (number, (key, value)) in entries.iter().enumerate() {
-            let row = [used, key.len(), value.len()].map(|n| n as u16);
-            contents[2 + 3 * number..5 + 3 * number].copy_from_slice(&row);
+            let row = [used, key.len(), value.len(), 0].map(|n| n as u16);
+            contents[2 + ROW_WORDS * number..][..ROW_WORDS].copy_from_slice(&row);
             for bytes in [key, value] {
                 bodies[used..used + bytes.len()].copy_from_slice(bytes);
                 used += bytes.len();
@@ -233,7 +233,7 @@ fn damaged(extent: Extent, see: See) -> Seen {
         let used = usize::from(image.contents[1]);
         for _ in 0..draw.between(1, 2) {
             if draw.one_in(2) {
-                let at = draw.below(2 + 3 * entries.len());
+                let at = draw.below(2 + ROW_WORDS * entries.len());
                 image.contents[at] = image.contents[at].wrapping_add(*draw.pick(&[&1, &2, &512, &32_768, &u16::MAX]));
             } else {
                 let at = draw.below(used + 1);

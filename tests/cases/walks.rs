@@ -5,7 +5,7 @@ use crate::images::{self, Entry, Image};
 use crate::readings::{on_each_word, Extent, Seen};
 use crate::words::{keys, queries};
 use crate::{crowded, realistic, texts};
-use model::limits::{BODIES_BYTES, ENTRIES, KEY_PARTS, QUERY_BYTES, QUERY_PARTS, TEXT_BYTES};
+use model::limits::{BODIES_BYTES, ENTRIES, KEY_PARTS, QUERY_BYTES, QUERY_PARTS, ROW_WORDS, TEXT_BYTES};
 use records::{Query, Source};
 
 /// What is done to an image.
@@ -132,7 +132,7 @@ fn left_over(_: Extent, see: See) -> Seen {
         let all: Vec<&[u8]> = word.iter().map(|key| KEYS[usize::from(*key)]).collect();
         for kept in 0..all.len() {
             let mut image = keyed(&all);
-            image.contents[1] = image.contents[2 + 3 * kept];
+            image.contents[1] = image.contents[2 + ROW_WORDS * kept];
             image.contents[0] = kept as u16;
             let from = |next| Turn::From(name(b"a"), State { next, count: all.len() as u16 });
             let mut turns: Vec<Turn> = (0..=all.len() as u16).map(from).collect();

@@ -1,7 +1,7 @@
 //! An addition, document 02 (v): the entry that a text makes, put behind those of an image.
 
 use crate::image::judge;
-use crate::limits::{Refusal, BODIES_BYTES, ENTRIES, KEY_PARTS, TEXT_BYTES};
+use crate::limits::{Refusal, BODIES_BYTES, ENTRIES, KEY_PARTS, ROW_WORDS, TEXT_BYTES, UNKNOWN_FILE};
 use crate::line::{take_line, write_key, Line, Part};
 
 /// The number of the added entry, whose row and bytes are written with the first two words, and nothing else. 8, then 2, then
@@ -23,8 +23,8 @@ pub fn add(contents: &mut [u16], bodies: &mut [u8], text: &[u8]) -> Result<usize
     if end > BODIES_BYTES {
         return Err(Refusal::FullStore);
     }
-    let row = [start, key.len(), value.len()].map(|number| number as u16);
-    contents[2 + 3 * count..5 + 3 * count].copy_from_slice(&row);
+    let row = [start as u16, key.len() as u16, value.len() as u16, UNKNOWN_FILE];
+    contents[2 + ROW_WORDS * count..][..ROW_WORDS].copy_from_slice(&row);
     bodies[start..end].copy_from_slice(&[key, value.clone()].concat());
     contents[0] = count as u16 + 1;
     contents[1] = end as u16;

@@ -1,6 +1,13 @@
 //! Document 01's numbers, with those that requests of document 02 add: the limits, and what each refusal is called.
 
-pub const CONTENTS_WORDS: usize = 1538;
+/// The words of a row, and of contents.
+pub const ROW_WORDS: usize = 4;
+pub const CONTENTS_WORDS: usize = 2050;
+/// The same of an image from before document 02 (viii).
+pub const OLD_ROW_WORDS: usize = 3;
+pub const OLD_CONTENTS_WORDS: usize = 1538;
+/// Where a line stands that stands nobody knows where.
+pub const UNKNOWN_FILE: u16 = 65_535;
 pub const BODIES_BYTES: usize = 32_768;
 pub const TEXT_BYTES: usize = 32_768;
 

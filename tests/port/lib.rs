@@ -45,6 +45,17 @@ extern "C" {
         bodies_length: usize,
     ) -> u64;
 
+    fn resource_manager_migrate(
+        old_contents: *const u16,
+        old_contents_length: usize,
+        old_bodies: *const u8,
+        old_bodies_length: usize,
+        contents: *mut u16,
+        contents_length: usize,
+        bodies: *mut u8,
+        bodies_length: usize,
+    ) -> u64;
+
     fn resource_manager_get_bytes(
         contents: *const u16,
         contents_length: usize,
@@ -472,6 +483,24 @@ pub fn write_word(contents: &[u16], bodies: &[u8], text: &mut [u8]) -> u64 {
     // SAFETY: as for the lookups; `text` is borrowed for writing.
     unsafe {
         resource_manager_write(contents.as_ptr(), contents.len(), bodies.as_ptr(), bodies.len(), text.as_mut_ptr(), text.len())
+    }
+}
+
+/// Carries an old image over into new buffers: the entry count from bit 16 on; or, with the buffers as they were, 8 if there is no
+/// old image, 1 if they are too short.
+pub fn migrate_word(old_contents: &[u16], old_bodies: &[u8], contents: &mut [u16], bodies: &mut [u8]) -> u64 {
+    // SAFETY: as for the reading; the old image is borrowed for reading.
+    unsafe {
+        resource_manager_migrate(
+            old_contents.as_ptr(),
+            old_contents.len(),
+            old_bodies.as_ptr(),
+            old_bodies.len(),
+            contents.as_mut_ptr(),
+            contents.len(),
+            bodies.as_mut_ptr(),
+            bodies.len(),
+        )
     }
 }
 

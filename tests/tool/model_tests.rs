@@ -14,9 +14,9 @@ use cases::named_chains::{at_limits, named};
 use cases::readings::Extent;
 use cases::walks;
 use cases::words::{keys, queries};
-use model::archive::{judge, lay_out, strike};
+use model::archive::{judge, lay_out, strike, File};
 use model::image::{self, Accepted};
-use model::limits::{BODIES_BYTES, CONTENTS_WORDS, TEXT_BYTES};
+use model::limits::{BODIES_BYTES, CONTENTS_WORDS, OLD_CONTENTS_WORDS, ROW_WORDS, TEXT_BYTES};
 use model::line::{read_key, write_key, Part};
 use model::lookup::{get_bool, get_bytes, get_value, show, Bounds, Number, SHELL, WINDOW};
 use model::matching::{all_rows, beats_the_rest, highest_row, positions, winner};
@@ -32,7 +32,7 @@ use std::process::ExitCode;
 
 type Test = fn() -> Result<String, String>;
 
-const TESTS: [(&str, Test); 20] = [
+const TESTS: [(&str, Test); 22] = [
     ("examples", examples),
     ("booleans", booleans),
     ("limits", limits),
@@ -53,6 +53,8 @@ const TESTS: [(&str, Test); 20] = [
     ("walks", walks_listed),
     ("additions", additions),
     ("walks-with-additions", walks_with_additions),
+    ("origins", origins),
+    ("migrations", migrations),
 ];
 
 fn main() -> ExitCode {
@@ -117,7 +119,7 @@ impl Lent {
     /// Whether the words and bytes after the entries, up to the image's end, are zero.
     fn is_zero_after(&self, entries: usize) -> bool {
         let used = self.contents[1] as usize;
-        self.contents[2 + 3 * entries..CONTENTS_WORDS].iter().all(|&w| w == 0)
+        self.contents[2 + ROW_WORDS * entries..CONTENTS_WORDS].iter().all(|&w| w == 0)
             && self.bodies[used..BODIES_BYTES].iter().all(|&b| b == 0)
     }
 }
@@ -349,7 +351,7 @@ fn short_buffers() -> Result<String, String> {
 }
 
 fn short_buffers_of(text: &Source, long: &Source) -> Result<usize, String> {
-    let sizes = [(0, 0, Err(1)), (1537, 32_768, Err(1)), (1538, 32_767, Err(1)), (0, 40_000, Err(1)), (1538, 32_768, Ok(1))];
+    let sizes = [(0, 0, Err(1)), (2049, 32_768, Err(1)), (2050, 32_767, Err(1)), (0, 40_000, Err(1)), (2050, 32_768, Ok(1))];
     for (words, bytes, expected) in sizes {
         let mut lent = Lent::of(words, bytes);
         same("a text", lent.read(text).map(|accepted| accepted.entries), expected)?;
@@ -480,7 +482,7 @@ fn bad_images() -> Result<String, String> {
     over.bodies[..2].copy_from_slice(b".a");
     let keyed = |key: &[u8]| {
         let mut lent = Lent::of(CONTENTS_WORDS, BODIES_BYTES);
-        lent.contents[..5].copy_from_slice(&[1, key.len() as u16, 0, key.len() as u16, 0]);
+        lent.contents[..6].copy_from_slice(&[1, key.len() as u16, 0, key.len() as u16, 0, 0]);
         lent.bodies[..key.len()].copy_from_slice(key);
         lent
     };
@@ -501,8 +503,13 @@ fn bad_images() -> Result<String, String> {
         ("used fills the store", full, true),
         ("used past the store", over, false),
         ("a first start of 1", word(2, 1), false),
-        ("a gap before the second", word(5, 4), false),
-        ("a second start too early", word(5, 2), false),
+        ("a gap before the second", word(6, 4), false),
+        ("a second start too early", word(6, 2), false),
+        ("the last place of a file", word(9, 64), true),
+        ("a place more", word(5, 65), false),
+        ("just below unknown", word(9, 65_534), false),
+        ("a file that nobody knows", words(&[(5, 65_535), (9, 65_535)]), true),
+        ("no file behind the last row", word(13, 65), true),
         ("lengths that pass the sum", word(4, 65_535), false),
         ("a key length that takes in the value", words(&[(3, 3), (4, 0)]), true),
         ("a key that ends in its binding", words(&[(3, 1), (4, 2)]), false),
@@ -616,7 +623,7 @@ fn written_texts() -> Result<String, String> {
 fn read_again() -> Result<String, String> {
     let (mut count, mut long) = (0, 0);
     let mut texts = BTreeMap::new();
-    for name in ["limits", "values", "pairs", "bytes", "keys", "texts"] {
+    for name in ["limits", "values", "pairs", "bytes", "keys", "texts", "archives"] {
         let family = images::family(name).ok_or("no such family")?;
         family(Extent { seed: 1, times: 1 }, &mut |image| {
             let Some(entries) = image.entries() else { return Ok(()) };
@@ -699,7 +706,7 @@ fn additions() -> Result<String, String> {
     let limits = walks::at_limits();
     for walks::AtLimit { label, image, text, expected } in &limits {
         let mut lent = Lent::new();
-        let (rows, used) = (2 + 3 * usize::from(image.contents[0]).min(512), usize::from(image.contents[1]));
+        let (rows, used) = (2 + ROW_WORDS * usize::from(image.contents[0]).min(512), usize::from(image.contents[1]));
         lent.contents[..rows].copy_from_slice(&image.contents[..rows]);
         lent.bodies[..used].copy_from_slice(&image.bodies[..used]);
         let before = (lent.contents.clone(), lent.bodies.clone());
@@ -710,17 +717,70 @@ fn additions() -> Result<String, String> {
         }
         let end = usize::from(lent.contents[1]);
         same(label, &lent.contents[2..rows], &before.0[2..rows])?;
-        same(label, lent.contents[rows + 3..] == before.0[rows + 3..], true)?;
+        same(label, lent.contents[rows + ROW_WORDS..] == before.0[rows + ROW_WORDS..], true)?;
         same(label, lent.bodies[..used] == before.1[..used] && lent.bodies[end..] == before.1[end..], true)?;
         same(label, image::judge(&lent.contents, &lent.bodies).is_some(), true)?;
     }
     let mut lent = image_of(b"a:1");
-    lent.contents[5..].fill(WORD);
+    lent.contents[6..].fill(WORD);
     lent.bodies[3..].fill(BYTE);
     same("an addition", lent.add(b"! more\n*b..c : y\\nz\n"), Ok(1))?;
-    same("its row", &lent.contents[..9], &[2, 10, 0, 2, 1, 3, 4, 3, WORD])?;
+    same("its row", &lent.contents[..11], &[2, 10, 0, 2, 1, 0, 3, 4, 3, 65_535, WORD])?;
     same("its bytes", &lent.bodies[..11], b".a1*b.cy\nzZ")?;
     Ok(format!("{} additions at limits", limits.len()))
+}
+
+/// From which file each entry is: 0 for a text of the reading, else the place on the archive of the last file on its chain.
+fn origins() -> Result<String, String> {
+    let file = |name: &str, body: &str| File { name: name.into(), body: body.into() };
+    let p = file("d/p", "#include \"../q\"\nx:p");
+    let q = file("q", "#include \"./a\"\nx:q\n#include \"none\"\nx:q");
+    let archive = lay_out(&[file("a", "x:a"), p, q]);
+    let cases: [(&[&[u8]], &[u16]); 4] = [
+        (&[b"x:"], &[0]),
+        (&[b"x:\n#include \"d/p\"\nx:"], &[0, 1, 3, 3, 2, 0]),
+        (&[b"#include \"q\"\n#include \"a\"", b"x:"], &[1, 3, 3, 1, 0]),
+        (&[b"", b"#include \"a\""], &[1]),
+    ];
+    for (texts, expected) in cases {
+        let mut lent = Lent::new();
+        image::read(&mut lent.contents, &mut lent.bodies, texts, &archive).map_err(|refusal| format!("{refusal:?}"))?;
+        let found: Vec<u16> = (0..usize::from(lent.contents[0])).map(|number| lent.contents[5 + ROW_WORDS * number]).collect();
+        same("origins", &found[..], expected)?;
+        same("zero behind", lent.is_zero_after(expected.len()), true)?;
+    }
+    Ok(format!("{} readings", cases.len()))
+}
+
+/// An old image carried over: its entries with 65,535 in every row, zeroed past them, and refusals that change nothing.
+fn migrations() -> Result<String, String> {
+    let (mut old, mut bytes) = (vec![WORD; OLD_CONTENTS_WORDS], vec![BYTE; BODIES_BYTES]);
+    old[..8].copy_from_slice(&[2, 6, 0, 2, 1, 3, 2, 1]);
+    bytes[..6].copy_from_slice(b".ax*by");
+    let mut lent = Lent::new();
+    let accepted = image::migrate(&old, &bytes, &mut lent.contents, &mut lent.bodies);
+    same("entries and opens", accepted.map(|accepted| (accepted.entries, accepted.opens)).ok(), Some((2, 0)))?;
+    same("the rows", &lent.contents[..10], &[2, 6, 0, 2, 1, 65_535, 3, 2, 1, 65_535])?;
+    same("the bytes", &lent.bodies[..6], b".ax*by")?;
+    same("zero behind", lent.is_zero_after(2) && lent.is_untouched_past_the_image(), true)?;
+    let found = get_bytes(&lent.contents, &lent.bodies, b"b", b"").ok().flatten().map(|place| (place.start, place.length));
+    same("a lookup", found, Some((5, 1)))?;
+    let off = |at: usize| [&old[..at], &[9], &old[at + 1..]].concat();
+    let refused = [
+        ("a word short", old[1..].to_vec(), bytes.clone(), (CONTENTS_WORDS, BODIES_BYTES), 8),
+        ("a byte short", old.clone(), bytes[1..].to_vec(), (CONTENTS_WORDS, BODIES_BYTES), 8),
+        ("a start that is off", off(5), bytes.clone(), (CONTENTS_WORDS, BODIES_BYTES), 8),
+        ("8 before 1", off(5), bytes.clone(), (0, 0), 8),
+        ("new contents a word short", old.clone(), bytes.clone(), (CONTENTS_WORDS - 1, BODIES_BYTES), 1),
+        ("new bodies a byte short", old.clone(), bytes.clone(), (CONTENTS_WORDS, BODIES_BYTES - 1), 1),
+    ];
+    for (label, old, bytes, (words, room), number) in &refused {
+        let mut lent = Lent::of(*words, *room);
+        let answer = image::migrate(old, bytes, &mut lent.contents, &mut lent.bodies);
+        same(label, answer.map(|_| 0).unwrap_or_else(|refusal| refusal.number()), *number)?;
+        same(label, lent.is_untouched(), true)?;
+    }
+    Ok(format!("an old image, and {} that are refused", refused.len()))
 }
 
 /// A walk with additions under way lists, of the entries below its start's count, those that align, each once, and ends.

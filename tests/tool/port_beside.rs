@@ -9,6 +9,7 @@
 //!     port_beside compare-without FAMILY SEED TIMES ROOM   the same by the comparing call
 //!     port_beside strikes                           lists the families of archives
 //!     port_beside write FAMILY SEED TIMES ROOM      compares the writing of one family of images
+//!     port_beside migrate FAMILY SEED TIMES ROOM    compares the carrying over of one family of images, with rows of three words
 //!     port_beside writings                          lists the families of images
 //!     port_beside walk FAMILY SEED TIMES ROOM       compares the walks and additions of one family
 //!     port_beside walks                             lists the families of walks and additions
@@ -45,6 +46,12 @@ mod lending;
 mod lookup_faults;
 #[path = "port/lookup_tests.rs"]
 mod lookup_tests;
+#[path = "port/migrating.rs"]
+mod migrating;
+#[path = "port/migrating_faults.rs"]
+mod migrating_faults;
+#[path = "port/migrating_tests.rs"]
+mod migrating_tests;
 #[path = "port/orders.rs"]
 mod orders;
 #[path = "port/path_faults.rs"]
@@ -91,6 +98,7 @@ use cases::struck;
 use cases::walks;
 use comparing::Comparing;
 use inquiry::Inquiry;
+use migrating::Migrating;
 use orders::Orders;
 use records::Start;
 use run::Run;
@@ -113,6 +121,7 @@ fn main() -> ExitCode {
         ["compare-without", family, seed, times, _] => compare_without(family, seed, times),
         ["strikes"] => Ok(names(&strikes())),
         ["write", family, seed, times, _] => write(family, seed, times),
+        ["migrate", family, seed, times, _] => migrate(family, seed, times),
         ["writings"] => Ok(names(&images::FAMILIES)),
         ["walk", family, seed, times, _] => walk(family, seed, times),
         ["walks"] => Ok(names(&walks::FAMILIES)),
@@ -195,6 +204,13 @@ fn write(family: &str, seed: &str, times: &str) -> Result<String, String> {
     let mut writing = Writing::new(port::write_word);
     family(extent(seed, times)?, &mut |image| writing.see(image))?;
     writing.counts.report()
+}
+
+fn migrate(family: &str, seed: &str, times: &str) -> Result<String, String> {
+    let family = find(&images::FAMILIES, family)?;
+    let mut migrating = Migrating::new(port::migrate_word);
+    family(extent(seed, times)?, &mut |image| migrating.see(image))?;
+    migrating.counts.report()
 }
 
 fn walk(family: &str, seed: &str, times: &str) -> Result<String, String> {

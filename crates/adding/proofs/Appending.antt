@@ -11,9 +11,9 @@ use lib.ListN.{length, take, drop, set}
 use lib.Seq.{paste, sets-eq, take-length}
 use borrow.Author.Tests.{lt-ltb, le-ltb, le-leb, lt-leb, ltb-false, leb-false}
 use Rattle.definition.specs.Lists.{if_then_else_}
-use Rattle.definition.specs.Limits.{mostEntries, mostParts, bodyBytes, textBytes}
+use Rattle.definition.specs.Limits.{mostEntries, mostParts, bodyBytes, textBytes, unknownFile}
 use Rattle.definition.specs.Text.{Entry, afterBlanks}
-use Rattle.definition.specs.Image.{keyOf, rowsOf, countOf, usedOf, isImage}
+use Rattle.definition.specs.Image.{keyOf, allFrom, rowsOf, countOf, usedOf, isImage}
 use Rattle.definition.specs.Reading.{Totals, Verdict, within, past, sizeOf, judge}
 use Rattle.definition.specs.Lookup.{given, refused}
 use Rattle.definition.specs.Adding.{Addition, addition, entriesAdded, over, appended, judged, addedOne, adding}
@@ -60,14 +60,15 @@ module _ {t u : List ℕ} {size : ℕ} {verbatim : Bool} {len entries used : ℕ
   written = record { parts = partsOf t; value = decodedAt u }
 
   -- the row
-  row-written : {c₁ : List ℕ} → c₁ ≡ withRow c entries (record { start = used; keyLength = size; valueLength = len })
-      → c₁ ≡ over (rowStart entries) (rowsOf used (written ∷ [])) c
+  row-written : {c₁ : List ℕ} → c₁ ≡ withRow c entries (record { start = used; keyLength = size; valueLength = len }) unknownFile
+      → c₁ ≡ over (rowStart entries) (rowsOf used (allFrom unknownFile (written ∷ []))) c
   unfolding over rowsOf
   row-written g =
-      let h : rowStart entries + 3 ≤ length c = omega (arith, f .entry-room, f .contents-long) in
+      let h : rowStart entries + 4 ≤ length c = omega (arith, f .entry-room, f .contents-long) in
       let one : rowStart entries + 1 ≡ suc (rowStart entries) = omega arith in
       let two : rowStart entries + 2 ≡ suc (suc (rowStart entries)) = omega arith in
-      g ∙ rw (one, two, f .key, f .value) (sets-eq (used ∷ length (keyOf (partsOf t)) ∷ length (decodedAt u) ∷ []) c (rowStart entries) h)
+      let three : rowStart entries + 3 ≡ suc (suc (suc (rowStart entries))) = omega arith in
+      g ∙ rw (one, two, three, f .key, f .value) (sets-eq (used ∷ length (keyOf (partsOf t)) ∷ length (decodedAt u) ∷ unknownFile ∷ []) c (rowStart entries) h)
 
   -- the value behind the key
   bytes-written : {b₁ b₂ : List ℕ} {r : Stored} → b₁ ≡ paste b used (keyOf (partsOf t)) (length (keyOf (partsOf t))) → length b₁ ≡ length b
@@ -83,7 +84,7 @@ module _ {t u : List ℕ} {size : ℕ} {verbatim : Bool} {len entries used : ℕ
 
   pub appended-is : {b₁ b₂ c₁ c₂ : List ℕ} {r : Stored} → b₁ ≡ paste b used (keyOf (partsOf t)) (length (keyOf (partsOf t))) → length b₁ ≡ length b
       → Decoded u b₁ (used + size) b₂ r
-      → c₁ ≡ withRow c entries (record { start = used; keyLength = size; valueLength = len }) → length c₁ ≡ length c
+      → c₁ ≡ withRow c entries (record { start = used; keyLength = size; valueLength = len }) unknownFile → length c₁ ≡ length c
       → c₂ ≡ set (set c₁ 0 (entries + 1)) 1 (used + size + len)
       → addition (given (countOf c)) c₂ b₂ ≡ appended written c b
   unfolding appended over
@@ -92,7 +93,7 @@ module _ {t u : List ℕ} {size : ℕ} {verbatim : Bool} {len entries used : ℕ
       let end : used + size + len ≡ usedOf c + sizeOf written = omega (arith, f .bytes, f .key, f .value) in
       let number : entries + 1 ≡ countOf c + 1 = omega (arith, f .count) in
       w ∙ rw (end, number) (sets-eq ((countOf c + 1) ∷ (usedOf c + sizeOf written) ∷ []) c₁ 0 (omega (arith, long, f .contents-long))) in
-      let rows : c₁ ≡ over (rowStart (countOf c)) (rowsOf (usedOf c) (written ∷ [])) c = rw (f .count, f .bytes) at (row-written row) in
+      let rows : c₁ ≡ over (rowStart (countOf c)) (rowsOf (usedOf c) (allFrom unknownFile (written ∷ []))) c = rw (f .count, f .bytes) at (row-written row) in
       let bytes : b₂ ≡ over (usedOf c) (keyOf (partsOf t) ++ decodedAt u) b = rw (f .bytes) at (bytes-written g l d) in
       λ i. addition (given (countOf c)) ((words ∙ ap (over 0 ((countOf c + 1) ∷ (usedOf c + sizeOf written) ∷ [])) rows) i) (bytes i)
 

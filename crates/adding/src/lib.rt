@@ -27,6 +27,7 @@ use limits::BODY_BYTES;
 use limits::MOST_ENTRIES;
 use limits::MOST_PARTS;
 use limits::TEXT_BYTES;
+use limits::UNKNOWN_FILE;
 use lines::Line;
 use lines::parse_line;
 use values::parse_value;
@@ -132,7 +133,8 @@ fn refusal(count: usize, size: usize, length: usize, entries: usize, used: usize
     0
 }
 
-// Writes the entry of a line, whose value's text, blanks skipped, is `rest`: its key and value, its row, and the first two words.
+// Writes the entry of a line, whose value's text, blanks skipped, is `rest`: its key and value, its row, and the first two words. The line
+// stands in no file that is known.
 fn append(
     classes: &[u8; 256],
     line: &[u8],
@@ -156,7 +158,7 @@ fn append(
         key: size,
         value: length,
     };
-    write_row(contents, entries, row);
+    write_row(contents, entries, row, UNKNOWN_FILE as u16);
     contents[0] = (entries + 1) as u16;
     contents[1] = (at + length) as u16;
 }

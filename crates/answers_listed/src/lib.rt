@@ -4,9 +4,10 @@ ghost use mathlib.Core.Bool.{true};
 ghost use mathlib.Core.List.{map};
 ghost use Prim.Native.Nat.{_≤_};
 ghost use lib.ListN.{length};
+ghost use Rattle.definition.specs.Archive.{filesOf, laidOut};
 ghost use Rattle.definition.specs.Image.{isImage};
 ghost use Rattle.definition.specs.Query.{queryOf};
-ghost use Rattle.definition.specs.Writing.{entriesOfImage};
+ghost use Rattle.definition.specs.Writing.{sourcesOfImage};
 ghost use Rattle.reports.specs.Telling.{Reports};
 ghost use Rattle.answers_listed.specs.Listed.{listedBytes, queryTold, listTold};
 use limits::BODY_BYTES;
@@ -21,19 +22,27 @@ use walk::Started;
 use walk::walk_start;
 use walk_lines::put_walk;
 
-// Room for every list: a byte of a value is shown as four at most, and beside its key and its value a line has 24 bytes at most.
-pub const LISTED_BYTES: usize = 4 * BODY_BYTES + 24 * MOST_ENTRIES;
+// Room for every list: a byte of a value is shown as four at most, and beside its key and its value a line has 122 bytes at most, of which a
+// file's name has 96.
+pub const LISTED_BYTES: usize = 4 * BODY_BYTES + 122 * MOST_ENTRIES;
 
 // The entries of an image that align.
-fn list_image(contents: &[u16], bodies: &[u8], name: &[u8], class: &[u8], out: &mut [u8]) -> Report
-    requires { ⌜ (isImage (now contents) (now bodies) ≡ true) × (listedBytes ≤ length (now out)) ⌝ }
-    ensures { λ r. ⌜ Reports (queryTold (queryOf (now (name .entry)) (now (class .entry))) (entriesOfImage (now (contents .entry)) (now (bodies .entry)))) (now (out .entry)) (now (out .exit)) r ⌝ }
+fn list_image(
+    contents: &[u16],
+    bodies: &[u8],
+    archive: &[u8],
+    name: &[u8],
+    class: &[u8],
+    out: &mut [u8],
+) -> Report
+    requires { ⌜ (isImage (now contents) (now bodies) ≡ true) × (laidOut (now archive) ≡ true) × (listedBytes ≤ length (now out)) ⌝ }
+    ensures { λ r. ⌜ Reports (queryTold (filesOf (now (archive .entry))) (queryOf (now (name .entry)) (now (class .entry))) (sourcesOfImage (now (contents .entry)) (now (bodies .entry)))) (now (out .entry)) (now (out .exit)) r ⌝ }
 {
     let started = walk_start(contents, bodies, name, class);
     match started {
         Started::Refused(number) => refuse(number, out),
         Started::Begun(count) => {
-            let size = put_walk(contents, bodies, name, class, count as usize, out);
+            let size = put_walk(contents, bodies, archive, name, class, count as usize, out);
             if size == 0 {
                 let end = put(b"getres: no entry\n", out, 0);
                 return Report {
@@ -66,7 +75,7 @@ pub fn list_entries(
     let mut bodies = [0; BODY_BYTES];
     let answer = read_texts(texts, archive, &mut contents, &mut bodies);
     match answer {
-        Answer::Accepted(_, _) => list_image(&contents, &bodies, name, class, out),
+        Answer::Accepted(_, _) => list_image(&contents, &bodies, archive, name, class, out),
         Answer::Refused(number) => refuse(number, out),
     }
 }

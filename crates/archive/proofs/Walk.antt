@@ -2,18 +2,19 @@
 use mathlib.Core.Bool.{Bool, true, false, _&&_, and-false}
 use mathlib.Core.List.{List, [], _∷_, _++_, append-assoc}
 use mathlib.Core.Path.{_≡_, refl, sym, ap, _∙_}
-use Prim.Native.Nat.{ℕ, suc, _+_, _-_, _≤_, _<_}
-use native.Mathlib.Nat.{sub-zero}
+use Prim.Native.Nat.{ℕ, zero, suc, _+_, _-_, _≤_, _<_}
+use native.Mathlib.Nat.{sub-zero, add-zero}
+use native.Mathlib.Numerals.{add-one}
 use native.Mathlib.Omega.{arith}
 use native.Mathlib.Decide.{decLt}
 use lib.Dec.{eqb, leb}
-use lib.ListN.{length, take, drop, length-append, length-drop, drop-of-length-le}
+use lib.ListN.{length, take, drop, getD, length-append, length-drop, drop-of-length-le}
 use lib.Seq.{getD-drop, drop-drop, drop-cons, take-add, length-take-le}
 use borrow.Author.Tests.{leb-true, le-leb, lt-leb, eq-eqb, ne-eqb}
 use Rattle.definition.specs.Lists.{isEmpty}
 use Rattle.definition.specs.Archive.{File, bodiesOf, numberAt, filesFrom, filesOf, laidOut}
 use Rattle.laws.proofs.Lists.{and-true}
-use Rattle.laws.proofs.Archive.{laidOut-archive}
+use Rattle.laws.proofs.Archive.{laidOut-says, laidOut-archive}
 use Rattle.laws.proofs.Walked.{fits, fitsFrom, files-fit, number-from}
 use Rattle.archive.specs.declared.Member.{Member}
 use Rattle.archive.specs.Walk.{lengthsAt, nameStart, memberAt, fileIn}
@@ -233,3 +234,42 @@ module _ {s : List ℕ} {count at j : ℕ} (w : Walking s count at j) where
           left = left-next;
           place = place-next;
         }
+
+-- the walk has come to file i
+pub walked-to : {s : List ℕ} {count at j i : ℕ} {m : Member} → Walking s count at j → j ≡ i → m ≡ memberAt s i at → m ≡ memberAt s i (nameStart i s)
+walked-to {s} {count} {at} {j} {i} {m} w e em = em ∙ ap (memberAt s i) (w .place ∙ ap (λ x. nameStart x s) e)
+
+-- and it comes to each
+module _ (s : List ℕ) (h : laidOut s ≡ true) where
+  abbrev count : ℕ
+  count = length (filesOf s)
+
+  comes-to : (j : ℕ) → j ≤ count → (at : ℕ) × Walking s count at j
+  comes-to zero k = (lengthsAt count, walking-first s count (omega (arith, length-files s, laidOut-says s h .few)) (laid-fits s h))
+  comes-to (suc j) k =
+      let w = comes-to j (omega arith) in
+      (memberAt s j (w .0) .end, rw (add-one j) at (walking-next (w .1) (omega arith) refl))
+
+  module _ (j : ℕ) (k : j < count) where
+    abbrev found : Member
+    found = memberAt s j (nameStart j s)
+
+    here-is : (at : ℕ) → Walking s count at j → found ≡ memberAt s j at
+    here-is at w = ap (memberAt s j) (sym (w .place))
+
+    pub member-in : Stands s (nameStart j s) found
+    member-in =
+        let w = comes-to j (omega arith) in
+        rw (w .1 .place) at (walking-in (w .1) k refl)
+
+    pub member-next : found .end ≡ nameStart (j + 1) s
+    member-next =
+        let w = comes-to j (omega arith) in
+        walking-next (w .1) k (here-is (w .0) (w .1)) .place
+
+    -- the file that stands there
+    pub member-file : (d : File) → getD (filesOf s) j d ≡ fileIn s found
+    member-file d =
+        let w = comes-to j (omega arith) in
+        ap (λ (i : ℕ). getD (filesOf s) i d) (sym (add-zero j)) ∙ sym (getD-drop j (filesOf s) 0 d)
+        ∙ ap (λ (fs : List File). getD fs 0 d) (walking-turn (w .1) k (here-is (w .0) (w .1)))

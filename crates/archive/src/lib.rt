@@ -6,7 +6,7 @@ ghost use Prim.Native.Nat.{_+_, _≤_, _<_};
 ghost use lib.ListN.{length};
 ghost use Rattle.definition.specs.Archive.{numberAt, filesOf, laidOut};
 ghost use Rattle.laws.proofs.Walked.{fits};
-ghost use Rattle.archive.specs.Walk.{lengthsAt, memberAt, risingFrom};
+ghost use Rattle.archive.specs.Walk.{lengthsAt, nameStart, memberAt, risingFrom};
 use file_names::is_file_name;
 use file_names::lower;
 use limits::ARCHIVE_BYTES;
@@ -61,6 +61,22 @@ pub fn member_at(archive: &[u8], number: usize, start: usize) -> Member
         body,
         end,
     }
+}
+
+// The file of that number, by the walk over those before it.
+pub fn member_of(archive: &[u8], file: usize) -> Member
+    requires { ⌜ (laidOut (now archive) ≡ true) × (file < length (filesOf (now archive))) ⌝ }
+    ensures { λ r. ⌜ r ≡ memberAt (now (archive .entry)) file (nameStart file (now (archive .entry))) ⌝ }
+{
+    let count = file_count(archive);
+    let mut at = lengths_at(count);
+    let mut j = 0;
+    while j < file {
+        let member = member_at(archive, j, at);
+        at = member.end;
+        j += 1;
+    }
+    member_at(archive, file, at)
 }
 
 // Do the lengths sum to the bytes that follow them, and to nothing less?

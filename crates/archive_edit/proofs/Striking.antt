@@ -12,15 +12,15 @@ use Rattle.definition.specs.Archive.{bytesOf, lengthsOf, bodiesOf, archiveOf, n
 use Rattle.laws.proofs.Archive.{laidOut-says, length-struck}
 use Rattle.archive.specs.declared.Member.{Member}
 use Rattle.archive.specs.Walk.{lengthsAt, nameStart, memberAt}
-use Rattle.archive.proofs.Walk.{length-files, bodies-append, part-size, Walking, walking-next}
+use Rattle.archive.proofs.Walk.{length-files, bodies-append, part-size, member-next}
 use Rattle.archive_write.proofs.Stretches.{lengths-append, stretch-sizes, stretch-lengths, stretch-middle, stretch-last, starts-low, start-next, written-first, written-on, written-all}
 
--- the walk has come to file i
-pub walked-to : {s : List ℕ} {count at j i : ℕ} {m : Member} → Walking s count at j → j ≡ i → i < length (filesOf s) → m ≡ memberAt s i at
-    → (m .start ≡ nameStart i s) × (m .end ≡ nameStart (i + 1) s)
-walked-to {s} {count} {at} {j} {i} {m} w e k em =
-    let here : m ≡ memberAt s j at = em ∙ ap (λ x. memberAt s x at) (sym e) in
-    (ap (λ x. x .start) em ∙ w .place ∙ ap (λ x. nameStart x s) e, walking-next w (omega (arith, w .many)) here .place ∙ ap (λ x. nameStart (x + 1) s) e)
+-- where file j starts, and where it ends
+pub starts-at : (s : List ℕ) (j : ℕ) {m : Member} → m ≡ memberAt s j (nameStart j s) → m .start ≡ nameStart j s
+starts-at s j e = ap (λ x. x .start) e
+
+pub ends-at : (s : List ℕ) (h : laidOut s ≡ true) (j : ℕ) → j < length (filesOf s) → {m : Member} → m ≡ memberAt s j (nameStart j s) → m .end ≡ nameStart (j + 1) s
+ends-at s h j k e = ap (λ x. x .end) e ∙ member-next s h j k
 
 -- how the numbers lie to each other
 pub record Numbers (s : List ℕ) (j count at rest : ℕ) : Type 0 where

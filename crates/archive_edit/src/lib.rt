@@ -1,34 +1,16 @@
 // Document 01's shelf changed, in a copy: a file struck off.
 ghost use mathlib.Core.Path.{_≡_};
 ghost use mathlib.Core.Bool.{true};
-ghost use Prim.Native.Nat.{_+_, _≤_, _<_};
+ghost use Prim.Native.Nat.{_≤_, _<_};
 ghost use lib.ListN.{length};
 ghost use lib.Seq.{paste};
 ghost use Rattle.definition.specs.Archive.{filesOf, laidOut, struckOff};
-ghost use Rattle.archive.specs.Walk.{nameStart};
 use archive::LENGTHS_BYTES;
-use archive::Member;
 use archive::file_count;
 use archive::lengths_at;
-use archive::member_at;
+use archive::member_of;
 use archive_write::copy_part;
 use archive_write::put_word;
-
-// The file of that number.
-fn member_of(archive: &[u8], file: usize) -> Member
-    requires { ⌜ (laidOut (now archive) ≡ true) × (file < length (filesOf (now archive))) ⌝ }
-    ensures { λ r. ⌜ (r .start ≡ nameStart file (now (archive .entry))) × (r .end ≡ nameStart (file + 1) (now (archive .entry))) ⌝ }
-{
-    let count = file_count(archive);
-    let mut at = lengths_at(count);
-    let mut j = 0;
-    while j < file {
-        let member = member_at(archive, j, at);
-        at = member.end;
-        j += 1;
-    }
-    member_at(archive, file, at)
-}
 
 // The archive without one file, copied into `out`: the number of bytes written. Those past it stay.
 pub fn strike_off(archive: &[u8], file: usize, out: &mut [u8]) -> usize

@@ -9,7 +9,7 @@ use lib.ListN.{length, take, drop, length-append, length-drop}
 use lib.Seq.{drop-at, take-at, drop-drop, length-take-le, take-add}
 use Rattle.definition.specs.Lists.{if_then_else_, isEmpty, same}
 use Rattle.definition.specs.Bytes.{slash}
-use Rattle.definition.specs.Archive.{File, bodiesOf, numberAt, filesOf, laidOut, bodyOf}
+use Rattle.definition.specs.Archive.{File, bodiesOf, numberAt, filesOf, laidOut, bodyOf, fileNumber}
 use Rattle.laws.proofs.Lists.{same-eq, same-lengths, same-append}
 use Rattle.laws.proofs.Archive.{length-archive, archive-bodies, laidOut-archive}
 use Rattle.archive.specs.declared.Member.{Member}
@@ -17,7 +17,7 @@ use Rattle.archive.specs.Walk.{lengthsAt, memberAt, fileIn}
 use Rattle.archive.proofs.Walk.{laid-fits, length-files, Walking, Stands, walking-first, walking-in, walking-turn, walking-next, walking-end, walking-sizes}
 use Rattle.archive_find.specs.declared.Found.{Found}
 use Rattle.archive_find.specs.declared.Found.the-variants.{At, Nothing}
-use Rattle.archive_find.specs.Finding.{memberOf, findFrom, findIn, soughtIn, fileNumber}
+use Rattle.archive_find.specs.Finding.{memberOf, findFrom, findIn, soughtIn}
 
 -- ---- A row's name and a path
 
@@ -211,3 +211,9 @@ module _ (s n : List ℕ) {r : Found} (e : r ≡ findIn s n) where
   pub number-off : r ≡ Nothing → length (filesOf s) ≡ fileNumber n (filesOf s)
   unfolding numbered
   number-off q = sym (ap (numbered (length (filesOf s))) q) ∙ number-is
+
+-- of the file that an include finds
+pub include-number : (s : List ℕ) {path : List ℕ} {o : Option (List ℕ)} {r : Found} {m : Member} → r ≡ soughtIn s o → o ≡ some path → r ≡ At m
+    → m .number ≡ fileNumber path (filesOf s)
+unfolding soughtIn
+include-number s {path} f e q = number-found s path (f ∙ ap (soughtIn s) e) q

@@ -1,7 +1,7 @@
 -- What a search of an archive answers.
 use mathlib.Core.List.{List, [], _∷_}
 use mathlib.Core.Option.{Option, some, none}
-use Prim.Native.Nat.{ℕ, suc, _+_}
+use Prim.Native.Nat.{ℕ, _+_}
 use lib.ListN.{length}
 use Rattle.definition.specs.Lists.{if_then_else_, same}
 use Rattle.definition.specs.Archive.{File, filesOf}
@@ -27,8 +27,3 @@ findIn s path = findFrom 0 (lengthsAt (length (filesOf s))) (filesOf s) path
 unfoldable pub soughtIn : List ℕ → Option (List ℕ) → Found
 soughtIn s none = Nothing
 soughtIn s (some path) = findIn s path
-
--- the number of the file of that name, counted from 0, or the number of files
-unfoldable pub fileNumber : List ℕ → List File → ℕ
-fileNumber n [] = 0
-fileNumber n (f ∷ fs) = if same (f .name) n then 0 else suc (fileNumber n fs)

@@ -1,8 +1,8 @@
 // Document 01's shelf, once it is judged: the search.
 ghost use mathlib.Core.Path.{_≡_};
 ghost use mathlib.Core.Bool.{true};
-ghost use Rattle.definition.specs.Archive.{filesOf, laidOut, pathOf};
-ghost use Rattle.archive_find.specs.Finding.{findIn, soughtIn, fileNumber};
+ghost use Rattle.definition.specs.Archive.{filesOf, laidOut, pathOf, fileNumber};
+ghost use Rattle.archive_find.specs.Finding.{findIn, soughtIn};
 use archive::Member;
 use archive::file_count;
 use archive::lengths_at;

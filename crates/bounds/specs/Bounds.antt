@@ -13,7 +13,7 @@ use Rattle.definition.specs.Writing.{filled, written, refused as refusedFill, w
 use Rattle.definition.specs.Lookup.{Reply, given, noValue, refused as refusedReply, Place, getBytes}
 use Rattle.definition.specs.Value.{toBool, isUtf8}
 use Rattle.definition.specs.Evaluation.{definition, noFiles, file}
-use Rattle.bounds.specs.Lookups.{copies, contents, bodies, name, include, look}
+use Rattle.bounds.specs.Lookups.{copies, contents, bodies, rowsAlike, wordsAlike, bytesAlike, name, include, look}
 
 numberOf : Answer → ℕ
 numberOf (accepted n o) = 0
@@ -45,12 +45,12 @@ readings :
 unfolding definition copies contents bodies numberOf read name twice large include
 readings = (refl, refl, refl, refl, refl, refl, refl, refl, refl, refl, refl, refl)
 
--- an accepted reading zeroes what it does not use, and changes nothing past 1,538 words and 32,768 bytes; so does a refusal by 4 to 7
+-- an accepted reading zeroes what it does not use, and changes nothing past 2,050 words and 32,768 bytes; so does a refusal by 4 to 7
 leaves :
     (reading (ascii "a.b: x" ∷ []) noFiles contents bodies
-    ≡ outcome (accepted 1 0) (1 ∷ 5 ∷ 0 ∷ 4 ∷ 1 ∷ replicate 1533 0 ++ 7 ∷ 7 ∷ []) (ascii ".a.bx" ++ replicate 32763 0 ++ 7 ∷ 7 ∷ []))
+    ≡ outcome (accepted 1 0) (1 ∷ 5 ∷ 0 ∷ 4 ∷ 1 ∷ 0 ∷ replicate 2044 0 ++ 7 ∷ 7 ∷ []) (ascii ".a.bx" ++ replicate 32763 0 ++ 7 ∷ 7 ∷ []))
     × (reading ((name 16 ++ ascii "a:") ∷ []) noFiles contents bodies
-    ≡ outcome (refused 5) (replicate 1538 0 ++ 7 ∷ 7 ∷ []) (replicate 32768 0 ++ 7 ∷ 7 ∷ []))
+    ≡ outcome (refused 5) (replicate 2050 0 ++ 7 ∷ 7 ∷ []) (replicate 32768 0 ++ 7 ∷ 7 ∷ []))
 unfolding definition copies contents bodies name
 leaves = (refl, refl)
 
@@ -153,41 +153,36 @@ startUps :
     -- the first text's refusal comes before the second's
     × (startUp (name 16 ++ ascii "a:") (copies 513 (ascii "a:\n")) noFiles ≡ 5)
     × (starting unused noFiles contents bodies
-    ≡ outcome (accepted 2 0) (2 ∷ 7 ∷ 0 ∷ 2 ∷ 1 ∷ 3 ∷ 2 ∷ 2 ∷ replicate 1530 0 ++ 7 ∷ 7 ∷ []) (ascii ".a1.b22" ++ replicate 32761 0 ++ 7 ∷ 7 ∷ []))
+    ≡ outcome (accepted 2 0) (2 ∷ 7 ∷ 0 ∷ 2 ∷ 1 ∷ 0 ∷ 3 ∷ 2 ∷ 2 ∷ 0 ∷ replicate 2040 0 ++ 7 ∷ 7 ∷ []) (ascii ".a1.b22" ++ replicate 32761 0 ++ 7 ∷ 7 ∷ []))
     × (starting (property (ascii "a:1") (name 16 ++ ascii "a:")) noFiles contents bodies
-    ≡ outcome (refused 5) (replicate 1538 0 ++ 7 ∷ 7 ∷ []) (replicate 32768 0 ++ 7 ∷ 7 ∷ []))
+    ≡ outcome (refused 5) (replicate 2050 0 ++ 7 ∷ 7 ∷ []) (replicate 32768 0 ++ 7 ∷ 7 ∷ []))
     × (starting (property (ascii "a:1") long) noFiles contents bodies ≡ outcome (refused 2) contents bodies)
 unfolding definition copies contents bodies numberOf name include large opensText opensFiles property startUp long unused
 startUps = (refl, refl, refl, refl, refl, refl, refl, refl, refl, refl, refl, refl, refl)
 
 -- ---- Images
 
--- n rows of a key `.a` and no value, from `at` on
-rowsFor : ℕ → ℕ → List ℕ
-rowsFor zero at = []
-rowsFor (suc n) at = at ∷ 2 ∷ 0 ∷ rowsFor n (at + 2)
-
--- an image of n such entries
+-- a lookup in an image of n entries
 alike : ℕ → Reply Place
-alike n = getBytes ((n ∷ n * 2 ∷ rowsFor n 0) ++ contents) (copies n (ascii ".a") ++ bodies) (ascii "a") []
+alike n = getBytes (wordsAlike n) (bytesAlike n) (ascii "a") []
 
 images :
     (alike 512 ≡ given (record { start = 1024; length = 0 }))
     × (alike 513 ≡ refusedReply 8)
-    × (getBytes (1 ∷ 32768 ∷ 0 ∷ 2 ∷ 32766 ∷ contents) (ascii ".a" ++ bodies) (ascii "a") [] ≡ given (record { start = 2; length = 32766 }))
-    × (getBytes (1 ∷ 32769 ∷ 0 ∷ 2 ∷ 32767 ∷ contents) (ascii ".a" ++ bodies) (ascii "a") [] ≡ refusedReply 8)
-    × (getBytes (1 ∷ 32 ∷ 0 ∷ 32 ∷ 0 ∷ contents) (copies 16 (ascii ".a") ++ bodies) (name 16) [] ≡ given (record { start = 32; length = 0 }))
-    × (getBytes (1 ∷ 34 ∷ 0 ∷ 34 ∷ 0 ∷ contents) (copies 17 (ascii ".a") ++ bodies) (name 17) [] ≡ refusedReply 8)
-    × (getBytes (1 ∷ 0 ∷ 0 ∷ 0 ∷ 0 ∷ contents) bodies (ascii "a") [] ≡ refusedReply 8)
-unfolding definition copies contents bodies name rowsFor alike
+    × (getBytes (1 ∷ 32768 ∷ 0 ∷ 2 ∷ 32766 ∷ 0 ∷ contents) (ascii ".a" ++ bodies) (ascii "a") [] ≡ given (record { start = 2; length = 32766 }))
+    × (getBytes (1 ∷ 32769 ∷ 0 ∷ 2 ∷ 32767 ∷ 0 ∷ contents) (ascii ".a" ++ bodies) (ascii "a") [] ≡ refusedReply 8)
+    × (getBytes (1 ∷ 32 ∷ 0 ∷ 32 ∷ 0 ∷ 0 ∷ contents) (copies 16 (ascii ".a") ++ bodies) (name 16) [] ≡ given (record { start = 32; length = 0 }))
+    × (getBytes (1 ∷ 34 ∷ 0 ∷ 34 ∷ 0 ∷ 0 ∷ contents) (copies 17 (ascii ".a") ++ bodies) (name 17) [] ≡ refusedReply 8)
+    × (getBytes (1 ∷ 0 ∷ 0 ∷ 0 ∷ 0 ∷ 0 ∷ contents) bodies (ascii "a") [] ≡ refusedReply 8)
+unfolding definition copies contents bodies name rowsAlike wordsAlike bytesAlike alike
 images = (refl, refl, refl, refl, refl, refl, refl)
 
 -- ---- Document 02 (iv): the image of `a: x` written out. 8 is tested before 11
 writings :
-    (writing (1 ∷ 3 ∷ 0 ∷ 2 ∷ 1 ∷ contents) (ascii ".ax" ++ bodies) (replicate 6 7) ≡ filled (written 6) (ascii ".a: x\n"))
-    × (writing (1 ∷ 3 ∷ 0 ∷ 2 ∷ 1 ∷ contents) (ascii ".ax" ++ bodies) (replicate 8 7) ≡ filled (written 6) (ascii ".a: x\n" ++ 7 ∷ 7 ∷ []))
-    × (writing (1 ∷ 3 ∷ 0 ∷ 2 ∷ 1 ∷ contents) (ascii ".ax" ++ bodies) (replicate 5 7) ≡ filled (refusedFill 11) (replicate 5 7))
-    × (writing (1 ∷ 4 ∷ 0 ∷ 2 ∷ 1 ∷ contents) (ascii ".ax" ++ bodies) (replicate 5 7) ≡ filled (refusedFill 8) (replicate 5 7))
+    (writing (1 ∷ 3 ∷ 0 ∷ 2 ∷ 1 ∷ 0 ∷ contents) (ascii ".ax" ++ bodies) (replicate 6 7) ≡ filled (written 6) (ascii ".a: x\n"))
+    × (writing (1 ∷ 3 ∷ 0 ∷ 2 ∷ 1 ∷ 0 ∷ contents) (ascii ".ax" ++ bodies) (replicate 8 7) ≡ filled (written 6) (ascii ".a: x\n" ++ 7 ∷ 7 ∷ []))
+    × (writing (1 ∷ 3 ∷ 0 ∷ 2 ∷ 1 ∷ 0 ∷ contents) (ascii ".ax" ++ bodies) (replicate 5 7) ≡ filled (refusedFill 11) (replicate 5 7))
+    × (writing (1 ∷ 4 ∷ 0 ∷ 2 ∷ 1 ∷ 0 ∷ contents) (ascii ".ax" ++ bodies) (replicate 5 7) ≡ filled (refusedFill 8) (replicate 5 7))
     × (writing (0 ∷ 0 ∷ contents) bodies [] ≡ filled (written 0) [])
     × (writing [] bodies [] ≡ filled (refusedFill 8) [])
 unfolding definition copies contents bodies

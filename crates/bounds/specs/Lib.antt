@@ -1,4 +1,5 @@
 -- Examples of the definition at document 01's limits.
 mod Lookups
 mod Walks
+mod Origins
 mod Bounds

@@ -2,7 +2,7 @@
 use mathlib.Core.Bool.{Bool, true}
 use mathlib.Core.List.{List, [], _∷_, _++_}
 use mathlib.Core.Path.{_≡_, refl}
-use Prim.Native.Nat.{ℕ, zero, suc}
+use Prim.Native.Nat.{ℕ, zero, suc, _+_, _*_}
 use Prim.Native.String.{String}
 use lib.ListN.{replicate, drop}
 use lib.IntN.{negsuc}
@@ -20,10 +20,21 @@ copies (suc n) t = t ++ copies n t
 
 -- buffers that are just long enough and full of sevens, and two more words and bytes behind them
 unfoldable pub contents : List ℕ
-contents = replicate 1540 7
+contents = replicate 2052 7
 
 unfoldable pub bodies : List ℕ
 bodies = replicate 32770 7
+
+-- n rows of a key `.a` and no value, from `at` on, and an image of n such entries, with sevens behind
+unfoldable pub rowsAlike : ℕ → ℕ → List ℕ
+rowsAlike zero at = []
+rowsAlike (suc n) at = at ∷ 2 ∷ 0 ∷ 0 ∷ rowsAlike n (at + 2)
+
+unfoldable pub wordsAlike : ℕ → List ℕ
+wordsAlike n = (n ∷ n * 2 ∷ rowsAlike n 0) ++ contents
+
+unfoldable pub bytesAlike : ℕ → List ℕ
+bytesAlike n = copies n (ascii ".a") ++ bodies
 
 -- a name of n parts `a`
 unfoldable pub name : ℕ → List ℕ
@@ -43,10 +54,10 @@ lookups :
     (getBytes (513 ∷ drop 1 contents) bodies (ascii "a") [] ≡ refusedReply 8)
     × (getBytes [] bodies (ascii "a") [] ≡ refusedReply 8)
     × (getBytes (0 ∷ 1 ∷ drop 2 contents) bodies (ascii "a") [] ≡ refusedReply 8)
-    × (getBytes (1 ∷ 2 ∷ 0 ∷ 2 ∷ 0 ∷ contents) (ascii ".a" ++ bodies) (ascii "a") [] ≡ given (record { start = 2; length = 0 }))
-    × (getBytes (1 ∷ 2 ∷ 1 ∷ 2 ∷ 0 ∷ contents) (ascii ".a" ++ bodies) (ascii "a") [] ≡ refusedReply 8)
-    × (getBytes (1 ∷ 3 ∷ 0 ∷ 3 ∷ 0 ∷ contents) (ascii "..a" ++ bodies) (ascii "a") [] ≡ refusedReply 8)
-    × (getBytes (1 ∷ 2 ∷ 0 ∷ 2 ∷ 0 ∷ contents) (ascii ".?" ++ bodies) (ascii "a") [] ≡ refusedReply 8)
+    × (getBytes (1 ∷ 2 ∷ 0 ∷ 2 ∷ 0 ∷ 0 ∷ contents) (ascii ".a" ++ bodies) (ascii "a") [] ≡ given (record { start = 2; length = 0 }))
+    × (getBytes (1 ∷ 2 ∷ 1 ∷ 2 ∷ 0 ∷ 0 ∷ contents) (ascii ".a" ++ bodies) (ascii "a") [] ≡ refusedReply 8)
+    × (getBytes (1 ∷ 3 ∷ 0 ∷ 3 ∷ 0 ∷ 0 ∷ contents) (ascii "..a" ++ bodies) (ascii "a") [] ≡ refusedReply 8)
+    × (getBytes (1 ∷ 2 ∷ 0 ∷ 2 ∷ 0 ∷ 0 ∷ contents) (ascii ".?" ++ bodies) (ascii "a") [] ≡ refusedReply 8)
     × (look "a:1" (replicate 1025 97) [] ≡ refusedReply 9)
     × (look "a:1" [] (replicate 1025 46) ≡ refusedReply 9)
     × (look "a:1" (name 33) [] ≡ refusedReply 10)

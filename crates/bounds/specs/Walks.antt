@@ -5,16 +5,15 @@ use Prim.Native.Nat.{ℕ}
 use lib.ListN.{replicate, drop}
 use Rattle.definition.specs.Lists.{ascii}
 use Rattle.definition.specs.Image.{countOf}
-use Rattle.definition.specs.Reading.{Outcome, reading}
 use Rattle.definition.specs.Lookup.{given, noValue, refused}
 use Rattle.definition.specs.Walking.{walk, walkStart, walkStep}
 use Rattle.definition.specs.Adding.{addition, adding, Turn, step, add, History, beginning, played}
-use Rattle.definition.specs.Evaluation.{definition, noFiles}
-use Rattle.bounds.specs.Lookups.{copies, contents, bodies, name}
+use Rattle.definition.specs.Evaluation.{definition}
+use Rattle.bounds.specs.Lookups.{copies, contents, bodies, rowsAlike, wordsAlike, bytesAlike, name}
 
 -- an image of an entry `.a`, with sevens behind it in both buffers
 rows : List ℕ
-rows = 1 ∷ 3 ∷ 0 ∷ 2 ∷ 1 ∷ contents
+rows = 1 ∷ 3 ∷ 0 ∷ 2 ∷ 1 ∷ 0 ∷ contents
 
 bytes : List ℕ
 bytes = ascii ".ax" ++ bodies
@@ -42,15 +41,15 @@ walks = (refl, refl, refl, refl, refl, refl, refl, refl, refl, refl, refl, refl,
 
 -- an image with just as many bytes left as a key `.b` needs
 full : List ℕ
-full = 1 ∷ 32766 ∷ 0 ∷ 2 ∷ 32764 ∷ contents
+full = 1 ∷ 32766 ∷ 0 ∷ 2 ∷ 32764 ∷ 64 ∷ contents
 
 fullBytes : List ℕ
 fullBytes = ascii ".a" ++ replicate 32766 7
 
 additions :
     -- the row, the bytes and the first two words
-    (adding rows bytes (ascii "*b: yz\n") ≡ addition (given 1) (2 ∷ 7 ∷ 0 ∷ 2 ∷ 1 ∷ 3 ∷ 2 ∷ 2 ∷ drop 3 contents) (ascii ".ax*byz" ++ drop 4 bodies))
-    × (adding full fullBytes (ascii "b:") ≡ addition (given 1) (2 ∷ 32768 ∷ 0 ∷ 2 ∷ 32764 ∷ 32766 ∷ 2 ∷ 0 ∷ drop 3 contents) (ascii ".a" ++ replicate 32764 7 ++ ascii ".b"))
+    (adding rows bytes (ascii "*b: yz\n") ≡ addition (given 1) (2 ∷ 7 ∷ 0 ∷ 2 ∷ 1 ∷ 0 ∷ 3 ∷ 2 ∷ 2 ∷ 65535 ∷ drop 4 contents) (ascii ".ax*byz" ++ drop 4 bodies))
+    × (adding full fullBytes (ascii "b:") ≡ addition (given 1) (2 ∷ 32768 ∷ 0 ∷ 2 ∷ 32764 ∷ 64 ∷ 32766 ∷ 2 ∷ 0 ∷ 65535 ∷ drop 4 contents) (ascii ".a" ++ replicate 32764 7 ++ ascii ".b"))
     -- 8, then 2, then 12, then 5 to 7
     × (adding contents bytes (replicate 32769 10) ≡ addition (refused 8) contents bytes)
     × (adding rows bytes (replicate 32769 10) ≡ addition (refused 2) rows bytes)
@@ -63,12 +62,9 @@ additions :
 unfolding definition copies contents bodies name rows bytes full fullBytes
 additions = (refl, refl, refl, refl, refl, refl, refl, refl, refl, refl)
 
--- an image of 512 entries
-most : Outcome
-most = reading (copies 512 (ascii "a:\n") ∷ []) noFiles contents bodies
-
-mostAdded : adding (most .contents) (most .bodies) (ascii "b:") ≡ addition (refused 6) (most .contents) (most .bodies)
-unfolding definition copies contents bodies most
+-- an image of 512 entries has no room for another
+mostAdded : adding (wordsAlike 512) (bytesAlike 512) (ascii "b:") ≡ addition (refused 6) (wordsAlike 512) (bytesAlike 512)
+unfolding definition copies contents bodies rowsAlike wordsAlike bytesAlike
 mostAdded = refl
 
 -- ---- A walk with additions under way
@@ -77,7 +73,7 @@ mostAdded = refl
 walked : List Turn → History
 walked ts =
     played (ascii "a") [] ts
-    (beginning (3 ∷ 6 ∷ 0 ∷ 2 ∷ 0 ∷ 2 ∷ 2 ∷ 0 ∷ 4 ∷ 2 ∷ 0 ∷ contents) (ascii ".a.b*a" ++ bodies) (walk 0 3))
+    (beginning (3 ∷ 6 ∷ 0 ∷ 2 ∷ 0 ∷ 0 ∷ 2 ∷ 2 ∷ 0 ∷ 1 ∷ 4 ∷ 2 ∷ 0 ∷ 65535 ∷ contents) (ascii ".a.b*a" ++ bodies) (walk 0 3))
 
 -- what a walk begun after these lists
 listedThen : List Turn → List ℕ

@@ -5,11 +5,11 @@ use mathlib.Core.Path.{_≡_}
 use Prim.Native.Nat.{ℕ, suc, _+_, _*_, _≤_}
 use lib.ListN.{length, take, drop}
 use Rattle.definition.specs.Lists.{if_then_else_}
-use Rattle.definition.specs.Limits.{rowWords}
+use Rattle.definition.specs.Limits.{rowWords, unknownFile}
 use Rattle.definition.specs.Archive.{archiveOf}
 use Rattle.definition.specs.Text.{Entry}
 use Rattle.definition.specs.Including.{entered}
-use Rattle.definition.specs.Image.{keyOf, rowsOf, countOf, usedOf, isImage}
+use Rattle.definition.specs.Image.{keyOf, allFrom, rowsOf, countOf, usedOf, isImage}
 use Rattle.definition.specs.Reading.{Verdict, within, past, sizeOf, judge, readEntries, plain, tooLong}
 use Rattle.definition.specs.Writing.{entriesOfImage}
 use Rattle.definition.specs.Query.{Query, positions, malformed, pastLimit, queryOf}
@@ -35,12 +35,12 @@ entriesAdded text = plain (readEntries (text ∷ []) (archiveOf []))
 unfoldable pub over : ℕ → List ℕ → List ℕ → List ℕ
 over n xs lent = take n lent ++ xs ++ drop (n + length xs) lent
 
--- an entry behind those of an image: its row, its bytes and the first two words, nothing else
+-- an entry behind those of an image: its row, its bytes and the first two words, nothing else. It came from no file that is known
 unfoldable pub appended : Entry → List ℕ → List ℕ → Addition
 appended e contents bodies =
     addition (given (countOf contents))
     (over 0 ((countOf contents + 1) ∷ (usedOf contents + sizeOf e) ∷ [])
-    (over (2 + rowWords * countOf contents) (rowsOf (usedOf contents) (e ∷ [])) contents))
+    (over (2 + rowWords * countOf contents) (rowsOf (usedOf contents) (allFrom unknownFile (e ∷ []))) contents))
     (over (usedOf contents) (keyOf (e .parts) ++ e .value) bodies)
 
 unfoldable pub judged : Verdict → Entry → List ℕ → List ℕ → Addition

@@ -133,3 +133,8 @@ pathOf folder name =
 unfoldable pub bodyOf : List File → List ℕ → Option (List ℕ)
 bodyOf [] n = none
 bodyOf (f ∷ fs) n = if same (f .name) n then some (f .body) else bodyOf fs n
+
+-- the number of the file of that name, counted from 0, or the number of files
+unfoldable pub fileNumber : List ℕ → List File → ℕ
+fileNumber n [] = 0
+fileNumber n (f ∷ fs) = if same (f .name) n then 0 else suc (fileNumber n fs)

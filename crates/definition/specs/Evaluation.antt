@@ -7,20 +7,21 @@ use Prim.Native.String.{String}
 use Rattle.definition.specs.Lists.{if_then_else_, ascii, all, any, takeWhile, dropWhile, filter, isEmpty, orElse, beyond, zeroes, same, lower}
 use Rattle.definition.specs.Parsing.{continued, atMost, many, _>>=_, after}
 use Rattle.definition.specs.Bytes.{isDigit, isOctal, isName, isBlank, isSpace, isBinding, notNewline}
-use Rattle.definition.specs.Archive.{File, lengthsOf, bodiesOf, archiveOf, filesFrom, filesOf, prefixed, split, isNamePart, isFileName, rising, laidOut, struckOff, folderOf, joined, reduced, endsInDots, asFileName, pathOf, bodyOf}
+use Rattle.definition.specs.Archive.{File, lengthsOf, bodiesOf, archiveOf, filesFrom, filesOf, prefixed, split, isNamePart, isFileName, rising, laidOut, struckOff, folderOf, joined, reduced, endsInDots, asFileName, pathOf, bodyOf, fileNumber}
 use Rattle.definition.specs.Text.{bindingOf, componentAt, partAt, isNamed, endsInName, positional, lineEnds, octalOf, escapeAt, pieceAt, afterBlanks, lineEnd, includeOf, assigned, resourceOf, directiveOf, lineAt, linesOf}
-use Rattle.definition.specs.Including.{Entered, eventsOf, opening, seeking, including, events, eventsOfAll, entriesOf, opensOf}
-use Rattle.definition.specs.Image.{keyOf, rowsOf, storeOf, contentsOf, writtenOver, rowsFrom, storedPartAt, entriesIn, isKey, packed, isImage}
+use Rattle.definition.specs.Including.{Entered, eventsOf, opening, seeking, including, events, eventsOfAll, entriesOf, originOf, opensOf}
+use Rattle.definition.specs.Image.{keyOf, rowsOf, storeOf, contentsOf, writtenOver, rowsFrom, originsFrom, storedPartAt, entriesIn, withOrigins, isKey, packed, isOrigin, isImageBy}
 use Rattle.definition.specs.Reading.{judge, left, reading, met, plain, readEntries}
 use Rattle.definition.specs.StartUp.{firstText, secondText, added, textsUsed}
-use Rattle.definition.specs.Writing.{escaped, beginsBlank, valueText, entryText, textOf, putInto, writing}
+use Rattle.definition.specs.Writing.{escaped, beginsBlank, valueText, entryText, textOf, putInto, writingBy}
 use Rattle.definition.specs.Query.{queryPartAt, namesOf, positionsOf, countedQuery, queryWithin, queryOf}
 use Rattle.definition.specs.Matching.{equals, matchAt, markOf, markAt}
 use Rattle.definition.specs.Ranking.{meetRow, skipRow, rankOf, better, bestFrom, bestOf}
-use Rattle.definition.specs.Lookup.{valueOf, answerOf, placeOf, lookup, getBytesWithin, answerIn}
-use Rattle.definition.specs.Value.{Number, table, afterRow, firstRow, character, characterAt, isUtf8, naturalOf, signed, i64Of, lowercase, wordOf, nonZero, toBool, replied, readAs, numberOf, bytesOr, asString, asBool, asNumber, getStringWithin, getBoolWithin, getValueWithin, shownWithin}
-use Rattle.definition.specs.Walking.{hasRow, aligns, alignedFrom, firstOf, nextOf, begun, walkStart, numberOr, stepped, walkStep, afterStep}
+use Rattle.definition.specs.Lookup.{valueOf, answerOf, placeOf, lookup, getBytesBy, answerIn}
+use Rattle.definition.specs.Value.{Number, table, afterRow, firstRow, character, characterAt, isUtf8, naturalOf, signed, i64Of, lowercase, wordOf, nonZero, toBool, replied, readAs, numberOf, bytesOr, asString, asBool, asNumber, getStringBy, getBoolBy, getValueBy, shownBy}
+use Rattle.definition.specs.Walking.{hasRow, aligns, alignedFrom, firstOf, nextOf, begun, walkStartBy, numberOr, stepped, walkStepBy, afterStep}
 use Rattle.definition.specs.Adding.{entriesAdded, over, appended, judged, addedOne, adding, listedAfter, turned, played, stepsIn, numbersFrom}
+use Rattle.definition.specs.Migration.{carried, migrating}
 
 -- an example unfolds all of the definition
 unfoldable pub definition : ℕ
@@ -28,16 +29,17 @@ unfolding
     all any takeWhile dropWhile filter isEmpty orElse beyond zeroes same lower
     continued atMost many after isDigit isOctal isName isBlank isSpace isBinding notNewline
     lengthsOf bodiesOf archiveOf filesFrom filesOf prefixed split isNamePart isFileName rising laidOut struckOff folderOf joined reduced endsInDots
-    asFileName pathOf bodyOf
+    asFileName pathOf bodyOf fileNumber
     bindingOf componentAt partAt isNamed endsInName positional lineEnds octalOf escapeAt pieceAt afterBlanks lineEnd includeOf assigned
-    resourceOf directiveOf lineAt linesOf eventsOf opening seeking including events eventsOfAll entriesOf opensOf
-    keyOf rowsOf storeOf contentsOf writtenOver rowsFrom storedPartAt entriesIn isKey packed isImage judge left reading
-    firstText secondText added textsUsed escaped beginsBlank valueText entryText textOf putInto writing
+    resourceOf directiveOf lineAt linesOf eventsOf opening seeking including events eventsOfAll entriesOf originOf opensOf
+    keyOf rowsOf storeOf contentsOf writtenOver rowsFrom originsFrom storedPartAt entriesIn withOrigins isKey packed isOrigin isImageBy judge left reading
+    firstText secondText added textsUsed escaped beginsBlank valueText entryText textOf putInto writingBy
     queryPartAt namesOf positionsOf countedQuery queryWithin equals matchAt markOf markAt meetRow skipRow rankOf better bestFrom bestOf
-    valueOf answerOf placeOf lookup getBytesWithin answerIn table afterRow firstRow character characterAt isUtf8 naturalOf signed i64Of lowercase
-    wordOf nonZero toBool replied readAs numberOf bytesOr asString asBool asNumber getStringWithin getBoolWithin getValueWithin shownWithin flatten
-    hasRow aligns alignedFrom firstOf nextOf begun walkStart numberOr stepped walkStep afterStep
+    valueOf answerOf placeOf lookup getBytesBy answerIn table afterRow firstRow character characterAt isUtf8 naturalOf signed i64Of lowercase
+    wordOf nonZero toBool replied readAs numberOf bytesOr asString asBool asNumber getStringBy getBoolBy getValueBy shownBy flatten
+    hasRow aligns alignedFrom firstOf nextOf begun walkStartBy numberOr stepped walkStepBy afterStep
     entriesAdded over appended judged addedOne adding listedAfter turned played stepsIn numbersFrom
+    carried migrating
 definition = 0
 
 -- ---- What an example looks at

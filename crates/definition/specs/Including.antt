@@ -3,7 +3,7 @@
 use mathlib.Core.List.{List, [], _∷_, _++_}
 use mathlib.Core.Option.{Option, some, none}
 use Prim.Native.Nat.{ℕ, zero, suc}
-use Rattle.definition.specs.Archive.{File, bodyOf, folderOf, pathOf}
+use Rattle.definition.specs.Archive.{File, bodyOf, fileNumber, folderOf, pathOf}
 use Rattle.definition.specs.Text.{Entry, Line, skipped, include, entry, linesOf}
 
 -- a chain of includes: the names of the files being read, outermost first; none for a text of the reading
@@ -65,6 +65,13 @@ unfoldable pub entriesOf : List Event → List Entered
 entriesOf [] = []
 entriesOf (opened ch ∷ es) = entriesOf es
 entriesOf (entered ch e ∷ es) = record { chain = ch; entry = e } ∷ entriesOf es
+
+-- where the line of such a chain stands (document 02 (viii)): 0 for a text of the reading, else the place on the archive, from 1, of the
+-- file that is read there, the last on the chain
+unfoldable pub originOf : List File → Chain → ℕ
+originOf fs [] = 0
+originOf fs (file ∷ []) = suc (fileNumber file fs)
+originOf fs (file ∷ next ∷ chain) = originOf fs (next ∷ chain)
 
 unfoldable pub opensOf : List Event → ℕ
 opensOf [] = 0

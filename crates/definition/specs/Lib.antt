@@ -19,6 +19,7 @@ pub mod Value
 pub mod Window
 pub mod Walking
 pub mod Adding
+pub mod Migration
 pub mod ThirdTerm
 pub mod Orders
 pub mod Evaluation
@@ -30,5 +31,6 @@ mod Paths
 mod Texts
 mod Walks
 mod Orderings
+mod Origins
 mod Numbers
 mod Recorded

@@ -31,13 +31,24 @@ mostParts = 16
 abbrev pub bodyBytes : ℕ
 bodyBytes = 32768
 
--- the words of an entry's row: start, key length, value length
+-- the words of an entry's row: start, key length, value length, and where its line stands (document 02 (viii))
 abbrev pub rowWords : ℕ
-rowWords = 3
+rowWords = 4
 
 -- the words of the lent contents
 abbrev pub contentsWords : ℕ
 contentsWords = 2 + rowWords * mostEntries
+
+-- the same of an image from before document 02 (viii), whose rows do not say where a line stands
+abbrev pub oldRowWords : ℕ
+oldRowWords = 3
+
+abbrev pub oldContentsWords : ℕ
+oldContentsWords = 2 + oldRowWords * mostEntries
+
+-- the word of a row whose line stands nobody knows where
+abbrev pub unknownFile : ℕ
+unknownFile = 65535
 
 -- the longest text of an image (document 02 (iv)): 512 entries, a key of two bytes each, and two bytes of text for each byte of a value
 abbrev pub writtenBytes : ℕ

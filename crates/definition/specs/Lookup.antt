@@ -7,7 +7,8 @@ use lib.ListN.{getD}
 use lib.Seq.{slice}
 use Rattle.definition.specs.Lists.{if_then_else_}
 use Rattle.definition.specs.Text.{Part, Entry}
-use Rattle.definition.specs.Image.{Row, rowsIn, keyEnd, entriesIn, isImage}
+use Rattle.definition.specs.Limits.{rowWords}
+use Rattle.definition.specs.Image.{Row, rowsBy, keyEnd, entriesIn, isImageBy}
 use Rattle.definition.specs.Query.{Query, positions, malformed, pastLimit, Bounds, queryWithin, shell}
 use Rattle.definition.specs.Ranking.{Best, noEntry, best, bestOf}
 
@@ -45,15 +46,18 @@ placeOf rows (best i row) =
     let r = getD rows i (record { start = 0; keyLength = 0; valueLength = 0 }) in
     given (record { start = keyEnd r; length = r .valueLength })
 
-unfoldable pub lookup : List ℕ → List ℕ → Query → Reply Place
-lookup contents bodies (positions qs) = placeOf (rowsIn contents) (bestOf (keysOf (entriesIn (rowsIn contents) bodies)) qs)
-lookup contents bodies malformed = noValue
-lookup contents bodies (pastLimit k) = refused k
+unfoldable pub lookup : List Row → List ℕ → Query → Reply Place
+lookup rows bodies (positions qs) = placeOf rows (bestOf (keysOf (entriesIn rows bodies)) qs)
+lookup rows bodies malformed = noValue
+lookup rows bodies (pastLimit k) = refused k
 
--- 8, 9, malformed, 10
-unfoldable pub getBytesWithin : Bounds → List ℕ → List ℕ → List ℕ → List ℕ → Reply Place
-getBytesWithin most contents bodies name class =
-    if not (isImage contents bodies) then refused 8 else lookup contents bodies (queryWithin most name class)
+-- 8, 9, malformed, 10, with rows of that width
+unfoldable pub getBytesBy : ℕ → Bounds → List ℕ → List ℕ → List ℕ → List ℕ → Reply Place
+getBytesBy width most contents bodies name class =
+    if not (isImageBy width contents bodies) then refused 8 else lookup (rowsBy width contents) bodies (queryWithin most name class)
+
+abbrev pub getBytesWithin : Bounds → List ℕ → List ℕ → List ℕ → List ℕ → Reply Place
+getBytesWithin most contents bodies name class = getBytesBy rowWords most contents bodies name class
 
 abbrev pub getBytes : List ℕ → List ℕ → List ℕ → List ℕ → Reply Place
 getBytes contents bodies name class = getBytesWithin shell contents bodies name class

@@ -206,7 +206,7 @@ pub record AnswerAlike (most : Bounds) (contents bodies contents′ bodies′ na
   pub show : (default : List ℕ)
       → shownWithin most contents bodies name class default ≡ shownWithin most contents′ bodies′ name class default
 
--- two images that hold such lists answer every query alike
+-- two images that hold such lists answer every query alike; where the lines stand (document 02 (viii)) is left out, as in `SameEntries`
 abbrev pub ImagesAlike : Type 0
 ImagesAlike =
     (contents bodies contents′ bodies′ : List ℕ)

@@ -6,10 +6,10 @@ use lib.Dec.{leb, ltb}
 use lib.ListN.{length}
 use Rattle.definition.specs.Lists.{if_then_else_, any}
 use Rattle.definition.specs.Limits.{textBytes, deepest, mostOpens, mostEntries, mostParts, bodyBytes}
-use Rattle.definition.specs.Archive.{laidOut, filesOf}
+use Rattle.definition.specs.Archive.{File, laidOut, filesOf}
 use Rattle.definition.specs.Text.{Entry}
-use Rattle.definition.specs.Including.{Event, opened, entered, eventsOfAll, Entered, entriesOf}
-use Rattle.definition.specs.Image.{keyOf, imageContents, imageBodies, tooShort}
+use Rattle.definition.specs.Including.{Event, opened, entered, eventsOfAll, Entered, entriesOf, originOf}
+use Rattle.definition.specs.Image.{keyOf, Sourced, bare, imageContents, imageBodies, tooShort}
 
 -- ---- The limits, in text order
 
@@ -63,10 +63,14 @@ readEntries texts archive = entriesOf (met texts archive)
 abbrev pub plain : List Entered → List Entry
 plain xs = map (λ x. x .entry) xs
 
+-- the same with their origins on the archive
+abbrev pub sourced : List File → List Entered → List Sourced
+sourced fs xs = map (λ x. record { entry = x .entry; origin = originOf fs (x .chain) }) xs
+
 -- 4 to 7 leave the image of no entries
-unfoldable pub left : Verdict → List Entry → List ℕ → List ℕ → Outcome
-left (within s) es contents bodies = outcome (accepted (s .entries) (s .opens)) (imageContents es contents) (imageBodies es bodies)
-left (past k) es contents bodies = outcome (refused k) (imageContents [] contents) (imageBodies [] bodies)
+unfoldable pub left : Verdict → List Sourced → List ℕ → List ℕ → Outcome
+left (within s) xs contents bodies = outcome (accepted (s .entries) (s .opens)) (imageContents xs contents) (imageBodies (bare xs) bodies)
+left (past k) xs contents bodies = outcome (refused k) (imageContents [] contents) (imageBodies [] bodies)
 
 abbrev pub start : Totals
 start = record { opens = 0; entries = 0; used = 0 }
@@ -81,4 +85,4 @@ reading texts archive contents bodies =
     if tooShort contents bodies then outcome (refused 1) contents bodies else
     if any tooLong texts then outcome (refused 2) contents bodies else
     if not (laidOut archive) then outcome (refused 3) contents bodies else
-    left (judge start (met texts archive)) (plain (readEntries texts archive)) contents bodies
+    left (judge start (met texts archive)) (sourced (filesOf archive) (readEntries texts archive)) contents bodies

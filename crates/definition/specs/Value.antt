@@ -7,10 +7,11 @@ use lib.Dec.{eqb, leb}
 use lib.IntN.{ℤ, pos, negℤ, natAbs}
 use Rattle.definition.specs.Lists.{if_then_else_, ascii, all, any, orElse, isEmpty, same}
 use Rattle.definition.specs.Parsing.{Parse, nothing, found, many}
+use Rattle.definition.specs.Limits.{rowWords}
 use Rattle.definition.specs.Bytes.{plus, minus, within, isDigit}
 use Rattle.definition.specs.Text.{positional}
 use Rattle.definition.specs.Query.{Bounds, shell}
-use Rattle.definition.specs.Lookup.{Reply, given, noValue, refused, Place, getBytesWithin, bytesAt}
+use Rattle.definition.specs.Lookup.{Reply, given, noValue, refused, Place, getBytesBy, bytesAt}
 
 -- ---- Well-formed UTF-8 (Unicode, table 3-7)
 
@@ -133,19 +134,33 @@ module _ (bodies : List ℕ) where
   unfoldable pub asNumber : Reply Place → Reply Number
   asNumber r = readAs (λ p. some (numberOf (i64Of (bytesAt bodies p)))) r
 
--- of a query within bounds
+-- of a query within bounds, with rows of that width
+module _ (width : ℕ) (most : Bounds) (contents bodies name class : List ℕ) where
+  unfoldable pub getStringBy : Reply Place
+  getStringBy = asString bodies (getBytesBy width most contents bodies name class)
+
+  unfoldable pub getBoolBy : Reply Bool
+  getBoolBy = asBool bodies getStringBy
+
+  unfoldable pub getValueBy : Reply Number
+  getValueBy = asNumber bodies getStringBy
+
+  unfoldable pub shownBy : List ℕ → List ℕ
+  shownBy default = bytesOr bodies default (getBytesBy width most contents bodies name class)
+
+-- with rows as they are now
 module _ (most : Bounds) (contents bodies name class : List ℕ) where
-  unfoldable pub getStringWithin : Reply Place
-  getStringWithin = asString bodies (getBytesWithin most contents bodies name class)
+  abbrev pub getStringWithin : Reply Place
+  getStringWithin = getStringBy rowWords most contents bodies name class
 
-  unfoldable pub getBoolWithin : Reply Bool
-  getBoolWithin = asBool bodies getStringWithin
+  abbrev pub getBoolWithin : Reply Bool
+  getBoolWithin = getBoolBy rowWords most contents bodies name class
 
-  unfoldable pub getValueWithin : Reply Number
-  getValueWithin = asNumber bodies getStringWithin
+  abbrev pub getValueWithin : Reply Number
+  getValueWithin = getValueBy rowWords most contents bodies name class
 
-  unfoldable pub shownWithin : List ℕ → List ℕ
-  shownWithin default = bytesOr bodies default (getBytesWithin most contents bodies name class)
+  abbrev pub shownWithin : List ℕ → List ℕ
+  shownWithin default = shownBy rowWords most contents bodies name class default
 
 -- at the bounds of document 01
 module _ (contents bodies name class : List ℕ) where

@@ -7,8 +7,9 @@ use Prim.Native.Nat.{ℕ, suc, _≤_, _<_}
 use lib.ListN.{length, getD, take, drop}
 use Rattle.definition.specs.Lists.{if_then_else_}
 use Rattle.definition.specs.Text.{Entry}
-use Rattle.definition.specs.Image.{countOf, isImage}
-use Rattle.definition.specs.Writing.{entriesOfImage}
+use Rattle.definition.specs.Limits.{rowWords}
+use Rattle.definition.specs.Image.{countOf, isImageBy, isImage}
+use Rattle.definition.specs.Writing.{entriesBy, entriesOfImage}
 use Rattle.definition.specs.Query.{Position, Query, positions, malformed, pastLimit, queryOf}
 use Rattle.definition.specs.Matching.{Aligned}
 use Rattle.definition.specs.Ranking.{rankOf}
@@ -53,10 +54,13 @@ begun n (positions qs) = given (walk 0 n)
 begun n malformed = given (walk 0 n)
 begun n (pastLimit k) = refused k
 
--- 8, 9, 10: the next number is 0 at first, and the count is the image's
-unfoldable pub walkStart : List ℕ → List ℕ → List ℕ → List ℕ → Reply Walk
-walkStart contents bodies name class =
-    if not (isImage contents bodies) then refused 8 else begun (countOf contents) (queryOf name class)
+-- 8, 9, 10, with rows of that width: the next number is 0 at first, and the count is the image's
+unfoldable pub walkStartBy : ℕ → List ℕ → List ℕ → List ℕ → List ℕ → Reply Walk
+walkStartBy width contents bodies name class =
+    if not (isImageBy width contents bodies) then refused 8 else begun (countOf contents) (queryOf name class)
+
+abbrev pub walkStart : List ℕ → List ℕ → List ℕ → List ℕ → Reply Walk
+walkStart contents bodies name class = walkStartBy rowWords contents bodies name class
 
 -- a number, or the end
 unfoldable pub numberOr : Option ℕ → Reply ℕ
@@ -69,9 +73,12 @@ stepped w es malformed = noValue
 stepped w es (pastLimit k) = refused k
 
 -- 8, 9, malformed, 10, from any state
-unfoldable pub walkStep : List ℕ → List ℕ → List ℕ → List ℕ → Walk → Reply ℕ
-walkStep contents bodies name class w =
-    if not (isImage contents bodies) then refused 8 else stepped w (entriesOfImage contents bodies) (queryOf name class)
+unfoldable pub walkStepBy : ℕ → List ℕ → List ℕ → List ℕ → List ℕ → Walk → Reply ℕ
+walkStepBy width contents bodies name class w =
+    if not (isImageBy width contents bodies) then refused 8 else stepped w (entriesBy width contents bodies) (queryOf name class)
+
+abbrev pub walkStep : List ℕ → List ℕ → List ℕ → List ℕ → Walk → Reply ℕ
+walkStep contents bodies name class w = walkStepBy rowWords contents bodies name class w
 
 -- the next is then one more; at the end, and where a step is refused, the state stays
 unfoldable pub afterStep : Walk → Reply ℕ → Walk

@@ -75,7 +75,7 @@ steps = (refl, refl, refl, refl, refl, refl, refl, refl, refl, refl, refl, refl,
 
 -- an image of one entry, with the row of another behind its own: it is below that count, and not below the image's
 image : List ℕ
-image = 1 ∷ 2 ∷ 0 ∷ 2 ∷ 0 ∷ 0 ∷ 2 ∷ 0 ∷ replicate 1530 7
+image = 1 ∷ 2 ∷ 0 ∷ 2 ∷ 0 ∷ 0 ∷ 0 ∷ 2 ∷ 0 ∷ 0 ∷ replicate 2040 7
 
 bytes : List ℕ
 bytes = ascii ".a" ++ replicate 32766 7
@@ -111,7 +111,7 @@ texts = (refl, refl, refl, refl, refl, refl, refl, refl, refl)
 
 -- the front of an image of the entry `.a`, whose value is `x`; sevens stand behind it
 contents : List ℕ
-contents = 1 ∷ 3 ∷ 0 ∷ 2 ∷ 1 ∷ 7 ∷ 7 ∷ 7 ∷ 7 ∷ []
+contents = 1 ∷ 3 ∷ 0 ∷ 2 ∷ 1 ∷ 5 ∷ 7 ∷ 7 ∷ 7 ∷ 7 ∷ 7 ∷ []
 
 bodies : List ℕ
 bodies = ascii ".ax" ++ 7 ∷ 7 ∷ 7 ∷ 7 ∷ []
@@ -126,9 +126,9 @@ answerAt count used t = addedOne (entriesAdded (ascii t)) (count ∷ used ∷ []
 
 additions :
     -- the number, the row, the bytes and the first two words, and nothing else
-    (added "*b: yz" ≡ addition (given 1) (2 ∷ 7 ∷ 0 ∷ 2 ∷ 1 ∷ 3 ∷ 2 ∷ 2 ∷ 7 ∷ []) (ascii ".ax*byz"))
-    × (added "b:" ≡ addition (given 1) (2 ∷ 5 ∷ 0 ∷ 2 ∷ 1 ∷ 3 ∷ 2 ∷ 0 ∷ 7 ∷ []) (ascii ".ax.b" ++ 7 ∷ 7 ∷ []))
-    × (added "#include \"b\"\n!\na:" ≡ addition (given 1) (2 ∷ 5 ∷ 0 ∷ 2 ∷ 1 ∷ 3 ∷ 2 ∷ 0 ∷ 7 ∷ []) (ascii ".ax.a" ++ 7 ∷ 7 ∷ []))
+    (added "*b: yz" ≡ addition (given 1) (2 ∷ 7 ∷ 0 ∷ 2 ∷ 1 ∷ 5 ∷ 3 ∷ 2 ∷ 2 ∷ 65535 ∷ 7 ∷ []) (ascii ".ax*byz"))
+    × (added "b:" ≡ addition (given 1) (2 ∷ 5 ∷ 0 ∷ 2 ∷ 1 ∷ 5 ∷ 3 ∷ 2 ∷ 0 ∷ 65535 ∷ 7 ∷ []) (ascii ".ax.b" ++ 7 ∷ 7 ∷ []))
+    × (added "#include \"b\"\n!\na:" ≡ addition (given 1) (2 ∷ 5 ∷ 0 ∷ 2 ∷ 1 ∷ 5 ∷ 3 ∷ 2 ∷ 0 ∷ 65535 ∷ 7 ∷ []) (ascii ".ax.a" ++ 7 ∷ 7 ∷ []))
     -- 12: no entry, or more than one
     × (added "" ≡ addition (refused 12) contents bodies)
     × (added "! a:b\n#include \"a\"" ≡ addition (refused 12) contents bodies)

@@ -7,11 +7,11 @@ use Prim.Native.Nat.{ℕ, _≤_}
 use lib.Dec.{eqb, ltb}
 use lib.ListN.{length, drop}
 use Rattle.definition.specs.Lists.{if_then_else_, ascii}
-use Rattle.definition.specs.Limits.{writtenBytes}
+use Rattle.definition.specs.Limits.{rowWords, writtenBytes}
 use Rattle.definition.specs.Bytes.{newline, backslash, isBlank}
 use Rattle.definition.specs.Archive.{laidOut}
 use Rattle.definition.specs.Text.{Entry}
-use Rattle.definition.specs.Image.{keyOf, imageContents, imageBodies, tooShort, rowsIn, entriesIn, isImage}
+use Rattle.definition.specs.Image.{keyOf, Sourced, allFrom, imageContents, imageBodies, tooShort, rowsBy, originsIn, entriesIn, withOrigins, isImageBy, isImage}
 use Rattle.definition.specs.Reading.{Outcome, outcome, accepted, tooLong, reading}
 
 -- ---- The text
@@ -38,10 +38,22 @@ entryText e = keyOf (e .parts) ++ ascii ": " ++ valueText (e .value) ++ newline 
 unfoldable pub textOf : List Entry → List ℕ
 textOf es = flatten (map entryText es)
 
--- the entries that an image holds, and their text
-abbrev pub entriesOfImage : List ℕ → List ℕ → List Entry
-entriesOfImage contents bodies = entriesIn (rowsIn contents) bodies
+-- the entries that an image holds, with rows of that width: the origins are left behind (document 02 (viii))
+abbrev pub entriesBy : ℕ → List ℕ → List ℕ → List Entry
+entriesBy width contents bodies = entriesIn (rowsBy width contents) bodies
 
+abbrev pub entriesOfImage : List ℕ → List ℕ → List Entry
+entriesOfImage contents bodies = entriesBy rowWords contents bodies
+
+-- the same with their origins
+abbrev pub sourcesOfImage : List ℕ → List ℕ → List Sourced
+sourcesOfImage contents bodies = withOrigins (entriesOfImage contents bodies) (originsIn contents)
+
+-- two images hold the same entries, wherever their lines stand: the fourth words are not compared (document 02 (viii))
+abbrev pub SameEntries : List ℕ → List ℕ → List ℕ → List ℕ → Type 0
+SameEntries contents bodies contents′ bodies′ = entriesOfImage contents bodies ≡ entriesOfImage contents′ bodies′
+
+-- the text of an image's entries
 abbrev pub imageText : List ℕ → List ℕ → List ℕ
 imageText contents bodies = textOf (entriesOfImage contents bodies)
 
@@ -65,15 +77,19 @@ putInto k text buffer =
     if ltb (length buffer) (length text) then filled (refused k) buffer else
     filled (written (length text)) (text ++ drop (length text) buffer)
 
--- 8, 11
-unfoldable pub writing : List ℕ → List ℕ → List ℕ → Filled
-writing contents bodies buffer =
-    if not (isImage contents bodies) then filled (refused 8) buffer else
-    putInto 11 (imageText contents bodies) buffer
+-- 8, 11, with rows of that width
+unfoldable pub writingBy : ℕ → List ℕ → List ℕ → List ℕ → Filled
+writingBy width contents bodies buffer =
+    if not (isImageBy width contents bodies) then filled (refused 8) buffer else
+    putInto 11 (textOf (entriesBy width contents bodies)) buffer
+
+abbrev pub writing : List ℕ → List ℕ → List ℕ → Filled
+writing contents bodies buffer = writingBy rowWords contents bodies buffer
 
 -- ---- What is claimed
 
--- a reading of an image's text, if within limit 2, opens nothing and leaves an image of the same entries, zero elsewhere
+-- a reading of an image's text, if within limit 2, opens nothing and leaves an image of the same entries, zero elsewhere; their lines stand
+-- in the main text
 abbrev pub RoundTrip : Type 0
 RoundTrip =
     (contents bodies archive lentContents lentBodies : List ℕ)
@@ -82,11 +98,11 @@ RoundTrip =
     → laidOut archive ≡ true
     → tooShort lentContents lentBodies ≡ false
     → let es = entriesOfImage contents bodies in
-    let c = imageContents es lentContents in
+    let c = imageContents (allFrom 0 es) lentContents in
     let b = imageBodies es lentBodies in
     (reading (imageText contents bodies ∷ []) archive lentContents lentBodies ≡ outcome (accepted (length es) 0) c b)
     × (isImage c b ≡ true)
-    × (entriesOfImage c b ≡ es)
+    × SameEntries c b contents bodies
 
 -- two images have the same text exactly when they hold the same entries
 abbrev pub SameText : Type 0
@@ -94,7 +110,7 @@ SameText =
     (contents bodies contents′ bodies′ : List ℕ)
     → isImage contents bodies ≡ true
     → isImage contents′ bodies′ ≡ true
-    → (imageText contents bodies ≡ imageText contents′ bodies′) ↔ (entriesOfImage contents bodies ≡ entriesOfImage contents′ bodies′)
+    → (imageText contents bodies ≡ imageText contents′ bodies′) ↔ SameEntries contents bodies contents′ bodies′
 
 -- no image's text is longer than `writtenBytes`, and some image's is just that long
 abbrev pub LongestText : Type 0

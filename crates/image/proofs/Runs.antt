@@ -11,7 +11,8 @@ use borrow.Author.Tests.{leb-false, ltb-false}
 use Rattle.definition.specs.Lists.{if_then_else_}
 use Rattle.definition.specs.Limits.{mostOpens, mostEntries, mostParts, bodyBytes}
 use Rattle.definition.specs.Text.{Entry}
-use Rattle.definition.specs.Including.{Event, opened, entered}
+use Rattle.definition.specs.Archive.{File}
+use Rattle.definition.specs.Including.{Event, opened, entered, originOf}
 use Rattle.definition.specs.Image.{keyOf}
 use Rattle.definition.specs.Reading.{sizeOf}
 use Rattle.image.specs.Running.{World, world, Room, Ran, went, stopped, stored, put, counted, openOne, step, andThen, run}
@@ -26,12 +27,12 @@ unfolding andThen
 then-same (went v) f g e = e v
 then-same (stopped k c b) f g e = refl
 
-pub run-append : (xs ys : List Event) (w : World) → run w (xs ++ ys) ≡ andThen (run w xs) (λ v. run v ys)
+pub run-append : (fs : List File) (xs ys : List Event) (w : World) → run fs w (xs ++ ys) ≡ andThen (run fs w xs) (λ v. run fs v ys)
 unfolding run andThen
-run-append [] ys w = refl
-run-append (e ∷ xs) ys w =
-    then-same (step w e) (λ v. run v (xs ++ ys)) (λ v. andThen (run v xs) (λ u. run u ys)) (λ v. run-append xs ys v)
-    ∙ sym (then-then (step w e) (λ v. run v xs) (λ v. run v ys))
+run-append fs [] ys w = refl
+run-append fs (e ∷ xs) ys w =
+    then-same (step fs w e) (λ v. run fs v (xs ++ ys)) (λ v. andThen (run fs v xs) (λ u. run fs u ys)) (λ v. run-append fs xs ys v)
+    ∙ sym (then-then (step fs w e) (λ v. run fs v xs) (λ v. run fs v ys))
 
 -- ---- Where a run went on, so did its steps
 
@@ -48,20 +49,20 @@ passed true k c b r e = absurd (stopped-went e)
 passed false k c b r e = (refl, e)
 
 -- what `put` stored, and that it fitted
-pub record Fitting (w : World) (e : Entry) (v : World) : Type 0 where
-  pub is : stored w e ≡ v
+pub record Fitting (origin : ℕ) (w : World) (e : Entry) (v : World) : Type 0 where
+  pub is : stored origin w e ≡ v
   pub few : length (e .parts) ≤ mostParts
   pub entries-less : w .totals .entries < mostEntries
   pub used-fits : w .totals .used + sizeOf e ≤ bodyBytes
 
-pub put-went : (w : World) (e : Entry) (v : World) → put w e ≡ went v → Fitting w e v
+pub put-went : (origin : ℕ) (w : World) (e : Entry) (v : World) → put origin w e ≡ went v → Fitting origin w e v
 unfolding put
-put-went w e v h =
+put-went origin w e v h =
     let a = passed (ltb mostParts (length (e .parts))) 5 _ _ _ h in
     let b = passed (leb mostEntries (w .totals .entries)) 6 _ _ _ (a .1) in
     let c = passed (ltb bodyBytes (w .totals .used + sizeOf e)) 7 _ _ _ (b .1) in
     record {
-      is = let q : went (stored w e) ≡ went v = c .1 in cc;
+      is = let q : went (stored origin w e) ≡ went v = c .1 in cc;
       few = ltb-false mostParts (length (e .parts)) (a .0);
       entries-less = leb-false mostEntries (w .totals .entries) (b .0);
       used-fits = ltb-false bodyBytes (w .totals .used + sizeOf e) (c .0);
@@ -82,8 +83,9 @@ RoomIn w = Room (w .totals) (w .words) (w .bytes)
 pub size-is : (e : Entry) → length (keyOf (e .parts) ++ e .value) ≡ sizeOf e
 size-is e = length-append (keyOf (e .parts)) (e .value)
 
-pub stored-room : (w : World) (e : Entry) → RoomIn w → w .totals .entries < mostEntries → w .totals .used + sizeOf e ≤ bodyBytes → RoomIn (stored w e)
-stored-room w e r few fits = record {
+pub stored-room : (origin : ℕ) (w : World) (e : Entry) → RoomIn w → w .totals .entries < mostEntries → w .totals .used + sizeOf e ≤ bodyBytes
+    → RoomIn (stored origin w e)
+stored-room origin w e r few fits = record {
   opens-most = r .opens-most;
   entries-most = omega arith;
   used-most = fits;
@@ -93,8 +95,13 @@ stored-room w e r few fits = record {
       ∙ r .bytes-long;
 }
 
-pub step-room : (w : World) (e : Event) (v : World) → RoomIn w → step w e ≡ went v → RoomIn v
-step-room w (opened ch) v r h =
+pub put-room : (origin : ℕ) (w : World) (e : Entry) (v : World) → RoomIn w → put origin w e ≡ went v → RoomIn v
+put-room origin w e v r h =
+    let a = put-went origin w e v h in
+    rw (← a .is) (stored-room origin w e r (a .entries-less) (a .used-fits))
+
+pub step-room : (fs : List File) (w : World) (e : Event) (v : World) → RoomIn w → step fs w e ≡ went v → RoomIn v
+step-room fs w (opened ch) v r h =
     let a = open-went w v h in
     rw (← a .0) (record {
       opens-most = let k = a .1 in omega arith;
@@ -103,13 +110,12 @@ step-room w (opened ch) v r h =
       words-long = r .words-long;
       bytes-long = r .bytes-long;
     })
-step-room w (entered ch e) v r h =
-    let a = put-went w e v h in
-    rw (← a .is) (stored-room w e r (a .entries-less) (a .used-fits))
+step-room fs w (entered ch e) v r h =
+    put-room (originOf fs ch) w e v r h
 
-pub run-room : (es : List Event) (w v : World) → RoomIn w → run w es ≡ went v → RoomIn v
+pub run-room : (fs : List File) (es : List Event) (w v : World) → RoomIn w → run fs w es ≡ went v → RoomIn v
 unfolding run
-run-room [] w v r h = let e : w ≡ v = cc in rw (← e) r
-run-room (e ∷ es) w v r h =
-    let a = then-went (step w e) (λ u. run u es) v h in
-    run-room es (a .0) v (step-room w e (a .0) r (a .1)) (a .2)
+run-room fs [] w v r h = let e : w ≡ v = cc in rw (← e) r
+run-room fs (e ∷ es) w v r h =
+    let a = then-went (step fs w e) (λ u. run fs u es) v h in
+    run-room fs es (a .0) v (step-room fs w e (a .0) r (a .1)) (a .2)

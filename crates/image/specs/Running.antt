@@ -7,8 +7,9 @@ use lib.ListN.{length, take, set}
 use lib.Seq.{paste}
 use Rattle.definition.specs.Lists.{if_then_else_, zeroes}
 use Rattle.definition.specs.Limits.{mostOpens, mostEntries, mostParts, bodyBytes, contentsWords}
+use Rattle.definition.specs.Archive.{File}
 use Rattle.definition.specs.Text.{Entry}
-use Rattle.definition.specs.Including.{Event, opened, entered}
+use Rattle.definition.specs.Including.{Event, opened, entered, originOf}
 use Rattle.definition.specs.Image.{Row, keyOf}
 use Rattle.definition.specs.Reading.{sizeOf, Outcome, outcome, accepted, refused}
 use Rattle.image.specs.Rows.{rowStart, withRow}
@@ -46,11 +47,11 @@ pub data Ran : Type 0 where
 abbrev pub rowFor : ℕ → Entry → Row
 rowFor at e = record { start = at; keyLength = length (keyOf (e .parts)); valueLength = length (e .value) }
 
--- an entry, stored
-abbrev pub stored : World → Entry → World
-stored w e = record {
+-- an entry of that origin, stored
+abbrev pub stored : ℕ → World → Entry → World
+stored origin w e = record {
   totals = record { opens = w .totals .opens; entries = w .totals .entries + 1; used = w .totals .used + sizeOf e };
-  words = withRow (w .words) (w .totals .entries) (rowFor (w .totals .used) e);
+  words = withRow (w .words) (w .totals .entries) (rowFor (w .totals .used) e) origin;
   bytes = paste (w .bytes) (w .totals .used) (keyOf (e .parts) ++ e .value) (sizeOf e);
 }
 
@@ -61,12 +62,12 @@ cut w e =
     paste (w .bytes) (w .totals .used) (keyOf (e .parts) ++ e .value) (bodyBytes - w .totals .used)
 
 -- 5, 6, 7
-unfoldable pub put : World → Entry → Ran
-put w e =
+unfoldable pub put : ℕ → World → Entry → Ran
+put origin w e =
     if ltb mostParts (length (e .parts)) then stopped 5 (w .words) (w .bytes) else
     if leb mostEntries (w .totals .entries) then stopped 6 (w .words) (w .bytes) else
     if ltb bodyBytes (w .totals .used + sizeOf e) then stopped 7 (w .words) (cut w e) else
-    went (stored w e)
+    went (stored origin w e)
 
 -- one open more
 abbrev pub counted : Totals → Totals
@@ -77,17 +78,18 @@ openOne w =
     if leb mostOpens (w .totals .opens) then stopped 4 (w .words) (w .bytes) else
     went (world (counted (w .totals)) (w .words) (w .bytes))
 
-abbrev pub step : World → Event → Ran
-step w (opened ch) = openOne w
-step w (entered ch e) = put w e
+-- with these files on the archive
+abbrev pub step : List File → World → Event → Ran
+step fs w (opened ch) = openOne w
+step fs w (entered ch e) = put (originOf fs ch) w e
 
 unfoldable pub andThen : Ran → (World → Ran) → Ran
 andThen (went w) next = next w
 andThen (stopped k c b) next = stopped k c b
 
-unfoldable pub run : World → List Event → Ran
-run w [] = went w
-run w (e ∷ es) = andThen (step w e) (λ v. run v es)
+unfoldable pub run : List File → World → List Event → Ran
+run fs w [] = went w
+run fs w (e ∷ es) = andThen (step fs w e) (λ v. run fs v es)
 
 -- a call's answer, with the buffers as it left them
 unfoldable pub answered : Step → List ℕ → List ℕ → Ran

@@ -4,7 +4,7 @@ ghost use mathlib.Core.List.{_++_};
 ghost use Prim.Native.Nat.{_+_, _-_, _≤_, _<_};
 ghost use lib.ListN.{length, take, getD};
 ghost use Rattle.definition.specs.Lists.{zeroes};
-ghost use Rattle.image.specs.Rows.{rowStart, withRow, rowOf, InWords, RowIs};
+ghost use Rattle.image.specs.Rows.{rowStartBy, rowStart, originAt, withRow, rowOf, InWords, RowIsBy, RowIs};
 ghost use Rattle.image.specs.Running.{Room, closedWords, closedBytes};
 use limits::ROW_WORDS;
 
@@ -52,12 +52,12 @@ pub struct Row {
     pub value: usize,
 }
 
-// Where row `i` begins.
-fn row_start(i: usize) -> usize
-    requires { ⌜ rowStart i ≤ 18446744073709551615 ⌝ }
-    ensures { λ r. ⌜ r ≡ rowStart i ⌝ }
+// Where row `i` begins, in rows of `width` words.
+fn row_start(width: usize, i: usize) -> usize
+    requires { ⌜ rowStartBy width i ≤ 18446744073709551615 ⌝ }
+    ensures { λ r. ⌜ r ≡ rowStartBy width i ⌝ }
 {
-    2 + ROW_WORDS * i
+    2 + width * i
 }
 
 // A word as a number.
@@ -68,27 +68,44 @@ fn number_at(words: &[u16], at: usize) -> usize
     words[at] as usize
 }
 
-// Row `i` of an image's words.
-pub fn row_at(words: &[u16], i: usize) -> Row
-    requires { ⌜ rowStart (i + 1) ≤ length (now words) ⌝ }
-    ensures { λ r. ⌜ RowIs (now (words .entry)) i r ⌝ }
+// Row `i` of an image's words, in rows of `width` words: an image's are of ROW_WORDS, and were of OLD_ROW_WORDS.
+pub fn row_by(words: &[u16], width: usize, i: usize) -> Row
+    requires { ⌜ rowStartBy width i + 3 ≤ length (now words) ⌝ }
+    ensures { λ r. ⌜ RowIsBy width (now (words .entry)) i r ⌝ }
 {
-    let at = row_start(i);
+    let at = row_start(width, i);
     let start = number_at(words, at);
     let key = number_at(words, at + 1);
     let value = number_at(words, at + 2);
     Row { start, key, value }
 }
 
-// Writes row `i`.
-pub fn write_row(words: &mut [u16], i: usize, row: Row)
-    requires { ⌜ (rowStart (i + 1) ≤ length (now words)) × InWords row ⌝ }
-    ensures { λ _. ⌜ now (words .exit) ≡ withRow (now (words .entry)) i (rowOf row) ⌝ }
+// Row `i` of an image's words.
+pub fn row_at(words: &[u16], i: usize) -> Row
+    requires { ⌜ rowStart (i + 1) ≤ length (now words) ⌝ }
+    ensures { λ r. ⌜ RowIs (now (words .entry)) i r ⌝ }
 {
-    let at = row_start(i);
+    row_by(words, ROW_WORDS, i)
+}
+
+// Where the line of row `i` stands: 0 for a text of the reading, the place of a file on the archive from 1, or UNKNOWN_FILE.
+pub fn origin_at(words: &[u16], i: usize) -> usize
+    requires { ⌜ rowStart (i + 1) ≤ length (now words) ⌝ }
+    ensures { λ r. ⌜ r ≡ originAt (now (words .entry)) i ⌝ }
+{
+    number_at(words, row_start(ROW_WORDS, i) + 3)
+}
+
+// Writes row `i`, with where its line stands.
+pub fn write_row(words: &mut [u16], i: usize, row: Row, origin: u16)
+    requires { ⌜ (rowStart (i + 1) ≤ length (now words)) × InWords row ⌝ }
+    ensures { λ _. ⌜ now (words .exit) ≡ withRow (now (words .entry)) i (rowOf row) origin ⌝ }
+{
+    let at = row_start(ROW_WORDS, i);
     words[at] = row.start as u16;
     words[at + 1] = row.key as u16;
     words[at + 2] = row.value as u16;
+    words[at + 3] = origin;
 }
 
 // Leaves the image of no entries.
@@ -108,6 +125,6 @@ pub fn close_image(totals: Totals, words: &mut [u16], store: &mut [u8])
     let used = totals.used;
     words[0] = entries as u16;
     words[1] = used as u16;
-    clear_words(words, row_start(entries));
+    clear_words(words, row_start(ROW_WORDS, entries));
     clear_bytes(store, used);
 }

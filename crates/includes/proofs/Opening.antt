@@ -5,15 +5,17 @@ use mathlib.Core.Option.{some}
 use mathlib.Core.Path.{_≡_, _∙_}
 use Prim.Native.Nat.{ℕ, _+_, _-_, _≤_, _<_}
 use native.Mathlib.Omega.{arith}
-use Rattle.definition.specs.Limits.{mostOpens}
+use Rattle.definition.specs.Limits.{mostOpens, archiveFiles}
 use Rattle.definition.specs.Archive.{laidOut, filesOf, folderOf, pathOf}
-use Rattle.definition.specs.Including.{Chain, including}
+use Rattle.definition.specs.Including.{Chain, including, originOf}
+use Rattle.laws.proofs.Archive.{laidOut-says}
+use Rattle.laws.proofs.Origins.{origin-last, there-inside}
 use Rattle.archive.specs.declared.Member.{Member}
 use Rattle.archive.specs.Walk.{fileIn}
 use Rattle.archive_find.specs.Finding.{soughtIn}
 use Rattle.archive_find.specs.declared.Found.{Found}
 use Rattle.archive_find.specs.declared.Found.the-variants.{At, Nothing}
-use Rattle.archive_find.proofs.Finding.{FoundAt, found-none, found-at}
+use Rattle.archive_find.proofs.Finding.{FoundAt, found-none, found-at, include-number}
 use Rattle.image.specs.Running.{world, Room, counted, run, answered}
 use Rattle.image.specs.declared.Step.{Step}
 use Rattle.image.specs.declared.Step.the-variants.{Go, Stop}
@@ -24,7 +26,7 @@ use Rattle.includes.proofs.Lines.{include-deep, include-absent, include
 -- what `include` ensures
 abbrev pub Included : (archive folder name : List ℕ) (d : ℕ) (s : Totals) (c b : List ℕ) → Step → List ℕ → List ℕ → Type 0
 Included archive folder name d s c b r c′ b′ =
-    (ch : Chain) → answered r c′ b′ ≡ run (world s c b) (including d (filesOf archive) folder ch name)
+    (ch : Chain) → answered r c′ b′ ≡ run (filesOf archive) (world s c b) (including d (filesOf archive) folder ch name)
 
 -- no depth is left
 pub no-depth : (archive folder name : List ℕ) (d : ℕ) (s : Totals) (c b : List ℕ) → d ≡ 0 → Included archive folder name d s c b (Go s) c b
@@ -50,6 +52,14 @@ module _ {archive folder name : List ℕ} {d : ℕ} {s : Totals} {c b : List ℕ
     pub is-at : FoundAt archive (filesOf archive) (is-found .0) m
     is-at = is-found .2
 
+    -- its place, from 1, is no large number, and where its lines stand
+    pub small-number : m .number < archiveFiles
+    small-number =
+        omega (arith, include-number archive (f .found) (is-found .1) e, there-inside (filesOf archive) (is-found .0) (fileIn archive m .body) (is-at .body), laidOut-says archive (f .laid) .few)
+
+    stands-in : (ch : Chain) → originOf (filesOf archive) (ch ++ is-found .0 ∷ []) ≡ m .number + 1
+    stands-in ch = origin-last (filesOf archive) ch (is-found .0) ∙ omega (arith, include-number archive (f .found) (is-found .1) e)
+
     pub all-opened : mostOpens ≤ s .opens → Included archive folder name d s c b (Stop 4) c b
     unfolding answered
     all-opened k ch =
@@ -66,8 +76,8 @@ module _ {archive folder name : List ℕ} {d : ℕ} {s : Totals} {c b : List ℕ
       }
 
       pub opened : {below : List ℕ} → below ≡ folderOf (fileIn archive m .name) → (g : Step) (c′ b′ : List ℕ)
-          → ((ch : Chain) → answered g c′ b′ ≡ run (world (counted s) c b) (textEvents (d - 1) (filesOf archive) below ch (fileIn archive m .body)))
+          → ((ch : Chain) → originOf (filesOf archive) ch ≡ m .number + 1 → answered g c′ b′ ≡ run (filesOf archive) (world (counted s) c b) (textEvents (d - 1) (filesOf archive) below ch (fileIn archive m .body)))
           → Included archive folder name d s c b g c′ b′
       opened is g c′ b′ after ch =
-          after (ch ++ is-found .0 ∷ [])
+          after (ch ++ is-found .0 ∷ []) (stands-in ch)
           ∙ rw (is, is-at .name) (include-reads (filesOf archive) folder ch name (world s c b) d (f .deep) (is-found .0) (is-found .1) (fileIn archive m .body) (is-at .body) k)

@@ -4,7 +4,7 @@ ghost use mathlib.Core.List.{[]};
 ghost use mathlib.Core.Bool.{true};
 ghost use Rattle.definition.specs.Limits.{deepest};
 ghost use Rattle.definition.specs.Archive.{laidOut, filesOf};
-ghost use Rattle.definition.specs.Including.{Chain, including};
+ghost use Rattle.definition.specs.Including.{Chain, including, originOf};
 ghost use Rattle.byte_classes.specs.Classes.{byteClasses};
 ghost use Rattle.image.specs.Running.{world, Room, run, answered};
 ghost use Rattle.includes.specs.Texts.{textEvents};
@@ -33,7 +33,7 @@ fn include<'a>(
     store: &mut [u8],
 ) -> Step
     requires { ⌜ Room totals (now words) (now store) × (laidOut (now archive) ≡ true) × (now classes ≡ byteClasses) ⌝ }
-    ensures { λ r. ⌜ ((chain : Chain) → answered r (now (words .exit)) (now (store .exit)) ≡ run (world totals (now (words .entry)) (now (store .entry))) (including depth (filesOf (now (archive .entry))) (now (folder .entry)) chain (now (name .entry)))) ⌝ }
+    ensures { λ r. ⌜ ((chain : Chain) → answered r (now (words .exit)) (now (store .exit)) ≡ run (filesOf (now (archive .entry))) (world totals (now (words .entry)) (now (store .entry))) (including depth (filesOf (now (archive .entry))) (now (folder .entry)) chain (now (name .entry)))) ⌝ }
 {
     if depth == 0 {
         return Step::Go(totals);
@@ -56,6 +56,7 @@ fn include<'a>(
     let start = member.start;
     let body = member.body;
     let end = member.end;
+    let origin = (member.number + 1) as u16;
     let below = folder_of(&archive[start..body]);
     parse_database(
         classes,
@@ -66,11 +67,13 @@ fn include<'a>(
         next,
         words,
         store,
+        origin,
     )
 }
 
-// Reads a text of `folder`, line by line, with `depth` depths left below it.
-pub fn parse_database<'a>(
+// Reads a text of `folder`, line by line, with `depth` depths left below it. Its lines stand in `origin`: 0 is a text of the reading, and
+// else a file's place on the archive.
+fn parse_database<'a>(
     classes: &[u8; 256],
     text: &'a [u8],
     folder: &'a [u8],
@@ -79,15 +82,16 @@ pub fn parse_database<'a>(
     totals: Totals,
     words: &mut [u16],
     store: &mut [u8],
+    origin: u16,
 ) -> Step
     requires { ⌜ Room totals (now words) (now store) × (laidOut (now archive) ≡ true) × (now classes ≡ byteClasses) ⌝ }
-    ensures { λ r. ⌜ ((chain : Chain) → answered r (now (words .exit)) (now (store .exit)) ≡ run (world totals (now (words .entry)) (now (store .entry))) (textEvents depth (filesOf (now (archive .entry))) (now (folder .entry)) chain (now (text .entry)))) ⌝ }
+    ensures { λ r. ⌜ ((chain : Chain) → originOf (filesOf (now (archive .entry))) chain ≡ origin → answered r (now (words .exit)) (now (store .exit)) ≡ run (filesOf (now (archive .entry))) (world totals (now (words .entry)) (now (store .entry))) (textEvents depth (filesOf (now (archive .entry))) (now (folder .entry)) chain (now (text .entry)))) ⌝ }
 {
     let mut s = totals;
     let mut rest = text;
     while rest.len() > 0 {
         // most lines are of the common form
-        let plain = plain_lines(classes, rest, s, words, store);
+        let plain = plain_lines(classes, rest, s, words, store, origin);
         let opens = s.opens;
         let taken = plain.taken;
         s = Totals {
@@ -118,7 +122,18 @@ pub fn parse_database<'a>(
                 }
             }
             Line::Entry(from, count, size, verbatim) => {
-                let put = parse_entry(classes, rest, from, count, size, verbatim, s, words, store);
+                let put = parse_entry(
+                    classes,
+                    rest,
+                    from,
+                    count,
+                    size,
+                    verbatim,
+                    s,
+                    words,
+                    store,
+                    origin,
+                );
                 match put {
                     Put::Done(n, next) => {
                         s = next;
@@ -144,10 +159,10 @@ pub fn parse_text(
     store: &mut [u8],
 ) -> Step
     requires { ⌜ Room totals (now words) (now store) × (laidOut (now archive) ≡ true) × (now classes ≡ byteClasses) ⌝ }
-    ensures { λ r. ⌜ ((chain : Chain) → answered r (now (words .exit)) (now (store .exit)) ≡ run (world totals (now (words .entry)) (now (store .entry))) (textEvents deepest (filesOf (now (archive .entry))) [] chain (now (text .entry)))) ⌝ }
+    ensures { λ r. ⌜ answered r (now (words .exit)) (now (store .exit)) ≡ run (filesOf (now (archive .entry))) (world totals (now (words .entry)) (now (store .entry))) (textEvents deepest (filesOf (now (archive .entry))) [] [] (now (text .entry))) ⌝ }
 {
     // a text whose lines are all of the common form needs no more
-    let plain = plain_lines(classes, text, totals, words, store);
+    let plain = plain_lines(classes, text, totals, words, store, 0);
     let opens = totals.opens;
     let taken = plain.taken;
     let entries = plain.entries;
@@ -173,5 +188,6 @@ pub fn parse_text(
         next,
         words,
         store,
+        0,
     )
 }

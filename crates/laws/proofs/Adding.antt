@@ -13,18 +13,21 @@ use lib.Seq.{slice, length-take-le, take-append-le, drop-append-le, take-take, t
 use borrow.Author.Tests.{le-ltb, le-leb, eqb-true, eq-eqb}
 use Rattle.definition.specs.Lists.{if_then_else_, all}
 use Rattle.definition.specs.Parsing.{Parsed}
-use Rattle.definition.specs.Limits.{deepest, contentsWords, bodyBytes, rowWords, mostEntries, mostParts}
+use Rattle.definition.specs.Limits.{deepest, contentsWords, bodyBytes, rowWords, mostEntries, mostParts, unknownFile}
 use Rattle.definition.specs.Archive.{archiveOf, filesOf}
 use Rattle.definition.specs.Text.{Part, Entry, endsInName}
 use Rattle.definition.specs.Including.{entered, entriesOf}
 use Rattle.definition.specs.Image.{
   keyOf,
+  allFrom,
   rowsOf,
   Row,
   rowsFrom,
+  originsFrom,
   countOf,
   usedOf,
   rowsIn,
+  originsIn,
   keyEnd,
   valueEnd,
   keyAt,
@@ -34,14 +37,16 @@ use Rattle.definition.specs.Image.{
   entriesIn,
   isKey,
   packed,
+  isOrigin,
   tooShort,
+  isImageBy,
   isImage,
 }
 use Rattle.definition.specs.Reading.{Totals, Verdict, within, past, sizeOf, judge, tooLong}
 use Rattle.definition.specs.Writing.{entriesOfImage}
 use Rattle.definition.specs.Lookup.{given, refused}
 use Rattle.definition.specs.Query.{Query, positions, malformed, pastLimit, queryOf}
-use Rattle.definition.specs.Walking.{Walk, walk, firstOf, nextOf, begun, walkStart, numberOr, stepped, walkStep, afterStep}
+use Rattle.definition.specs.Walking.{Walk, walk, firstOf, nextOf, begun, walkStartBy, walkStart, numberOr, stepped, walkStepBy, walkStep, afterStep}
 use Rattle.definition.specs.Adding.{
   Addition,
   addition,
@@ -96,28 +101,44 @@ over-before n xs lent h from to k =
 -- ---- The rows
 
 -- n rows, and others behind them
-rows-append : (n m : ℕ) (ws us : List ℕ) → rowWords * n ≤ length ws → rowsFrom (n + m) (take (rowWords * n) ws ++ us) ≡ rowsFrom n ws ++ rowsFrom m us
+rows-append : (n m : ℕ) (ws us : List ℕ) → rowWords * n ≤ length ws
+    → rowsFrom rowWords (n + m) (take (rowWords * n) ws ++ us) ≡ rowsFrom rowWords n ws ++ rowsFrom rowWords m us
 unfolding rowsFrom
 rows-append zero m ws us h = let e : 0 + m ≡ m = omega arith in rw e refl
 rows-append (suc n) m [] us h = absurd (omega arith)
 rows-append (suc n) m (a ∷ []) us h = absurd (omega arith)
 rows-append (suc n) m (a ∷ b ∷ []) us h = absurd (omega arith)
-rows-append (suc n) m (a ∷ b ∷ c ∷ ws) us h =
-    let e : rowWords * suc n ≡ suc (suc (suc (rowWords * n))) = omega arith in
+rows-append (suc n) m (a ∷ b ∷ c ∷ []) us h = absurd (omega arith)
+rows-append (suc n) m (a ∷ b ∷ c ∷ d ∷ ws) us h =
+    let e : rowWords * suc n ≡ suc (suc (suc (suc (rowWords * n)))) = omega arith in
     let f : suc n + m ≡ suc (n + m) = omega arith in
     let r : Row = record { start = a; keyLength = b; valueLength = c } in
     rw (e, f) (ap (λ (l : List Row). r ∷ l) (rows-append n m ws us (omega arith)))
+
+-- and their origins
+origins-append : (n m : ℕ) (ws us : List ℕ) → rowWords * n ≤ length ws
+    → originsFrom rowWords (n + m) (take (rowWords * n) ws ++ us) ≡ originsFrom rowWords n ws ++ originsFrom rowWords m us
+unfolding originsFrom
+origins-append zero m ws us h = let e : 0 + m ≡ m = omega arith in rw e refl
+origins-append (suc n) m [] us h = absurd (omega arith)
+origins-append (suc n) m (a ∷ []) us h = absurd (omega arith)
+origins-append (suc n) m (a ∷ b ∷ []) us h = absurd (omega arith)
+origins-append (suc n) m (a ∷ b ∷ c ∷ []) us h = absurd (omega arith)
+origins-append (suc n) m (a ∷ b ∷ c ∷ d ∷ ws) us h =
+    let e : rowWords * suc n ≡ suc (suc (suc (suc (rowWords * n)))) = omega arith in
+    let f : suc n + m ≡ suc (n + m) = omega arith in
+    rw (e, f) (ap (λ (l : List ℕ). d ∷ l) (origins-append n m ws us (omega arith)))
 
 -- the row of an entry that begins at `at`
 abbrev rowOf : ℕ → Entry → Row
 rowOf at e = record { start = at; keyLength = length (keyOf (e .parts)); valueLength = length (e .value) }
 
-module _ (e : Entry) (contents : List ℕ) (room : 2 + rowWords * countOf contents + 3 ≤ length contents) where
+module _ (e : Entry) (contents : List ℕ) (room : 2 + rowWords * countOf contents + rowWords ≤ length contents) where
   abbrev row : List ℕ
-  row = rowsOf (usedOf contents) (e ∷ [])
+  row = rowsOf (usedOf contents) (allFrom unknownFile (e ∷ []))
 
   abbrev behind : List ℕ
-  behind = drop (2 + rowWords * countOf contents + 3) contents
+  behind = drop (2 + rowWords * countOf contents + rowWords) contents
 
   -- the words behind the first two
   words-after : drop 2 (over (2 + rowWords * countOf contents) row contents) ≡ take (rowWords * countOf contents) (drop 2 contents) ++ (row ++ behind)
@@ -134,8 +155,14 @@ module _ (e : Entry) (contents : List ℕ) (room : 2 + rowWords * countOf conten
   rows-after : rowsIn (appended e contents [] .contents) ≡ rowsIn contents ++ rowOf (usedOf contents) e ∷ []
   unfolding appended over rowsOf rowsFrom
   rows-after =
-      ap (rowsFrom (countOf contents + 1)) words-after
+      ap (rowsFrom rowWords (countOf contents + 1)) words-after
       ∙ rows-append (countOf contents) 1 (drop 2 contents) (row ++ behind) (omega (arith, length-drop 2 contents))
+
+  origins-after : originsIn (appended e contents [] .contents) ≡ originsIn contents ++ unknownFile ∷ []
+  unfolding appended over rowsOf originsFrom
+  origins-after =
+      ap (originsFrom rowWords (countOf contents + 1)) words-after
+      ∙ origins-append (countOf contents) 1 (drop 2 contents) (row ++ behind) (omega (arith, length-drop 2 contents))
 
 -- ---- What is read by the rows
 
@@ -200,12 +227,16 @@ module _ (contents bodies : List ℕ) (is : isImage contents bodies ≡ true) (e
   abbrev r : Row
   r = rowOf used e
 
-  row-room : 2 + rowWords * countOf contents + 3 ≤ length contents
+  row-room : 2 + rowWords * countOf contents + rowWords ≤ length contents
   row-room = omega (arith, f .entry-room, holds .contents-long)
 
   rows-are : rowsIn (a .contents) ≡ rowsIn contents ++ r ∷ []
   unfolding appended
   rows-are = rows-after e contents row-room
+
+  origins-are : originsIn (a .contents) ≡ originsIn contents ++ unknownFile ∷ []
+  unfolding appended
+  origins-are = origins-after e contents row-room
 
   front-long : length (take used bodies) ≡ used
   front-long = length-take-le used bodies (omega (arith, holds .used-most, holds .bodies-long))
@@ -248,8 +279,9 @@ module _ (contents bodies : List ℕ) (is : isImage contents bodies ≡ true) (e
   contents-length : length (a .contents) ≡ length contents
   unfolding appended rowsOf
   contents-length =
-      let inner = over (2 + rowWords * countOf contents) (rowsOf used (e ∷ [])) contents in
-      let m : length inner ≡ length contents = over-long (2 + rowWords * countOf contents) (rowsOf used (e ∷ [])) contents row-room in
+      let row = rowsOf used (allFrom unknownFile (e ∷ [])) in
+      let inner = over (2 + rowWords * countOf contents) row contents in
+      let m : length inner ≡ length contents = over-long (2 + rowWords * countOf contents) row contents row-room in
       over-long 0 ((countOf contents + 1) ∷ (used + sizeOf e) ∷ []) inner (omega (arith, m, row-room)) ∙ m
 
   bodies-length : length (a .bodies) ≡ length bodies
@@ -267,7 +299,7 @@ module _ (contents bodies : List ℕ) (is : isImage contents bodies ≡ true) (e
   used-is = refl
 
   appended-image : isImage (a .contents) (a .bodies) ≡ true
-  unfolding isImage
+  unfolding isImageBy
   appended-image =
       let c = a .contents in
       let b = a .bodies in
@@ -288,7 +320,9 @@ module _ (contents bodies : List ℕ) (is : isImage contents bodies ≡ true) (e
       let k : all (λ r. isKey (keyAt b r)) (rowsIn c) ≡ true =
       rw rows-are
       (all-append (λ r. isKey (keyAt b r)) (rowsIn contents) r (old-agree .keys ∙ holds .are-keys) key) in
-      and-both (and-both (and-both (and-both l n) u) p) k
+      let unknown : isOrigin unknownFile ≡ true = unfold isOrigin in refl in
+      let o : all isOrigin (originsIn c) ≡ true = rw origins-are (all-append isOrigin (originsIn contents) unknownFile (holds .are-origins) unknown) in
+      and-both (and-both (and-both (and-both (and-both l n) u) p) k) o
 
 -- ---- The call
 
@@ -454,7 +488,7 @@ module _ (name class : List ℕ) (es : List Entry) (asked : Asked (queryOf name 
 
   kept-gives : (n : ℕ) (h : History) → Kept n h
       → walkStep (h .contents) (h .bodies) name class (h .walk) ≡ numberOr (firstOf (drop n (numbersOf q es)))
-  unfolding walkStep
+  unfolding walkStepBy
   kept-gives n h k =
       rw (k .is-image, k .held) (step-gives q es (k .more) (h .walk) asked (k .count) ∙ ap (λ (l : List ℕ). numberOr (firstOf l)) (k .left))
 
@@ -515,7 +549,7 @@ pub record Starts (contents bodies name class : List ℕ) (w : Walk) : Type 0 wh
   pub begins : w ≡ walk 0 (countOf contents)
 
 pub starts : (contents bodies name class : List ℕ) (w : Walk) → walkStart contents bodies name class ≡ given w → Starts contents bodies name class w
-unfolding walkStart begun
+unfolding walkStartBy begun
 starts contents bodies name class w h = at (isImage contents bodies) refl h
   where
     at₂ : isImage contents bodies ≡ true → (q : Query) → queryOf name class ≡ q → begun (countOf contents) q ≡ given w → Starts contents bodies name class w

@@ -8,6 +8,7 @@ pub mod Limits
 pub mod Reading
 pub mod Keys
 pub mod Image
+pub mod Origins
 pub mod Written
 pub mod Writing
 pub mod Ranking
@@ -16,4 +17,5 @@ pub mod Lookup
 pub mod Window
 pub mod Walking
 pub mod Adding
+pub mod Migration
 pub mod ThirdTerm

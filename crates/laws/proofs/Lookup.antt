@@ -8,11 +8,11 @@ use lib.ListN.{length, getD}
 use Rattle.definition.specs.Lists.{all}
 use Rattle.definition.specs.Limits.{bodyBytes, mostEntries}
 use Rattle.definition.specs.Text.{Entry}
-use Rattle.definition.specs.Image.{storeOf, imageContents, imageBodies, Row, rowsIn, valueAt, entriesIn, tooShort, isImage}
+use Rattle.definition.specs.Image.{Sourced, storeOf, imageContents, imageBodies, Row, rowsIn, valueAt, entriesIn, tooShort, isImage}
 use Rattle.definition.specs.Query.{Query, positions, malformed, pastLimit, Bounds, queryWithin}
 use Rattle.definition.specs.Ranking.{Best, noEntry, best, bestOf}
-use Rattle.definition.specs.Lookup.{keysOf, valueOf, answerOf, placeOf, lookup, getBytesWithin, answerIn}
-use Rattle.laws.proofs.Image.{isStorable, image-entries, image-is}
+use Rattle.definition.specs.Lookup.{keysOf, valueOf, answerOf, placeOf, lookup, getBytesBy, getBytesWithin, answerIn}
+use Rattle.laws.proofs.Image.{isStorable, Sources, image-entries, image-is}
 
 -- also past the last row, where both are empty
 value-there : (rows : List Row) (bodies : List ℕ) (i : ℕ)
@@ -28,21 +28,21 @@ unfolding answerIn placeOf valueOf
 best-answer rows bodies noEntry = refl
 best-answer rows bodies (best i row) = ap (λ (v : List ℕ). some v) (value-there rows bodies i)
 
-lookup-answer : (contents bodies : List ℕ) (q : Query) → answerIn bodies (lookup contents bodies q) ≡ answerOf (entriesIn (rowsIn contents) bodies) q
+pub lookup-answer : (rows : List Row) (bodies : List ℕ) (q : Query) → answerIn bodies (lookup rows bodies q) ≡ answerOf (entriesIn rows bodies) q
 unfolding lookup answerOf answerIn
-lookup-answer contents bodies (positions qs) = best-answer (rowsIn contents) bodies (bestOf (keysOf (entriesIn (rowsIn contents) bodies)) qs)
-lookup-answer contents bodies malformed = refl
-lookup-answer contents bodies (pastLimit k) = refl
+lookup-answer rows bodies (positions qs) = best-answer rows bodies (bestOf (keysOf (entriesIn rows bodies)) qs)
+lookup-answer rows bodies malformed = refl
+lookup-answer rows bodies (pastLimit k) = refl
 
 pub answer-entries : (most : Bounds) (contents bodies name class : List ℕ) → isImage contents bodies ≡ true
     → answerIn bodies (getBytesWithin most contents bodies name class) ≡ answerOf (entriesIn (rowsIn contents) bodies) (queryWithin most name class)
-unfolding getBytesWithin
-answer-entries most contents bodies name class h = rw h (lookup-answer contents bodies (queryWithin most name class))
+unfolding getBytesBy
+answer-entries most contents bodies name class h = rw h (lookup-answer (rowsIn contents) bodies (queryWithin most name class))
 
-module _ (es : List Entry) (lentC lentB : List ℕ) (fit : all isStorable es ≡ true) (few : length es ≤ mostEntries)
-    (small : length (storeOf es) ≤ bodyBytes) (long : tooShort lentC lentB ≡ false) where
+module _ (xs : List Sourced) (es : List Entry) (lentC lentB : List ℕ) (from : Sources xs es) (fit : all isStorable es ≡ true)
+    (few : length es ≤ mostEntries) (small : length (storeOf es) ≤ bodyBytes) (long : tooShort lentC lentB ≡ false) where
   pub answer-image : (most : Bounds) (name class : List ℕ)
-      → answerIn (imageBodies es lentB) (getBytesWithin most (imageContents es lentC) (imageBodies es lentB) name class) ≡ answerOf es (queryWithin most name class)
+      → answerIn (imageBodies es lentB) (getBytesWithin most (imageContents xs lentC) (imageBodies es lentB) name class) ≡ answerOf es (queryWithin most name class)
   answer-image most name class =
-      answer-entries most (imageContents es lentC) (imageBodies es lentB) name class (image-is es lentC lentB fit few small long)
-      ∙ ap (λ (xs : List Entry). answerOf xs (queryWithin most name class)) (image-entries es lentC lentB fit few small long)
+      answer-entries most (imageContents xs lentC) (imageBodies es lentB) name class (image-is xs es lentC lentB from fit few small long)
+      ∙ ap (λ (l : List Entry). answerOf l (queryWithin most name class)) (image-entries xs es lentC lentB from fit few small long)

@@ -10,14 +10,19 @@ use lib.ListN.{length}
 use borrow.Author.Tests.{le-leb}
 use Rattle.definition.specs.Lists.{if_then_else_, all, any}
 use Rattle.definition.specs.Limits.{mostParts, mostEntries, mostOpens}
-use Rattle.definition.specs.Archive.{File, laidOut, bodyOf, folderOf, pathOf}
+use Rattle.definition.specs.Archive.{File, laidOut, filesOf, bodyOf, folderOf, pathOf}
 use Rattle.definition.specs.Text.{Entry, Line, skipped, include, entry, linesOf}
-use Rattle.definition.specs.Including.{Chain, Event, opened, entered, eventsOf, opening, seeking, including, events, eventsOfAll, entriesOf, opensOf}
-use Rattle.definition.specs.Image.{tooShort, imageContents, imageBodies}
-use Rattle.definition.specs.Reading.{Totals, Verdict, within, past, judge, start, accepted, refused, Outcome, outcome, met, readEntries, plain, left, tooLong, reading}
+use Rattle.definition.specs.Including.{Chain, Event, opened, entered, eventsOf, opening, seeking, including, events, eventsOfAll, Entered, entriesOf, opensOf}
+use Rattle.definition.specs.Image.{Sourced, bare, tooShort, imageContents, imageBodies}
+use Rattle.definition.specs.Reading.{Totals, Verdict, within, past, judge, start, accepted, refused, Outcome, outcome, met, readEntries, plain, sourced, left, tooLong, reading}
 use Rattle.definition.specs.ThirdTerm.{isAccepted}
 use Rattle.laws.proofs.Lists.{not-both, and-true, and-both}
 use Rattle.laws.proofs.Limits.{InLimits, FewParts, judge-limits, limits-judge}
+
+-- the entries of a reading are those that stand in its image
+pub bare-sourced : (fs : List File) (xs : List Entered) → bare (sourced fs xs) ≡ plain xs
+bare-sourced fs [] = refl
+bare-sourced fs (x ∷ xs) = ap (λ (l : List Entry). x .entry ∷ l) (bare-sourced fs xs)
 
 -- ---- An accepted reading
 
@@ -32,7 +37,7 @@ not-refused : (b : Bool) (k : ℕ) (c d : List ℕ) (o : Outcome) → isAccepted
 not-refused true k c d o e = absurd (not-both e refl)
 not-refused false k c d o e = (refl, e)
 
-judged : (v : Verdict) (es : List Entry) (c b : List ℕ) → isAccepted (left v es c b .answer) ≡ true → (s : Totals) × (v ≡ within s)
+judged : (v : Verdict) (es : List Sourced) (c b : List ℕ) → isAccepted (left v es c b .answer) ≡ true → (s : Totals) × (v ≡ within s)
 unfolding left
 judged (within s) es c b e = (s, refl)
 judged (past k) es c b e = absurd (not-both e refl)
@@ -48,7 +53,7 @@ module _ (texts : List (List ℕ)) (archive contents bodies : List ℕ) where
       let a = not-refused (tooShort contents bodies) 1 contents bodies _ e in
       let b = not-refused (any tooLong texts) 2 contents bodies _ (a .1) in
       let c = not-refused (not (laidOut archive)) 3 contents bodies _ (b .1) in
-      let d = judged (judge start (met texts archive)) (plain (readEntries texts archive)) contents bodies (c .1) in
+      let d = judged (judge start (met texts archive)) (sourced (filesOf archive) (readEntries texts archive)) contents bodies (c .1) in
       record {
         long = a .0;
         fit = b .0;
@@ -56,14 +61,14 @@ module _ (texts : List (List ℕ)) (archive contents bodies : List ℕ) where
         limits = judge-limits (met texts archive) start (d .0) (omega arith) (omega arith) (omega arith) (d .1) .1;
       }
 
-  -- it leaves the image of its entries
+  -- it leaves the image of its entries, with their origins
   pub reads-outcome : Reads texts archive contents bodies
       → reading texts archive contents bodies
       ≡ outcome (accepted (0 + length (readEntries texts archive)) (0 + opensOf (met texts archive)))
-      (imageContents (plain (readEntries texts archive)) contents) (imageBodies (plain (readEntries texts archive)) bodies)
+      (imageContents (sourced (filesOf archive) (readEntries texts archive)) contents) (imageBodies (plain (readEntries texts archive)) bodies)
   unfolding reading left
   reads-outcome r =
-      rw (r .long, r .fit, r .isLaidOut, limits-judge (met texts archive) start (r .limits)) refl
+      rw (r .long, r .fit, r .isLaidOut, limits-judge (met texts archive) start (r .limits), bare-sourced (filesOf archive) (readEntries texts archive)) refl
 
 -- an accepted reading answers within the limits
 pub accepted-small : (texts : List (List ℕ)) (archive contents bodies c b : List ℕ) (n o : ℕ) → outcome (accepted n o) c b ≡ reading texts archive contents bodies

@@ -10,16 +10,16 @@ use lib.Dec.{leb}
 use lib.ListN.{length, getD, length-map, List·getD-map}
 use Rattle.definition.specs.Lists.{all}
 use Rattle.definition.specs.Limits.{mostParts, mostEntries, bodyBytes, deepest}
-use Rattle.definition.specs.Archive.{filesOf, struckOff}
+use Rattle.definition.specs.Archive.{filesOf, laidOut, struckOff}
 use Rattle.definition.specs.Text.{Part, Entry, entry}
 use Rattle.definition.specs.Including.{Entered, entriesOf}
-use Rattle.definition.specs.Image.{storeOf, rowsIn, entriesIn, imageContents, imageBodies, isImage}
-use Rattle.definition.specs.Reading.{accepted, outcome, reading, readEntries, plain, met, start}
-use Rattle.definition.specs.Writing.{entriesOfImage}
+use Rattle.definition.specs.Image.{Sourced, storeOf, Row, rowsIn, entriesIn, imageContents, imageBodies, isImage}
+use Rattle.definition.specs.Reading.{accepted, outcome, reading, readEntries, plain, sourced, met, start}
+use Rattle.definition.specs.Writing.{entriesOfImage, sourcesOfImage}
 use Rattle.definition.specs.Query.{Position, Query, positions, malformed, pastLimit, Bounds, queryWithin}
 use Rattle.definition.specs.Matching.{Aligned, Beats}
 use Rattle.definition.specs.Ranking.{Best, noEntry, best, bestOf}
-use Rattle.definition.specs.Lookup.{keysOf, valueOf, answerOf, refused, placeOf, lookup, getBytesWithin, answerIn}
+use Rattle.definition.specs.Lookup.{keysOf, valueOf, answerOf, refused, placeOf, lookup, getBytesBy, getBytesWithin, answerIn}
 use Rattle.definition.specs.ThirdTerm.{cameThrough, leftWithout, entryNumber, NoneThroughBeats, SameBytesWithout, Case, query, fileName, Given, ThirdTerm}
 use Rattle.laws.proofs.Lists.{not-both, and-true, and-both}
 use Rattle.laws.proofs.Archive.{laidOut-says, files-struck, struck-laidOut, removed-gone, removed-other}
@@ -27,7 +27,8 @@ use Rattle.laws.proofs.Struck.{Lacks, eventsWithout, apart, eventsOfAll
 use Rattle.laws.proofs.Limits.{limits-fewer, used-store}
 use Rattle.laws.proofs.Reading.{Reads, accepted-reads, reads-outcome, eventsOfAll-good, few-parts}
 use Rattle.laws.proofs.Keys.{isLegalLine, lines-legal}
-use Rattle.laws.proofs.Image.{isStorable, image-is, image-entries}
+use Rattle.laws.proofs.Image.{isStorable, Sources, image-is, image-entries}
+use Rattle.laws.proofs.Origins.{image-sources, read-sources}
 use Rattle.laws.proofs.Ranking.{best-beats, best-none, beats-one, beats-best, beats-kept, none-kept}
 use Rattle.laws.proofs.Lookup.{answer-image}
 
@@ -142,19 +143,26 @@ all-both p q (x ∷ xs) h k =
     and-both (and-both (a .0) (b .0)) (all-both p q xs (a .1) (b .1))
 
 -- a query within its limits gets a value or none
-replies : (contents bodies : List ℕ) (q : Query) → ((k : ℕ) → q ≡ pastLimit k → ⊥) → (k : ℕ) → lookup contents bodies q ≡ refused k → ⊥
+replies : (rows : List Row) (bodies : List ℕ) (q : Query) → ((k : ℕ) → q ≡ pastLimit k → ⊥) → (k : ℕ) → lookup rows bodies q ≡ refused k → ⊥
 unfolding lookup placeOf
-replies contents bodies (positions qs) h k = at (bestOf (keysOf (entriesIn (rowsIn contents) bodies)) qs)
+replies rows bodies (positions qs) h k = at (bestOf (keysOf (entriesIn rows bodies)) qs)
   where
-    at : (b : Best) → placeOf (rowsIn contents) b ≡ refused k → ⊥
+    at : (b : Best) → placeOf rows b ≡ refused k → ⊥
     at noEntry e = let z : _≡_ {A = ℕ} 0 1 = cc in omega arith
     at (best i row) e = let z : _≡_ {A = ℕ} 0 1 = cc in omega arith
-replies contents bodies malformed h k = λ e. let z : _≡_ {A = ℕ} 0 1 = cc in omega arith
-replies contents bodies (pastLimit j) h k = λ e. absurd (h j refl)
+replies rows bodies malformed h k = λ e. let z : _≡_ {A = ℕ} 0 1 = cc in omega arith
+replies rows bodies (pastLimit j) h k = λ e. absurd (h j refl)
 
 module _ (texts : List (List ℕ)) (archive contents bodies : List ℕ) (r : Reads texts archive contents bodies) where
   abbrev es : List Entry
   es = plain (readEntries texts archive)
+
+  -- with their origins
+  abbrev xs : List Sourced
+  xs = sourced (filesOf archive) (readEntries texts archive)
+
+  from : Sources xs es
+  from = read-sources texts archive (r .isLaidOut)
 
   storable : all isStorable es ≡ true
   unfolding isStorable isLegalLine
@@ -171,10 +179,14 @@ module _ (texts : List (List ℕ)) (archive contents bodies : List ℕ) (r : Rea
 
   -- it leaves an image of its entries
   pub reading-image : isImage (reading texts archive contents bodies .contents) (reading texts archive contents bodies .bodies) ≡ true
-  reading-image = rw (reads-outcome texts archive contents bodies r) (image-is es contents bodies storable few small (r .long))
+  reading-image = rw (reads-outcome texts archive contents bodies r) (image-is xs es contents bodies from storable few small (r .long))
 
   pub reading-entries : entriesIn (rowsIn (reading texts archive contents bodies .contents)) (reading texts archive contents bodies .bodies) ≡ es
-  reading-entries = rw (reads-outcome texts archive contents bodies r) (image-entries es contents bodies storable few small (r .long))
+  reading-entries = rw (reads-outcome texts archive contents bodies r) (image-entries xs es contents bodies from storable few small (r .long))
+
+  -- and of their origins
+  pub reading-sources : sourcesOfImage (reading texts archive contents bodies .contents) (reading texts archive contents bodies .bodies) ≡ xs
+  reading-sources = rw (reads-outcome texts archive contents bodies r) (image-sources xs es contents bodies from storable few small (r .long))
 
   pub reading-answers : (most : Bounds) (name class : List ℕ)
       → answerIn (reading texts archive contents bodies .bodies)
@@ -182,15 +194,15 @@ module _ (texts : List (List ℕ)) (archive contents bodies : List ℕ) (r : Rea
       ≡ answerOf es (queryWithin most name class)
   reading-answers most name class =
       rw (reads-outcome texts archive contents bodies r)
-      (answer-image es contents bodies storable few small (r .long) most name class)
+      (answer-image xs es contents bodies from storable few small (r .long) most name class)
 
   -- and the lookup is not refused
   pub reading-replies : (most : Bounds) (name class : List ℕ) → ((k : ℕ) → queryWithin most name class ≡ pastLimit k → ⊥)
       → (k : ℕ) → getBytesWithin most (reading texts archive contents bodies .contents) (reading texts archive contents bodies .bodies) name class ≡ refused k → ⊥
-  unfolding getBytesWithin
+  unfolding getBytesBy
   reading-replies most name class limits k =
-      rw (reads-outcome texts archive contents bodies r, image-is es contents bodies storable few small (r .long))
-      (replies (imageContents es contents) (imageBodies es bodies) (queryWithin most name class) limits k)
+      rw (reads-outcome texts archive contents bodies r, image-is xs es contents bodies from storable few small (r .long))
+      (replies (rowsIn (imageContents xs contents)) (imageBodies es bodies) (queryWithin most name class) limits k)
 
 -- an accepted reading, by what its call leaves
 pub read-holds : (texts : List (List ℕ)) (archive contents bodies c b : List ℕ) (n o : ℕ) → outcome (accepted n o) c b ≡ reading texts archive contents bodies
@@ -198,6 +210,12 @@ pub read-holds : (texts : List (List ℕ)) (archive contents bodies c b : List �
 read-holds texts archive contents bodies c b n o e =
     let r = accepted-reads texts archive contents bodies (rw (← e) refl) in
     (rw (← e) at (reading-image texts archive contents bodies r), rw (← e) at (reading-entries texts archive contents bodies r))
+
+pub read-sourced : (texts : List (List ℕ)) (archive contents bodies c b : List ℕ) (n o : ℕ) → outcome (accepted n o) c b ≡ reading texts archive contents bodies
+    → (laidOut archive ≡ true) × (sourcesOfImage c b ≡ sourced (filesOf archive) (readEntries texts archive))
+read-sourced texts archive contents bodies c b n o e =
+    let r = accepted-reads texts archive contents bodies (rw (← e) refl) in
+    (r .isLaidOut, rw (← e) at (reading-sources texts archive contents bodies r))
 
 -- ---- The term
 

@@ -17,7 +17,7 @@ use Rattle.definition.specs.Writing.{entriesOfImage}
 use Rattle.definition.specs.Query.{Position, Query, positions, malformed, pastLimit, queryOf}
 use Rattle.definition.specs.Matching.{Aligned}
 use Rattle.definition.specs.Ranking.{rankOf, Best, noEntry, best, bestOf}
-use Rattle.definition.specs.Lookup.{keysOf, given, noValue, refused, placeOf, lookup, getBytesWithin}
+use Rattle.definition.specs.Lookup.{keysOf, given, noValue, refused, placeOf, lookup, getBytesBy}
 use Rattle.definition.specs.Walking.{
   hasRow,
   aligns,
@@ -26,9 +26,10 @@ use Rattle.definition.specs.Walking.{
   Walk,
   nextOf,
   begun,
-  walkStart,
+  walkStartBy,
   numberOr,
   stepped,
+  walkStepBy,
   walkStep,
   AlignsAt,
   NumbersAlign,
@@ -266,13 +267,13 @@ module _ (qs : List Position) where
 -- ---- The calls
 
 pub step-least : StepLeast
-unfolding walkStep stepped
+unfolding walkStepBy stepped
 step-least contents bodies name class w qs e f = rw (e, f) (next-least qs w (entriesOfImage contents bodies))
 
 -- the number of a step is that of an entry, not below the next and below the count
 pub step-within : (contents bodies name class : List ℕ) (w : Walk) (i : ℕ) → walkStep contents bodies name class w ≡ given i
     → (w .next ≤ i) × (i < w .count) × (i < length (entriesOfImage contents bodies)) × (isImage contents bodies ≡ true)
-unfolding walkStep stepped
+unfolding walkStepBy stepped
 step-within contents bodies name class w i h = at (isImage contents bodies) refl (queryOf name class) h
   where
     at : (b : Bool) → isImage contents bodies ≡ b → (q : Query) → (if not b then refused 8 else stepped w (entriesOfImage contents bodies) q) ≡ given i
@@ -291,7 +292,7 @@ step-small contents bodies name class w i h =
     omega (arith, s .2, image-held contents bodies (s .3) .few)
 
 pub refused-alike : RefusedAlike
-unfolding walkStart begun walkStep stepped numberOr getBytesWithin lookup placeOf refusalIn
+unfolding walkStartBy begun walkStepBy stepped numberOr getBytesBy lookup placeOf refusalIn
 refused-alike contents bodies name class w = at (isImage contents bodies) (queryOf name class)
   where
     numbered : (o : Option ℕ) → refusalIn (numberOr o) ≡ none
@@ -303,7 +304,7 @@ refused-alike contents bodies name class w = at (isImage contents bodies) (query
     placed rows (best i row) = refl
 
     at : (b : Bool) (q : Query)
-        → let answer = refusalIn (if not b then refused 8 else lookup contents bodies q) in
+        → let answer = refusalIn (if not b then refused 8 else lookup (rowsIn contents) bodies q) in
         (refusalIn (if not b then refused 8 else begun (countOf contents) q) ≡ answer)
         × (refusalIn (if not b then refused 8 else stepped w (entriesOfImage contents bodies) q) ≡ answer)
     at false q = (refl, refl)

@@ -9,10 +9,10 @@ use lib.Dec.{ltb}
 use lib.ListN.{length}
 use borrow.Author.Tests.{lt-ltb, ltb-true}
 use Rattle.definition.specs.Lists.{if_then_else_}
-use Rattle.definition.specs.Image.{isImage}
+use Rattle.definition.specs.Image.{rowsIn, isImage}
 use Rattle.definition.specs.Query.{Query, positions, malformed, pastLimit, positionsOf, namesOf, Bounds, countedQuery, queryWithin}
-use Rattle.definition.specs.Lookup.{Reply, refused, Place, lookup, getBytesWithin}
-use Rattle.definition.specs.Value.{bytesOr, asString, asBool, asNumber, getStringWithin, getBoolWithin, getValueWithin, shownWithin}
+use Rattle.definition.specs.Lookup.{Reply, refused, Place, lookup, getBytesBy, getBytesWithin}
+use Rattle.definition.specs.Value.{bytesOr, asString, asBool, asNumber, getStringBy, getStringWithin, getBoolBy, getValueBy, shownBy}
 use Rattle.definition.specs.Window.{Admits, SameAnswers, BoundsAgree, WiderAdmits}
 
 -- the query without bounds
@@ -46,11 +46,11 @@ module _ (name class : List ℕ) where
   same-query a b h k = admitted a h ∙ sym (admitted b k)
 
 pub bounds-agree : BoundsAgree
-unfolding getBytesWithin getStringWithin getBoolWithin getValueWithin shownWithin
+unfolding getBytesBy getStringBy getBoolBy getValueBy shownBy
 bounds-agree a b name class h k contents bodies =
     let same = same-query name class a b h k in
     let bytes : getBytesWithin a contents bodies name class ≡ getBytesWithin b contents bodies name class =
-    ap (λ (q : Query). if not (isImage contents bodies) then refused 8 else lookup contents bodies q) same in
+    ap (λ (q : Query). if not (isImage contents bodies) then refused 8 else lookup (rowsIn contents) bodies q) same in
     let string : getStringWithin a contents bodies name class ≡ getStringWithin b contents bodies name class = ap (asString bodies) bytes in
     record { bytes = bytes; string = string; boolean = ap (asBool bodies) string; number = ap (asNumber bodies) string; show = λ default. ap (bytesOr bodies default) bytes }
 

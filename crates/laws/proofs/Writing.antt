@@ -13,11 +13,11 @@ use borrow.Author.Tests.{le-ltb, not-false}
 use Rattle.definition.specs.Lists.{if_then_else_, ascii, all, any, isEmpty, zeroes}
 use Rattle.definition.specs.Limits.{textBytes, contentsWords, bodyBytes, mostEntries, mostParts, writtenBytes}
 use Rattle.definition.specs.Bytes.{backslash, newline, isName, isBlank}
-use Rattle.definition.specs.Archive.{laidOut}
+use Rattle.definition.specs.Archive.{File, laidOut, filesOf}
 use Rattle.definition.specs.Text.{tight, name, Part, Entry, entry, isNamed, endsInName}
-use Rattle.definition.specs.Including.{Event, entered, eventsOf, events, eventsOfAll, entriesOf, opensOf}
-use Rattle.definition.specs.Image.{componentBytes, keyOf, storeOf, imageContents, imageBodies, countOf, usedOf, tooShort, isImage}
-use Rattle.definition.specs.Reading.{outcome, accepted, met, readEntries, plain, start, tooLong, reading}
+use Rattle.definition.specs.Including.{Event, entered, eventsOf, events, eventsOfAll, entriesOf, originOf, opensOf}
+use Rattle.definition.specs.Image.{componentBytes, keyOf, Sourced, allFrom, storeOf, isOrigin, imageContents, imageBodies, countOf, usedOf, tooShort, isImage}
+use Rattle.definition.specs.Reading.{outcome, accepted, met, readEntries, plain, sourced, start, tooLong, reading}
 use Rattle.definition.specs.Writing.{
   escaped,
   beginsBlank,
@@ -25,12 +25,14 @@ use Rattle.definition.specs.Writing.{
   entryText,
   textOf,
   entriesOfImage,
+  SameEntries,
   imageText,
   written,
   refused,
   Filled,
   filled,
   putInto,
+  writingBy,
   writing,
   RoundTrip,
   SameText,
@@ -40,7 +42,7 @@ use Rattle.laws.proofs.Lists.{not-both, and-true, and-both}
 use Rattle.laws.proofs.Keys.{isLegalComponent, isLegal, isLegalLine, component-some}
 use Rattle.laws.proofs.Limits.{InLimits, FewParts, used-store}
 use Rattle.laws.proofs.Reading.{Reads, reads-outcome}
-use Rattle.laws.proofs.Image.{isStorable, Storable, storable, length-zeroes, image-holds, image-sizes, Held, image-held, image-is, image-entries}
+use Rattle.laws.proofs.Image.{isStorable, Storable, storable, length-zeroes, all-from, image-holds, image-sizes, Held, image-held, image-is, image-entries}
 use Rattle.laws.proofs.Written.{blank-plain, text-lines}
 
 -- ---- What a reading of a text of entries meets
@@ -72,6 +74,12 @@ unfolding entriesOf
 entered-plain [] = refl
 entered-plain (e ∷ es) = ap (λ (l : List Entry). e ∷ l) (entered-plain es)
 
+-- their lines stand in the main text
+entered-sourced : (fs : List File) (es : List Entry) → sourced fs (entriesOf (enteredAll es)) ≡ allFrom 0 es
+unfolding entriesOf originOf
+entered-sourced fs [] = refl
+entered-sourced fs (e ∷ es) = ap (λ (l : List Sourced). record { entry = e; origin = 0 } ∷ l) (entered-sourced fs es)
+
 entered-opens : (es : List Entry) → opensOf (enteredAll es) ≡ 0
 unfolding opensOf
 entered-opens [] = refl
@@ -101,7 +109,7 @@ text-entries es archive h = ap (λ (l : List Event). plain (entriesOf l)) (text-
 
 text-reads : (es : List Entry) (archive contents bodies : List ℕ) → Held es → tooLong (textOf es) ≡ false → laidOut archive ≡ true
     → tooShort contents bodies ≡ false
-    → reading (textOf es ∷ []) archive contents bodies ≡ outcome (accepted (length es) 0) (imageContents es contents) (imageBodies es bodies)
+    → reading (textOf es ∷ []) archive contents bodies ≡ outcome (accepted (length es) 0) (imageContents (allFrom 0 es) contents) (imageBodies es bodies)
 unfolding any
 text-reads es archive contents bodies h t a l =
     let m = text-met es archive (h .fit) in
@@ -110,18 +118,25 @@ text-reads es archive contents bodies h t a l =
     let n : 0 + length (readEntries (textOf es ∷ []) archive) ≡ length es = rw m (omega (arith, entered-count es)) in
     let o : 0 + opensOf (met (textOf es ∷ []) archive) ≡ 0 = rw m (omega (arith, entered-opens es)) in
     let p : plain (readEntries (textOf es ∷ []) archive) ≡ es = text-entries es archive (h .fit) in
+    let q : sourced (filesOf archive) (readEntries (textOf es ∷ []) archive) ≡ allFrom 0 es =
+    ap (λ (l : List Event). sourced (filesOf archive) (entriesOf l)) m ∙ entered-sourced (filesOf archive) es in
     reads-outcome (textOf es ∷ []) archive contents bodies r
-    ∙ (λ i. outcome (accepted (n i) (o i)) (imageContents (p i) contents) (imageBodies (p i) bodies))
+    ∙ (λ i. outcome (accepted (n i) (o i)) (imageContents (q i) contents) (imageBodies (p i) bodies))
 
 -- ---- The round trip, and which texts are the same
+
+main-text : isOrigin 0 ≡ true
+unfolding isOrigin
+main-text = refl
 
 pub round-trip : RoundTrip
 round-trip contents bodies archive lentContents lentBodies e t a l =
     let es = entriesOfImage contents bodies in
-    let h = image-held contents bodies e in (
+    let h = image-held contents bodies e in
+    let from = all-from 0 main-text es in (
       text-reads es archive lentContents lentBodies h t a l,
-      image-is es lentContents lentBodies (h .fit) (h .few) (h .small) l,
-      image-entries es lentContents lentBodies (h .fit) (h .few) (h .small) l,
+      image-is (allFrom 0 es) es lentContents lentBodies from (h .fit) (h .few) (h .small) l,
+      image-entries (allFrom 0 es) es lentContents lentBodies from (h .fit) (h .few) (h .small) l,
     )
 
 pub same-text : SameText
@@ -240,14 +255,15 @@ longest-image n h =
     let es = replicate n longest in
     let c = zeroes contentsWords in
     let b = zeroes bodyBytes in
+    let from = all-from 0 main-text es in
     let small : length (storeOf es) ≤ bodyBytes = omega (arith, longest-times n) in
     let few : length es ≤ mostEntries = omega (arith, length-replicate n longest) in
     let long : tooShort c b ≡ false = rw (length-zeroes contentsWords, length-zeroes bodyBytes) refl in
     record {
-      contents = imageContents es c;
+      contents = imageContents (allFrom 0 es) c;
       bodies = imageBodies es b;
-      is = image-is es c b (longest-fit n) few small long;
-      long = ap (λ (l : List Entry). length (textOf l)) (image-entries es c b (longest-fit n) few small long) ∙ longest-text-times n;
+      is = image-is (allFrom 0 es) es c b from (longest-fit n) few small long;
+      long = ap (λ (l : List Entry). length (textOf l)) (image-entries (allFrom 0 es) es c b from (longest-fit n) few small long) ∙ longest-text-times n;
     }
 
 pub longest-text : LongestText
@@ -275,7 +291,7 @@ module _ (n : ℕ) (t : List ℕ) where
 
   module _ (contents bodies buffer : List ℕ) (answered : filled (written n) t ≡ writing contents bodies buffer) where
     pub written-text : Wrote contents bodies n t
-    unfolding writing putInto
+    unfolding writingBy putInto
     written-text =
         let text = imageText contents bodies in
         let p = not-refused (not (isImage contents bodies)) 8 buffer _ answered in
@@ -292,11 +308,11 @@ module _ (n : ℕ) (t : List ℕ) where
     -- and what a reading of it leaves, if it is within limit 2
     pub written-reads : (archive lentContents lentBodies : List ℕ) → n ≤ textBytes → laidOut archive ≡ true → tooShort lentContents lentBodies ≡ false
         → let es = entriesOfImage contents bodies in
-        let c = imageContents es lentContents in
+        let c = imageContents (allFrom 0 es) lentContents in
         let b = imageBodies es lentBodies in
         (reading (take n t ∷ []) archive lentContents lentBodies ≡ outcome (accepted (length es) 0) c b)
         × (isImage c b ≡ true)
-        × (entriesOfImage c b ≡ es)
+        × SameEntries c b contents bodies
     written-reads archive lentContents lentBodies h a l =
         let w = written-text in
         let m : length (imageText contents bodies) ≡ n = ap length (sym (w .text)) ∙ length-take-le n t (w .inside) in
@@ -307,7 +323,7 @@ module _ (n : ℕ) (t : List ℕ) where
 pub written-same : (n n′ : ℕ) (t t′ contents bodies buffer contents′ bodies′ buffer′ : List ℕ)
     → filled (written n) t ≡ writing contents bodies buffer
     → filled (written n′) t′ ≡ writing contents′ bodies′ buffer′
-    → (take n t ≡ take n′ t′) ↔ (entriesOfImage contents bodies ≡ entriesOfImage contents′ bodies′)
+    → (take n t ≡ take n′ t′) ↔ SameEntries contents bodies contents′ bodies′
 written-same n n′ t t′ contents bodies buffer contents′ bodies′ buffer′ p q =
     let w = written-text n t contents bodies buffer p in
     let w′ = written-text n′ t′ contents′ bodies′ buffer′ q in
@@ -317,7 +333,7 @@ written-same n n′ t t′ contents bodies buffer contents′ bodies′ buffer�
 pub bound-suffices : (contents bodies buffer : List ℕ) → isImage contents bodies ≡ true → writtenBytes ≤ length buffer
     → let text = imageText contents bodies in
     writing contents bodies buffer ≡ filled (written (length text)) (text ++ drop (length text) buffer)
-unfolding writing putInto
+unfolding writingBy putInto
 bound-suffices contents bodies buffer e h =
     let text = imageText contents bodies in
     let most : length text ≤ length buffer = omega (arith, image-text-long contents bodies e) in

@@ -22,11 +22,19 @@ pub const MOST_PARTS: usize = 16;
 // Keys and values together, and the bytes of the lent bodies.
 pub const BODY_BYTES: usize = 32768;
 
-// The words of an entry's row: start, key length, value length.
-pub const ROW_WORDS: usize = 3;
+// The words of an entry's row: start, key length, value length, and where its line stands.
+pub const ROW_WORDS: usize = 4;
 
 // The words of the lent contents.
 pub const CONTENTS_WORDS: usize = 2 + ROW_WORDS * MOST_ENTRIES;
+
+// The same of an image from before document 02 (viii).
+pub const OLD_ROW_WORDS: usize = 3;
+
+pub const OLD_CONTENTS_WORDS: usize = 2 + OLD_ROW_WORDS * MOST_ENTRIES;
+
+// The word of a row whose line stands nobody knows where.
+pub const UNKNOWN_FILE: usize = 65535;
 
 // The longest text of an image: document 02 (iv).
 pub const WRITTEN_BYTES: usize = 2 * BODY_BYTES + MOST_ENTRIES;

@@ -9,14 +9,15 @@ use Rattle.definition.specs.Lists.{ascii, zeroes, any}
 use Rattle.definition.specs.Limits.{textBytes, contentsWords, bodyBytes, mostEntries}
 use Rattle.definition.specs.Text.{Entry}
 use Rattle.definition.specs.Including.{Entered, opensOf}
-use Rattle.definition.specs.Image.{Row, keyOf, keyAt, keyEnd, rowsIn, countOf, contentsOf, storeOf, writtenOver, imageContents, imageBodies, tooShort}
+use Rattle.definition.specs.Archive.{filesOf}
+use Rattle.definition.specs.Image.{Sourced, Row, keyOf, keyAt, keyEnd, rowsIn, countOf, contentsOf, storeOf, writtenOver, imageContents, imageBodies, tooShort}
 use Rattle.definition.specs.Evaluation.{noFiles}
-use Rattle.definition.specs.Reading.{accepted, refused, Outcome, outcome, reading, plain, readEntries, met}
+use Rattle.definition.specs.Reading.{accepted, refused, Outcome, outcome, reading, plain, sourced, readEntries, met}
 use borrow.Author.Tests.{lt-ltb}
 use Rattle.laws.proofs.Lists.{slice-at}
-use Rattle.laws.proofs.Image.{rowsAt, length-zeroes, written-long, contents-fit, image-rows, image-count}
+use Rattle.laws.proofs.Image.{rowsAt, length-zeroes, length-bare, written-long, contents-fit, image-rows, image-count}
 use Rattle.laws.proofs.Limits.{used-store}
-use Rattle.laws.proofs.Reading.{Reads, accepted-reads, reads-outcome}
+use Rattle.laws.proofs.Reading.{bare-sourced, Reads, accepted-reads, reads-outcome}
 use Rattle.image.specs.Rows.{rowAt}
 use Rattle.image.proofs.Rows.{row-is}
 use Rattle.printing.specs.Putting.{Appends}
@@ -74,14 +75,24 @@ module _ (text c b : List ℕ) (n o : ℕ) (e : outcome (accepted n o) c b ≡ r
   abbrev es : List Entry
   es = plain (readEntries (text ∷ []) noFiles)
 
+  -- with their origins
+  abbrev xs : List Sourced
+  xs = sourced (filesOf noFiles) (readEntries (text ∷ []) noFiles)
+
+  rows-are : rowsIn (imageContents xs words) ≡ rowsAt 0 es
+  rows-are = image-rows xs words ∙ ap (rowsAt 0) (bare-sourced (filesOf noFiles) (readEntries (text ∷ []) noFiles))
+
+  as-many : length xs ≡ length es
+  as-many = sym (length-bare xs) ∙ ap length (bare-sourced (filesOf noFiles) (readEntries (text ∷ []) noFiles))
+
   reads : Reads (text ∷ []) noFiles words bytes
   reads = accepted-reads (text ∷ []) noFiles words bytes (rw (← e) refl)
 
   left : outcome (accepted n o) c b
-      ≡ outcome (accepted (0 + length (readEntries (text ∷ []) noFiles)) (0 + opensOf (met (text ∷ []) noFiles))) (imageContents es words) (imageBodies es bytes)
+      ≡ outcome (accepted (0 + length (readEntries (text ∷ []) noFiles)) (0 + opensOf (met (text ∷ []) noFiles))) (imageContents xs words) (imageBodies es bytes)
   left = e ∙ reads-outcome (text ∷ []) noFiles words bytes reads
 
-  contents-are : c ≡ imageContents es words
+  contents-are : c ≡ imageContents xs words
   contents-are = ap (λ (x : Outcome). x .contents) left
 
   bodies-are : b ≡ imageBodies es bytes
@@ -106,21 +117,21 @@ module _ (text c b : List ℕ) (n o : ℕ) (e : outcome (accepted n o) c b ≡ r
   unfolding writtenOver
   lines-are =
       ap (λ (x : List ℕ). rowLines 0 (rowsIn x) b) contents-are
-      ∙ ap (λ (x : List ℕ). rowLines 0 (rowsIn (imageContents es words)) x) bodies-are
-      ∙ ap (λ (rs : List Row). rowLines 0 rs (imageBodies es bytes)) (image-rows es words)
+      ∙ ap (λ (x : List ℕ). rowLines 0 (rowsIn (imageContents xs words)) x) bodies-are
+      ∙ ap (λ (rs : List Row). rowLines 0 rs (imageBodies es bytes)) rows-are
       ∙ lines-of 0 es [] _ (imageBodies es bytes) (append-assoc (storeOf es) _ _)
 
   key-within : (i : ℕ) → i < countOf c → keyEnd (rowAt c i) ≤ length b
   key-within i h =
       let d : Row = record { start = 0; keyLength = 0; valueLength = 0 } in
-      let m : i < length es = omega (arith, h, ap countOf contents-are, image-count es words) in
-      let row : rowAt c i ≡ getD (rowsAt 0 es) i d = sym (row-is c i d h) ∙ ap (λ (x : List ℕ). getD (rowsIn x) i d) contents-are ∙ ap (λ (rs : List Row). getD rs i d) (image-rows es words) in
+      let m : i < length es = omega (arith, h, ap countOf contents-are, image-count xs words, as-many) in
+      let row : rowAt c i ≡ getD (rowsAt 0 es) i d = sym (row-is c i d h) ∙ ap (λ (x : List ℕ). getD (rowsIn x) i d) contents-are ∙ ap (λ (rs : List Row). getD rs i d) rows-are in
       omega (arith, ap keyEnd row, keys-end es 0 i d m, small, ap length bodies-are, written-long bodyBytes bytes (storeOf es) small (omega (arith, length-zeroes bodyBytes)), length-zeroes bodyBytes)
 
   -- the rows can be listed after the first line
   pub listable : (out : List ℕ) (at : ℕ) → at ≤ 29 → listBytes ≤ length out → Listable c b out at
   listable out at h room = record {
-    rows-within = omega (arith, ap countOf contents-are, image-count es words, few, ap length contents-are, written-long contentsWords words (contentsOf es) (contents-fit es few) (omega (arith, length-zeroes contentsWords)), length-zeroes contentsWords);
+    rows-within = omega (arith, ap countOf contents-are, image-count xs words, as-many, few, ap length contents-are, written-long contentsWords words (contentsOf xs) (contents-fit xs (omega (arith, as-many, few))) (omega (arith, length-zeroes contentsWords)), length-zeroes contentsWords);
     keys-within = key-within;
     room = omega (arith, ap length lines-are, lines-most 0 es, few, small);
   }

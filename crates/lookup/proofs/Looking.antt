@@ -16,7 +16,7 @@ use Rattle.definition.specs.Image as image
 use Rattle.definition.specs.Image.{rowsFrom, rowsIn, countOf, keyEnd, valueEnd, keyAt, keyParts, entriesIn, isImage}
 use Rattle.definition.specs.Query.{Position, Query, positions, malformed, pastLimit, Bounds, queryWithin}
 use Rattle.definition.specs.Ranking.{Best, noEntry, best, rankOf, better, bestFrom, bestOf}
-use Rattle.definition.specs.Lookup.{keysOf, Reply, given, noValue, refused, Place, placeOf, lookup, getBytesWithin}
+use Rattle.definition.specs.Lookup.{keysOf, Reply, given, noValue, refused, Place, placeOf, lookup, getBytesBy, getBytesWithin}
 use Rattle.laws.proofs.Image.{count-rows}
 use Rattle.laws.proofs.Ranking.{best-beats}
 use Rattle.query.specs.Splits.{Inside}
@@ -210,7 +210,7 @@ module _ (contents bodies : List ℕ) where
   unfolding bestOf
   searched-all qs = searched-best (keysOf (entriesIn (rowsLeft contents (countOf contents) 0) bodies)) qs 0 noEntry ∙ rw (sub-zero (countOf contents)) refl
 
-  value-is : (qs : List Position) → valueIn contents (numbered (searchedIn false 0 (countOf contents) contents bodies qs)) ≡ lookup contents bodies (positions qs)
+  value-is : (qs : List Position) → valueIn contents (numbered (searchedIn false 0 (countOf contents) contents bodies qs)) ≡ lookup (rowsIn contents) bodies (positions qs)
   unfolding lookup valueIn
   value-is qs = rw (searched-all qs) (at (bestOf keys qs) refl)
     where
@@ -224,11 +224,11 @@ module _ (contents bodies : List ℕ) where
 -- an image is judged before any query
 module _ (most : Bounds) (contents bodies name class : List ℕ) where
   pub no-bytes : isImage contents bodies ≡ false → refused 8 ≡ getBytesWithin most contents bodies name class
-  unfolding getBytesWithin
+  unfolding getBytesBy
   no-bytes e = rw e refl
 
   pub past : isImage contents bodies ≡ true → (k : ℕ) → queryWithin most name class ≡ pastLimit k → refused k ≡ getBytesWithin most contents bodies name class
-  unfolding getBytesWithin lookup
+  unfolding getBytesBy lookup
   past e k f = rw (e, f) refl
 
   pub no-image : (first : Bool) (next count : ℕ) → isImage contents bodies ≡ false → refused 8 ≡ entryWithin most first next count contents bodies name class
@@ -243,8 +243,8 @@ module _ (most : Bounds) (contents bodies name class : List ℕ) where
     query-shaped : (t : Shape) → s ≡ t → queryWithin most name class ≡ shaped t ps
     query-shaped t f = query-is most name class N C ∙ ap (λ (x : Shape). shaped x ps) (sym e ∙ f)
 
-    bytes-shaped : (t : Shape) → s ≡ t → lookup contents bodies (shaped t ps) ≡ getBytesWithin most contents bodies name class
-    unfolding getBytesWithin
+    bytes-shaped : (t : Shape) → s ≡ t → lookup (rowsIn contents) bodies (shaped t ps) ≡ getBytesWithin most contents bodies name class
+    unfolding getBytesBy
     bytes-shaped t f = rw (image, query-shaped t f) refl
 
     pub bytes-long : s ≡ Long → refused 9 ≡ getBytesWithin most contents bodies name class
@@ -323,7 +323,7 @@ module _ (contents bodies : List ℕ) (image : isImage contents bodies ≡ true)
       let s : p + n ≡ valueEnd (rowAt contents i) = ap (λ (x : Place). x .start + x .length) same ∙ ap valueEnd at in
       (omega (arith, s, j .row-inside i h, j .used-most), j .bodies-long)
 
-  looked-placed : (q : Query) → given place ≡ lookup contents bodies q → Inside-image
+  looked-placed : (q : Query) → given place ≡ lookup (rowsIn contents) bodies q → Inside-image
   unfolding lookup
   looked-placed (positions qs) e = best-placed qs _ refl e
   looked-placed malformed e = absurd (let z : _≡_ {A = ℕ} 0 1 = cc in omega arith)
@@ -331,10 +331,10 @@ module _ (contents bodies : List ℕ) (image : isImage contents bodies ≡ true)
 
 pub found-placed : (most : Bounds) (contents bodies name class : List ℕ) (p n : ℕ) → given (record { start = p; length = n }) ≡ getBytesWithin most contents bodies name class
     → (p + n ≤ bodyBytes) × (bodyBytes ≤ length bodies)
-unfolding getBytesWithin
+unfolding getBytesBy
 found-placed most contents bodies name class p n = at (isImage contents bodies) refl
   where
-    at : (b : Bool) → isImage contents bodies ≡ b → given (record { start = p; length = n }) ≡ (if not b then refused 8 else lookup contents bodies (queryWithin most name class))
+    at : (b : Bool) → isImage contents bodies ≡ b → given (record { start = p; length = n }) ≡ (if not b then refused 8 else lookup (rowsIn contents) bodies (queryWithin most name class))
         → (p + n ≤ bodyBytes) × (bodyBytes ≤ length bodies)
     at true i e = looked-placed contents bodies i p n (queryWithin most name class) e
     at false i e = absurd (let z : _≡_ {A = ℕ} 0 1 = cc in omega arith)

@@ -9,8 +9,8 @@ use Rattle.definition.specs.Lists.{if_then_else_}
 use Rattle.definition.specs.Image.{Row, rowsIn, isImage}
 use Rattle.definition.specs.Query.{Query, positions, malformed, pastLimit, Bounds, queryWithin}
 use Rattle.definition.specs.Ranking.{Best, noEntry, best, bestOf}
-use Rattle.definition.specs.Lookup.{Reply, given, noValue, refused, Place, placeOf, lookup, getBytesWithin, bytesAt, answerIn}
-use Rattle.definition.specs.Value.{isUtf8, i64Of, toBool, replied, readAs, numberOf, bytesOr, asString, asBool, asNumber, getStringWithin, getBoolWithin, getValueWithin, shownWithin}
+use Rattle.definition.specs.Lookup.{Reply, given, noValue, refused, Place, placeOf, lookup, getBytesBy, getBytesWithin, bytesAt, answerIn}
+use Rattle.definition.specs.Value.{isUtf8, i64Of, toBool, replied, readAs, numberOf, bytesOr, asString, asBool, asNumber, getStringBy, getStringWithin, getBoolBy, getValueBy, shownBy}
 use Rattle.definition.specs.Writing.{entriesOfImage}
 use Rattle.definition.specs.Orders.{Reordered, inBytes, AnswerAlike, ImagesAlike}
 use Rattle.laws.proofs.Lookup.{answer-entries}
@@ -67,8 +67,8 @@ module _ (contents bodies contents′ bodies′ : List ℕ) where
   places-alike rows rows′ (best i r) noEntry e = let z : _≡_ {A = ℕ} 0 1 = cc in absurd (omega arith)
   places-alike rows rows′ (best i r) (best j s) e = ap replied e
 
-  lookups-alike : (q : Query) → answerIn bodies (lookup contents bodies q) ≡ answerIn bodies′ (lookup contents′ bodies′ q)
-      → inBytes bodies (lookup contents bodies q) ≡ inBytes bodies′ (lookup contents′ bodies′ q)
+  lookups-alike : (q : Query) → answerIn bodies (lookup (rowsIn contents) bodies q) ≡ answerIn bodies′ (lookup (rowsIn contents′) bodies′ q)
+      → inBytes bodies (lookup (rowsIn contents) bodies q) ≡ inBytes bodies′ (lookup (rowsIn contents′) bodies′ q)
   unfolding lookup readAs
   lookups-alike (positions qs) e = places-alike (rowsIn contents) (rowsIn contents′) (bestOf _ qs) (bestOf _ qs) e
   lookups-alike malformed e = refl
@@ -83,15 +83,15 @@ module _ (contents bodies contents′ bodies′ : List ℕ) where
         ∙ sym (answer-entries most contents′ bodies′ name class h′)
 
     by-bytes : inBytes bodies (getBytesWithin most contents bodies name class) ≡ inBytes bodies′ (getBytesWithin most contents′ bodies′ name class)
-    unfolding getBytesWithin
+    unfolding getBytesBy
     by-bytes = rw (h, h′) (lookups-alike (queryWithin most name class) (rw (h, h′) at answers))
 
     by-string : inBytes bodies (getStringWithin most contents bodies name class) ≡ inBytes bodies′ (getStringWithin most contents′ bodies′ name class)
-    unfolding getStringWithin asString
+    unfolding getStringBy asString
     by-string = string-bytes bodies _ ∙ ap (read wellFormed) by-bytes ∙ sym (string-bytes bodies′ _)
 
     alike : AnswerAlike most contents bodies contents′ bodies′ name class
-    unfolding getBoolWithin getValueWithin shownWithin asBool asNumber
+    unfolding getBoolBy getValueBy shownBy asBool asNumber
     alike = record {
       bytes = by-bytes;
       string = by-string;

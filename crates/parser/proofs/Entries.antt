@@ -28,22 +28,22 @@ use Rattle.parser.specs.Putting.{entryFrom, Asked, lineAfter, Puts}
 -- ---- The limits on an entry
 
 -- 5, 6, 7
-module _ (s : Totals) (c b : List ℕ) (e : Entry) where
-  put-parts : mostParts < length (e .parts) → put (world s c b) e ≡ stopped 5 c b
+module _ (origin : ℕ) (s : Totals) (c b : List ℕ) (e : Entry) where
+  put-parts : mostParts < length (e .parts) → put origin (world s c b) e ≡ stopped 5 c b
   unfolding put
   put-parts h = rw (lt-ltb mostParts (length (e .parts)) h) refl
 
   module _ (few : length (e .parts) ≤ mostParts) where
-    put-count : mostEntries ≤ s .entries → put (world s c b) e ≡ stopped 6 c b
+    put-count : mostEntries ≤ s .entries → put origin (world s c b) e ≡ stopped 6 c b
     unfolding put
     put-count h = rw (le-ltb mostParts (length (e .parts)) few, le-leb mostEntries (s .entries) h) refl
 
     module _ (room : s .entries < mostEntries) where
-      put-full : bodyBytes < s .used + sizeOf e → put (world s c b) e ≡ stopped 7 c (cut (world s c b) e)
+      put-full : bodyBytes < s .used + sizeOf e → put origin (world s c b) e ≡ stopped 7 c (cut (world s c b) e)
       unfolding put
       put-full h = rw (le-ltb mostParts (length (e .parts)) few, lt-leb mostEntries (s .entries) room, lt-ltb bodyBytes (s .used + sizeOf e) h) refl
 
-      pub put-fits : s .used + sizeOf e ≤ bodyBytes → put (world s c b) e ≡ went (stored (world s c b) e)
+      pub put-fits : s .used + sizeOf e ≤ bodyBytes → put origin (world s c b) e ≡ went (stored origin (world s c b) e)
       unfolding put
       put-fits h = rw (le-ltb mostParts (length (e .parts)) few, lt-leb mostEntries (s .entries) room, le-ltb bodyBytes (s .used + sizeOf e) h) refl
 
@@ -107,18 +107,18 @@ module _ (t : List ℕ) (v : ℕ) (inside : v ≤ length t) (u : List ℕ) (is :
 
 -- ---- The answers of parse_entry
 
-module _ {t : List ℕ} {v count size : ℕ} {verbatim : Bool} {s : Totals} {c b : List ℕ} (a : Asked t v count size verbatim s c b) where
-  pub many-parts : mostParts < count → put (world s c b) (entryFrom t v) ≡ stopped 5 c b
-  many-parts h = put-parts s c b (entryFrom t v) (omega (arith, a .parts))
+module _ {t : List ℕ} {v count size : ℕ} {verbatim : Bool} {s : Totals} {c b : List ℕ} (origin : ℕ) (a : Asked t v count size verbatim s c b) where
+  pub many-parts : mostParts < count → put origin (world s c b) (entryFrom t v) ≡ stopped 5 c b
+  many-parts h = put-parts origin s c b (entryFrom t v) (omega (arith, a .parts))
 
   module _ (few : count ≤ mostParts) where
-    pub many-entries : mostEntries ≤ s .entries → put (world s c b) (entryFrom t v) ≡ stopped 6 c b
-    many-entries h = put-count s c b (entryFrom t v) (omega (arith, a .parts)) h
+    pub many-entries : mostEntries ≤ s .entries → put origin (world s c b) (entryFrom t v) ≡ stopped 6 c b
+    many-entries h = put-count origin s c b (entryFrom t v) (omega (arith, a .parts)) h
 
-    pub long-key : s .entries < mostEntries → length b - s .used < size → put (world s c b) (entryFrom t v) ≡ stopped 7 c b
+    pub long-key : s .entries < mostEntries → length b - s .used < size → put origin (world s c b) (entryFrom t v) ≡ stopped 7 c b
     long-key less h =
         let long : bodyBytes < s .used + length (keyOf (partsOf t)) = omega (arith, a .key, a .room .used-most, a .room .bytes-long) in
-        put-full s c b (entryFrom t v) (omega (arith, a .parts)) less (omega arith) ∙ ap (stopped 7 c) (cut-none s c b (entryFrom t v) long)
+        put-full origin s c b (entryFrom t v) (omega (arith, a .parts)) less (omega arith) ∙ ap (stopped 7 c) (cut-none origin s c b (entryFrom t v) long)
 
 -- the entry keeps the limits so far, its key is written, and u is the value's text
 pub record Keyed (t : List ℕ) (v count size : ℕ) (verbatim : Bool) (s : Totals) (c b b₁ u : List ℕ) : Type 0 where
@@ -149,16 +149,16 @@ module _ {t : List ℕ} {v count size : ℕ} {verbatim : Bool} {s : Totals} {c b
       rw (k .written, k .asked .key, value-is t v (k .asked .inside) u (k .is)) refl
       ∙ both-stored b (keyOf (partsOf t)) (e .value) (s .used) n (omega (arith, k .fits, k .asked .key, k .asked .room .used-most, k .asked .room .bytes-long))
 
-  pub long-value : {b₂ : List ℕ} → Decoded u b₁ (s .used + size) b₂ Full → put (world s c b) e ≡ stopped 7 c b₂
-  long-value {b₂} d =
+  pub long-value : (origin : ℕ) {b₂ : List ℕ} → Decoded u b₁ (s .used + size) b₂ Full → put origin (world s c b) e ≡ stopped 7 c b₂
+  long-value origin {b₂} d =
       let h = decoded-full d in
       let r = k .asked .room in
       let short : s .used + length (keyOf (partsOf t)) ≤ bodyBytes = omega (arith, k .fits, k .asked .key, r .used-most, r .bytes-long) in
       let n : length (keyOf (partsOf t)) + (length b₁ - (s .used + size)) ≡ bodyBytes - s .used = omega (arith, k .asked .key, k .long, r .bytes-long) in
       let most : length b₁ - (s .used + size) ≤ length (decodedAt u) = omega arith in
-      put-full s c b e few-parts (k .less) (omega (arith, value-long, k .asked .key, k .long, r .bytes-long))
+      put-full origin s c b e few-parts (k .less) (omega (arith, value-long, k .asked .key, k .long, r .bytes-long))
       ∙ ap (stopped 7 c)
-      (cut-some s c b e short
+      (cut-some origin s c b e short
       ∙ ap (λ (m : ℕ). paste b (s .used) (keyOf (partsOf t) ++ e .value) m) (sym n)
       ∙ sym (d .stored ∙ ap (paste b₁ (s .used + size) (decodedAt u)) (min-eq-right most) ∙ behind-key (length b₁ - (s .used + size))))
 
@@ -180,29 +180,29 @@ module _ {t : List ℕ} {v count size : ℕ} {verbatim : Bool} {s : Totals} {c b
     ends-at : (n : ℕ) → drop n t ≡ drop 1 (pieces (drop v t) .rest) → n ≤ length t → n ≡ lineAfter t v
     ends-at n h most = omega (arith, length-drop n t, ap length h)
 
-    module _ {c₂ : List ℕ} (rowed : c₂ ≡ withRow c (s .entries) (record { start = s .used; keyLength = size; valueLength = end - (s .used + size) })) where
+    module _ (origin : ℕ) {c₂ : List ℕ} (rowed : c₂ ≡ withRow c (s .entries) (record { start = s .used; keyLength = size; valueLength = end - (s .used + size) }) origin) where
       abbrev next : Totals
       next = record { opens = s .opens; entries = s .entries + 1; used = end }
 
-      words-are : withRow c (s .entries) (rowFor (s .used) e) ≡ c₂
+      words-are : withRow c (s .entries) (rowFor (s .used) e) origin ≡ c₂
       words-are =
           let n : end - (s .used + size) ≡ length (e .value) = omega (arith, st .ends, value-long) in
           sym (rowed ∙ rw (n, k .asked .key) refl)
 
-      stored-is : put (world s c b) e ≡ went (world next c₂ b₂)
+      stored-is : put origin (world s c b) e ≡ went (world next c₂ b₂)
       stored-is =
           let used : s .used + sizeOf e ≡ end = omega (arith, st .ends, value-long, k .asked .key) in
-          put-fits s c b e few-parts (k .less) (omega (arith, ends-inside))
+          put-fits origin s c b e few-parts (k .less) (omega (arith, ends-inside))
           ∙ (λ i. went (record {
             totals = record { opens = s .opens; entries = s .entries + 1; used = used i };
             words = words-are i;
             bytes = bytes-are i;
           }))
 
-      pub done-next : length t - length u + taken < length t → Puts t v (world s c b) c₂ b₂ (length t - length u + taken + 1) next
+      pub done-next : length t - length u + taken < length t → Puts t v origin (world s c b) c₂ b₂ (length t - length u + taken + 1) next
       done-next h = record { is = stored-is; next = ends-at _ (next-line t v (k .asked .inside) u (k .is) taken (st .rest) (st .inside)) (omega arith) }
 
-      pub done-last : length t ≤ length t - length u + taken → Puts t v (world s c b) c₂ b₂ (length t - length u + taken) next
+      pub done-last : length t ≤ length t - length u + taken → Puts t v origin (world s c b) c₂ b₂ (length t - length u + taken) next
       done-last h = record { is = stored-is; next = ends-at _ (last-line t v (k .asked .inside) u (k .is) taken (st .rest) (st .inside) h) passed-inside }
 
 -- ---- What a caller reads off an entry that is stored
@@ -214,7 +214,7 @@ after-value t v h = one (pieces (drop v t) .rest) (suffix-trans (rest-suffix (af
     one [] s = s
     one (x ∷ u) s = suffix-drop s 1 (omega arith)
 
-module _ {t : List ℕ} {v : ℕ} {w : World} {c b : List ℕ} {n : ℕ} {s : Totals} (h : v ≤ length t) (p : Puts t v w c b n s) where
+module _ {t : List ℕ} {v origin : ℕ} {w : World} {c b : List ℕ} {n : ℕ} {s : Totals} (h : v ≤ length t) (p : Puts t v origin w c b n s) where
   pub puts-next : drop n t ≡ drop 1 (pieces (drop v t) .rest)
   puts-next = rw (p .next) (after-value t v h .same)
 

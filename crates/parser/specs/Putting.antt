@@ -30,11 +30,11 @@ pub record Asked (t : List ℕ) (v count size : ℕ) (verbatim : Bool) (s : Tota
 abbrev pub lineAfter : List ℕ → ℕ → ℕ
 lineAfter t v = length t - length (drop 1 (pieces (drop v t) .rest))
 
--- the entry is stored, and the next line starts at n
-pub record Puts (t : List ℕ) (v : ℕ) (w : World) (words bytes : List ℕ) (n : ℕ) (s : Totals) : Type 0 where
-  pub is : put w (entryFrom t v) ≡ went (world s words bytes)
+-- the entry is stored with its origin, and the next line starts at n
+pub record Puts (t : List ℕ) (v origin : ℕ) (w : World) (words bytes : List ℕ) (n : ℕ) (s : Totals) : Type 0 where
+  pub is : put origin w (entryFrom t v) ≡ went (world s words bytes)
   pub next : n ≡ lineAfter t v
 
-abbrev pub Putting : List ℕ → ℕ → World → List ℕ → List ℕ → Put → Type 0
-Putting t v w words bytes (Done n s) = Puts t v w words bytes n s
-Putting t v w words bytes (Stop k) = put w (entryFrom t v) ≡ stopped k words bytes
+abbrev pub Putting : List ℕ → ℕ → ℕ → World → List ℕ → List ℕ → Put → Type 0
+Putting t v origin w words bytes (Done n s) = Puts t v origin w words bytes n s
+Putting t v origin w words bytes (Stop k) = put origin w (entryFrom t v) ≡ stopped k words bytes

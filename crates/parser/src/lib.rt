@@ -19,7 +19,7 @@ pub enum Put {
     Stop(u8),
 }
 
-// Stores the entry of a line, whose value's text starts at `value`.
+// Stores the entry of a line, whose value's text starts at `value`; the line stands in the text of `origin`.
 pub fn parse_entry(
     classes: &[u8; 256],
     text: &[u8],
@@ -30,9 +30,10 @@ pub fn parse_entry(
     totals: Totals,
     words: &mut [u16],
     store: &mut [u8],
+    origin: u16,
 ) -> Put
     requires { ⌜ (now classes ≡ byteClasses) × Asked (now text) value count size verbatim totals (now words) (now store) ⌝ }
-    ensures { λ r. ⌜ Putting (now (text .entry)) value (world totals (now (words .entry)) (now (store .entry))) (now (words .exit)) (now (store .exit)) r ⌝ }
+    ensures { λ r. ⌜ Putting (now (text .entry)) value origin (world totals (now (words .entry)) (now (store .entry))) (now (words .exit)) (now (store .exit)) r ⌝ }
 {
     let opens = totals.opens;
     let entries = totals.entries;
@@ -59,7 +60,7 @@ pub fn parse_entry(
         key: size,
         value: length,
     };
-    write_row(words, entries, row);
+    write_row(words, entries, row, origin);
     let next = Totals {
         opens,
         entries: entries + 1,

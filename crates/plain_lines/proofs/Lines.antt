@@ -12,8 +12,9 @@ use Rattle.definition.specs.Lists.{if_then_else_, takeWhile, dropWhile}
 use Rattle.definition.specs.Limits.{mostEntries, bodyBytes, contentsWords}
 use Rattle.definition.specs.Parsing.{found}
 use Rattle.definition.specs.Bytes.{newline, exclamation, notNewline}
+use Rattle.definition.specs.Archive.{File}
 use Rattle.definition.specs.Text.{Entry, Line, skipped, entry, lineEnd, lineAt, linesOf}
-use Rattle.definition.specs.Including.{Chain, Event, entered, eventsOf}
+use Rattle.definition.specs.Including.{Chain, Event, eventsOf, originOf}
 use Rattle.definition.specs.Reading.{sizeOf}
 use Rattle.laws.proofs.Lists.{and-true, part-rest, drop-run, length-takeWhile-le}
 use Rattle.laws.proofs.Parsing.{many-more}
@@ -21,7 +22,7 @@ use Rattle.laws.proofs.Keys.{line-shrinks}
 use Rattle.image.specs.Rows.{withRow}
 use Rattle.image.specs.Running.{World, world, Room, went, rowFor, put, andThen, run}
 use Rattle.image.specs.declared.Totals.{Totals}
-use Rattle.image.proofs.Runs.{step-room}
+use Rattle.image.proofs.Runs.{put-room}
 use Rattle.parser.proofs.Entries.{put-fits}
 use Rattle.plain_keys.specs.Ended.{Ended}
 use Rattle.plain_keys.proofs.Ends.{ended-rest}
@@ -37,15 +38,15 @@ pub lines-step : (t : List ℕ) (l : Line) (u : List ℕ) → lineAt t ≡ found
 unfolding linesOf
 lines-step t l u e = ap (λ p. p .items) (many-more lineAt line-shrinks t l u e)
 
-pub line-enters : (including : List ℕ → List Event) (ch : Chain) (w : World) (t u : List ℕ) (x : Entry) → lineAt t ≡ found (entry x) u
-    → run w (eventsOf including ch (linesOf t)) ≡ andThen (put w x) (λ v. run v (eventsOf including ch (linesOf u)))
+pub line-enters : (fs : List File) (including : List ℕ → List Event) (ch : Chain) (w : World) (t u : List ℕ) (x : Entry) → lineAt t ≡ found (entry x) u
+    → run fs w (eventsOf including ch (linesOf t)) ≡ andThen (put (originOf fs ch) w x) (λ v. run fs v (eventsOf including ch (linesOf u)))
 unfolding eventsOf run
-line-enters including ch w t u x e = rw (lines-step t (entry x) u e) refl
+line-enters fs including ch w t u x e = rw (lines-step t (entry x) u e) refl
 
-pub line-skips : (including : List ℕ → List Event) (ch : Chain) (w : World) (t u : List ℕ) → lineAt t ≡ found skipped u
-    → run w (eventsOf including ch (linesOf t)) ≡ run w (eventsOf including ch (linesOf u))
+pub line-skips : (fs : List File) (including : List ℕ → List Event) (ch : Chain) (w : World) (t u : List ℕ) → lineAt t ≡ found skipped u
+    → run fs w (eventsOf including ch (linesOf t)) ≡ run fs w (eventsOf including ch (linesOf u))
 unfolding eventsOf
-line-skips including ch w t u e = rw (lines-step t skipped u e) refl
+line-skips fs including ch w t u e = rw (lines-step t skipped u e) refl
 
 -- ---- A line that is passed over
 
@@ -113,42 +114,43 @@ line-at {t} e taken h b used = line-takes (rw (part-rest t taken) at (ended-rest
 abbrev pub ahead : Totals → Ahead → Totals
 ahead s r = record { opens = s .opens; entries = r .entries; used = r .used }
 
--- reading all of t from w comes to the same as reading the rest from here, whatever includes add, and in every chain
-pub record Goes (t : List ℕ) (w : World) (c b : List ℕ) (r : Ahead) : Type 0 where
-  pub same : (including : List ℕ → List Event) (chain : Chain)
-      → run w (eventsOf including chain (linesOf t)) ≡ run (world (ahead (w .totals) r) c b) (eventsOf including chain (linesOf (drop (r .taken) t)))
+-- reading all of t from w comes to the same as reading the rest from here, whatever the archive and whatever includes add, in every chain of
+-- that origin
+pub record Goes (origin : ℕ) (t : List ℕ) (w : World) (c b : List ℕ) (r : Ahead) : Type 0 where
+  pub same : (fs : List File) (including : List ℕ → List Event) (chain : Chain) → originOf fs chain ≡ origin
+      → run fs w (eventsOf including chain (linesOf t)) ≡ run fs (world (ahead (w .totals) r) c b) (eventsOf including chain (linesOf (drop (r .taken) t)))
   pub room : Room (ahead (w .totals) r) c b
   pub inside : r .taken ≤ length t
 
-abbrev GoesTo : List ℕ → World → Reached → Type 0
-GoesTo t w z = Goes t w (z .words) (z .bytes) (z .ahead)
+abbrev GoesTo : ℕ → List ℕ → World → Reached → Type 0
+GoesTo origin t w z = Goes origin t w (z .words) (z .bytes) (z .ahead)
 
 -- so far the lines go, and there is room for the rest of the text
-record Going (t : List ℕ) (w : World) (c b : List ℕ) (taken entries used : ℕ) : Type 0 where
-  pub goes : Goes t w c b (to taken entries used)
+record Going (origin : ℕ) (t : List ℕ) (w : World) (c b : List ℕ) (taken entries used : ℕ) : Type 0 where
+  pub goes : Goes origin t w c b (to taken entries used)
   pub fits : used + (length t - taken) ≤ length b
 
 -- none is read
-goes-first : (t : List ℕ) (s : Totals) (c b : List ℕ) → Room s c b → Goes t (world s c b) c b (to 0 (s .entries) (s .used))
-goes-first t s c b r = record { same = λ including ch. refl; room = r; inside = omega arith }
+goes-first : (origin : ℕ) (t : List ℕ) (s : Totals) (c b : List ℕ) → Room s c b → Goes origin t (world s c b) c b (to 0 (s .entries) (s .used))
+goes-first origin t s c b r = record { same = λ fs including ch o. refl; room = r; inside = omega arith }
 
-going-first : (t : List ℕ) (s : Totals) (c b : List ℕ) → Room s c b → length t ≤ length b - s .used → Going t (world s c b) c b 0 (s .entries) (s .used)
-going-first t s c b r h = record { goes = goes-first t s c b r; fits = omega (arith, r .used-most, r .bytes-long) }
+going-first : (origin : ℕ) (t : List ℕ) (s : Totals) (c b : List ℕ) → Room s c b → length t ≤ length b - s .used → Going origin t (world s c b) c b 0 (s .entries) (s .used)
+going-first origin t s c b r h = record { goes = goes-first origin t s c b r; fits = omega (arith, r .used-most, r .bytes-long) }
 
-module _ {t : List ℕ} {w : World} {c b : List ℕ} {taken entries used : ℕ} (g : Going t w c b taken entries used) (h : taken < length t) where
+module _ {origin : ℕ} {t : List ℕ} {w : World} {c b : List ℕ} {taken entries used : ℕ} (g : Going origin t w c b taken entries used) (h : taken < length t) where
   stands : Stands t c b taken used
   stands = record { inside = g .goes .inside; fits = g .fits; words-long = g .goes .room .words-long; bytes-long = g .goes .room .bytes-long }
 
   -- a line is passed over
-  going-over : 0 < overAt (drop taken t) → Going t w c b (taken + overAt (drop taken t)) entries used
+  going-over : 0 < overAt (drop taken t) → Going origin t w c b (taken + overAt (drop taken t)) entries used
   going-over some =
       let n = overAt (drop taken t) in
       let here : lineAt (drop taken t) ≡ found skipped (drop (taken + n) t) = rw (drop-drop n taken t) at (over-passed (drop taken t) (rest-some stands h) .is some) in
       record {
         goes = record {
           same =
-              λ including ch. g .goes .same including ch
-              ∙ line-skips including ch (world (ahead (w .totals) (to taken entries used)) c b) (drop taken t) (drop (taken + n) t) here;
+              λ fs including ch o. g .goes .same fs including ch o
+              ∙ line-skips fs including ch (world (ahead (w .totals) (to taken entries used)) c b) (drop taken t) (drop (taken + n) t) here;
           room = g .goes .room;
           inside = over-inside stands h;
         };
@@ -161,7 +163,7 @@ module _ {t : List ℕ} {w : World} {c b : List ℕ} {taken entries used : ℕ} 
     s = ahead (w .totals) (to taken entries used)
 
     abbrev c′ : List ℕ
-    c′ = withRow c entries (record { start = used; keyLength = r .key; valueLength = r .value })
+    c′ = withRow c entries (record { start = used; keyLength = r .key; valueLength = r .value }) origin
 
     abbrev next : Totals
     next = ahead (w .totals) (to (taken + r .taken) (entries + 1) (used + (r .key + r .value)))
@@ -172,37 +174,37 @@ module _ {t : List ℕ} {w : World} {c b : List ℕ} {taken entries used : ℕ} 
     size : sizeOf (l .entry) ≡ r .key + r .value
     size = omega (arith, l .key-length, l .value-length)
 
-    words-are : withRow c entries (rowFor used (l .entry)) ≡ c′
+    words-are : withRow c entries (rowFor used (l .entry)) origin ≡ c′
     words-are = rw (l .key-length, l .value-length) refl
 
-    stored-is : put (world s c b) (l .entry) ≡ went (world next c′ b′)
+    stored-is : put origin (world s c b) (l .entry) ≡ went (world next c′ b′)
     stored-is =
         let used-is : used + sizeOf (l .entry) ≡ used + (r .key + r .value) = ap (λ (n : ℕ). used + n) size in
-        put-fits s c b (l .entry) (l .few) less (omega (arith, line-room stands h l, size))
+        put-fits origin s c b (l .entry) (l .few) less (omega (arith, line-room stands h l, size))
         ∙ (λ i. went (record {
           totals = record { opens = w .totals .opens; entries = entries + 1; used = used-is i };
           words = words-are i;
           bytes = sym (l .stored) i;
         }))
 
-    going-next : Going t w c′ b′ (taken + r .taken) (entries + 1) (used + (r .key + r .value))
+    going-next : Going origin t w c′ b′ (taken + r .taken) (entries + 1) (used + (r .key + r .value))
     unfolding andThen
     going-next =
-        let room = step-room (world s c b) (entered [] (l .entry)) (world next c′ b′) (g .goes .room) stored-is in
+        let room = put-room origin (world s c b) (l .entry) (world next c′ b′) (g .goes .room) stored-is in
         record {
           goes = record {
             same =
-                λ including ch. g .goes .same including ch
-                ∙ line-enters including ch (world s c b) (drop taken t) (drop (taken + r .taken) t) (l .entry) here
-                ∙ rw stored-is refl;
+                λ fs including ch o. g .goes .same fs including ch o
+                ∙ line-enters fs including ch (world s c b) (drop taken t) (drop (taken + r .taken) t) (l .entry) here
+                ∙ rw (o, stored-is) refl;
             room = room;
             inside = line-inside stands h l;
           };
           fits = omega (arith, l .short, line-inside stands h l, g .fits, room .bytes-long, g .goes .room .bytes-long);
         }
 
-module _ {t : List ℕ} {w : World} (e : Ended t) where
-  goes-from : (n : ℕ) {c b : List ℕ} {taken entries used : ℕ} → Going t w c b taken entries used → GoesTo t w (linesFrom n t taken entries used c b)
+module _ {origin : ℕ} {t : List ℕ} {w : World} (e : Ended t) where
+  goes-from : (n : ℕ) {c b : List ℕ} {taken entries used : ℕ} → Going origin t w c b taken entries used → GoesTo origin t w (linesFrom origin n t taken entries used c b)
   unfolding linesFrom lineOn overOn
   goes-from zero g = g .goes
   goes-from (suc n) {c} {b} {taken} {entries} {used} g =
@@ -211,8 +213,8 @@ module _ {t : List ℕ} {w : World} (e : Ended t) where
     where
       at : (x : Bool) → leb (length t) taken ≡ x → (y : Bool) → leb mostEntries entries ≡ y → (u : Bool) → eqb (plainLine (drop taken t) .taken) 0 ≡ u
           → (v : Bool) → eqb (overAt (drop taken t)) 0 ≡ v → (stored over : Reached)
-          → (taken < length t → entries < mostEntries → 0 < plainLine (drop taken t) .taken → GoesTo t w stored) → (taken < length t → 0 < overAt (drop taken t) → GoesTo t w over)
-          → GoesTo t w (if x then reached (to taken entries used) c b else if y then reached (to taken entries used) c b else if u then if v then reached (to taken entries used) c b else over else stored)
+          → (taken < length t → entries < mostEntries → 0 < plainLine (drop taken t) .taken → GoesTo origin t w stored) → (taken < length t → 0 < overAt (drop taken t) → GoesTo origin t w over)
+          → GoesTo origin t w (if x then reached (to taken entries used) c b else if y then reached (to taken entries used) c b else if u then if v then reached (to taken entries used) c b else over else stored)
       at true f y k u i v j stored over p q = g .goes
       at false f true k u i v j stored over p q = g .goes
       at false f false k true i true j stored over p q = g .goes
@@ -233,15 +235,15 @@ readable-true t room h =
     let b = and-true (leb (length t) room) (eqb (getD t (length t - 1) 0) newline) (a .1) in
     record { ends = record { some = ltb-true 0 (length t) (a .0); last = eqb-true (getD t (length t - 1) 0) newline (b .1) }; fits = leb-true (length t) room (b .0) }
 
-goes-plain : (t : List ℕ) (s : Totals) (c b : List ℕ) → Room s c b → GoesTo t (world s c b) (plainLines t (s .entries) (s .used) c b)
+goes-plain : (origin : ℕ) (t : List ℕ) (s : Totals) (c b : List ℕ) → Room s c b → GoesTo origin t (world s c b) (plainLines origin t (s .entries) (s .used) c b)
 unfolding plainLines
-goes-plain t s c b r = at (readable t (length b - s .used)) refl
+goes-plain origin t s c b r = at (readable t (length b - s .used)) refl
   where
     at : (x : Bool) → readable t (length b - s .used) ≡ x
-        → GoesTo t (world s c b) (if x then linesFrom (length t) t 0 (s .entries) (s .used) c b else reached (to 0 (s .entries) (s .used)) c b)
-    at true f = let d = readable-true t (length b - s .used) f in goes-from (d .ends) (length t) (going-first t s c b r (d .fits))
-    at false f = goes-first t s c b r
+        → GoesTo origin t (world s c b) (if x then linesFrom origin (length t) t 0 (s .entries) (s .used) c b else reached (to 0 (s .entries) (s .used)) c b)
+    at true f = let d = readable-true t (length b - s .used) f in goes-from (d .ends) (length t) (going-first origin t s c b r (d .fits))
+    at false f = goes-first origin t s c b r
 
-pub plain-goes : (t : List ℕ) (s : Totals) (c b : List ℕ) → Room s c b → {c′ b′ : List ℕ} {r : Ahead} → reached r c′ b′ ≡ plainLines t (s .entries) (s .used) c b
-    → Goes t (world s c b) c′ b′ r
-plain-goes t s c b room e = rw (← e) at (goes-plain t s c b room)
+pub plain-goes : (origin : ℕ) (t : List ℕ) (s : Totals) (c b : List ℕ) → Room s c b → {c′ b′ : List ℕ} {r : Ahead} → reached r c′ b′ ≡ plainLines origin t (s .entries) (s .used) c b
+    → Goes origin t (world s c b) c′ b′ r
+plain-goes origin t s c b room e = rw (← e) at (goes-plain origin t s c b room)

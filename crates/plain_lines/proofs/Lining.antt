@@ -40,39 +40,39 @@ over-other t o e = rw (ne-eqb (getD t 0 0) newline o, ne-eqb (getD t 0 0) exclam
 -- ---- The loop
 
 -- the lines from `taken` on are those of t from its front
-pub record Lining (t : List ℕ) (all : Reached) (c b : List ℕ) (taken entries used : ℕ) : Type 0 where
+pub record Lining (origin : ℕ) (t : List ℕ) (all : Reached) (c b : List ℕ) (taken entries used : ℕ) : Type 0 where
   pub left : ℕ
   pub enough : length t ≤ taken + left
-  pub same : all ≡ linesFrom left t taken entries used c b
+  pub same : all ≡ linesFrom origin left t taken entries used c b
   pub stands : Stands t c b taken used
 
 -- a turn
-lines-turn : (n : ℕ) (t c b : List ℕ) (taken entries used : ℕ) → 0 < n → taken < length t → entries < mostEntries
-    → linesFrom n t taken entries used c b ≡ lineOn (linesFrom (n - 1) t) (drop taken t) (plainLine (drop taken t)) taken entries used c b
+lines-turn : (origin n : ℕ) (t c b : List ℕ) (taken entries used : ℕ) → 0 < n → taken < length t → entries < mostEntries
+    → linesFrom origin n t taken entries used c b ≡ lineOn origin (linesFrom origin (n - 1) t) (drop taken t) (plainLine (drop taken t)) taken entries used c b
 unfolding linesFrom
-lines-turn zero t c b taken entries used h some less = absurd (omega arith)
-lines-turn (suc n) t c b taken entries used h some less = let z : suc n - 1 ≡ n = omega arith in rw (z, lt-leb (length t) taken some, lt-leb mostEntries entries less) refl
+lines-turn origin zero t c b taken entries used h some less = absurd (omega arith)
+lines-turn origin (suc n) t c b taken entries used h some less = let z : suc n - 1 ≡ n = omega arith in rw (z, lt-leb (length t) taken some, lt-leb mostEntries entries less) refl
 
-text-over : (n : ℕ) (t c b : List ℕ) (taken entries used : ℕ) → length t ≤ taken → linesFrom n t taken entries used c b ≡ reached (to taken entries used) c b
+text-over : (origin n : ℕ) (t c b : List ℕ) (taken entries used : ℕ) → length t ≤ taken → linesFrom origin n t taken entries used c b ≡ reached (to taken entries used) c b
 unfolding linesFrom
-text-over zero t c b taken entries used h = refl
-text-over (suc n) t c b taken entries used h = rw (le-leb (length t) taken h) refl
+text-over origin zero t c b taken entries used h = refl
+text-over origin (suc n) t c b taken entries used h = rw (le-leb (length t) taken h) refl
 
-none-left : (n : ℕ) (t c b : List ℕ) (taken entries used : ℕ) → mostEntries ≤ entries → linesFrom n t taken entries used c b ≡ reached (to taken entries used) c b
+none-left : (origin n : ℕ) (t c b : List ℕ) (taken entries used : ℕ) → mostEntries ≤ entries → linesFrom origin n t taken entries used c b ≡ reached (to taken entries used) c b
 unfolding linesFrom
-none-left zero t c b taken entries used h = refl
-none-left (suc n) t c b taken entries used h = rw (le-leb mostEntries entries h) (at (leb (length t) taken))
+none-left origin zero t c b taken entries used h = refl
+none-left origin (suc n) t c b taken entries used h = rw (le-leb mostEntries entries h) (at (leb (length t) taken))
   where
     at : (x : Bool) → (if x then reached (to taken entries used) c b else reached (to taken entries used) c b) ≡ reached (to taken entries used) c b
     at true = refl
     at false = refl
 
-module _ {t : List ℕ} {all : Reached} {c b : List ℕ} {taken entries used : ℕ} (l : Lining t all c b taken entries used) where
+module _ {origin : ℕ} {t : List ℕ} {all : Reached} {c b : List ℕ} {taken entries used : ℕ} (l : Lining origin t all c b taken entries used) where
   pub lining-end : length t ≤ taken → reached (to taken entries used) c b ≡ all
-  lining-end h = sym (l .same ∙ text-over (l .left) t c b taken entries used h)
+  lining-end h = sym (l .same ∙ text-over origin (l .left) t c b taken entries used h)
 
   pub lining-full : mostEntries ≤ entries → reached (to taken entries used) c b ≡ all
-  lining-full h = sym (l .same ∙ none-left (l .left) t c b taken entries used h)
+  lining-full h = sym (l .same ∙ none-left origin (l .left) t c b taken entries used h)
 
   module _ (e : Ended t) (h : taken < length t) where
     -- the rest of the text, as the code takes it
@@ -86,8 +86,8 @@ module _ {t : List ℕ} {all : Reached} {c b : List ℕ} {taken entries used : �
       here : r ≡ plainLine (drop taken t)
       here = rw (part-rest t taken) at is
 
-      turned : all ≡ lineOn (linesFrom (l .left - 1) t) (drop taken t) (plainLine (drop taken t)) taken entries used c b
-      turned = l .same ∙ lines-turn (l .left) t c b taken entries used (omega (arith, l .enough, h)) h less
+      turned : all ≡ lineOn origin (linesFrom origin (l .left - 1) t) (drop taken t) (plainLine (drop taken t)) taken entries used c b
+      turned = l .same ∙ lines-turn origin (l .left) t c b taken entries used (omega (arith, l .enough, h)) h less
 
       -- ---- No line of the common form
 
@@ -110,7 +110,7 @@ module _ {t : List ℕ} {all : Reached} {c b : List ℕ} {taken entries used : �
         pub passed-inside : taken + n ≤ length t
         passed-inside = omega (arith, over-inside (l .stands) h, over-is)
 
-        pub lining-over : 0 < n → Lining t all c b′ (taken + n) entries used
+        pub lining-over : 0 < n → Lining origin t all c b′ (taken + n) entries used
         unfolding lineOn overOn
         lining-over some =
             let o : 0 < overAt (drop taken t) = omega (arith, over-is, some) in
@@ -138,8 +138,8 @@ module _ {t : List ℕ} {all : Reached} {c b : List ℕ} {taken entries used : �
         pub next-room : used + (r .key + r .value) ≤ bodyBytes
         next-room = line-room (l .stands) h takes
 
-        pub lining-next : {c′ : List ℕ} → c′ ≡ withRow c entries (record { start = used; keyLength = r .key; valueLength = r .value }) → length c′ ≡ length c → length b′ ≡ length b
-            → Lining t all c′ b′ (taken + r .taken) (entries + 1) (used + (r .key + r .value))
+        pub lining-next : {c′ : List ℕ} → c′ ≡ withRow c entries (record { start = used; keyLength = r .key; valueLength = r .value }) origin → length c′ ≡ length c → length b′ ≡ length b
+            → Lining origin t all c′ b′ (taken + r .taken) (entries + 1) (used + (r .key + r .value))
         unfolding lineOn
         lining-next {c′} row hc hb =
             let o : 0 < plainLine (drop taken t) .taken = omega (arith, ap (λ (x : EntryLine). x .taken) here, some) in
@@ -159,22 +159,22 @@ module _ {t : List ℕ} {all : Reached} {c b : List ℕ} {taken entries used : �
 
 -- ---- A text that is read so, or is not
 
-module _ (t : List ℕ) (entries used : ℕ) (c b : List ℕ) where
-  unread : readable t (length b - used) ≡ false → reached (to 0 entries used) c b ≡ plainLines t entries used c b
+module _ (origin : ℕ) (t : List ℕ) (entries used : ℕ) (c b : List ℕ) where
+  unread : readable t (length b - used) ≡ false → reached (to 0 entries used) c b ≡ plainLines origin t entries used c b
   unfolding plainLines
   unread h = rw h refl
 
-  pub unread-empty : length t ≡ 0 → reached (to 0 entries used) c b ≡ plainLines t entries used c b
+  pub unread-empty : length t ≡ 0 → reached (to 0 entries used) c b ≡ plainLines origin t entries used c b
   unread-empty h = unread (unfold readable in rw (le-ltb 0 (length t) (omega (arith, h))) refl)
 
-  pub unread-long : length b - used < length t → reached (to 0 entries used) c b ≡ plainLines t entries used c b
+  pub unread-long : length b - used < length t → reached (to 0 entries used) c b ≡ plainLines origin t entries used c b
   unread-long h = unread (unfold readable in rw (lt-leb (length t) (length b - used) h) (at (ltb 0 (length t))))
     where
       at : (x : Bool) → (x && false) ≡ false
       at true = refl
       at false = refl
 
-  pub unread-open : eqb (getD t (length t - 1) 0) newline ≡ false → reached (to 0 entries used) c b ≡ plainLines t entries used c b
+  pub unread-open : eqb (getD t (length t - 1) 0) newline ≡ false → reached (to 0 entries used) c b ≡ plainLines origin t entries used c b
   unread-open h = unread (unfold readable in rw h (at (ltb 0 (length t)) (leb (length t) (length b - used))))
     where
       at : (x y : Bool) → (x && (y && false)) ≡ false
@@ -182,10 +182,10 @@ module _ (t : List ℕ) (entries used : ℕ) (c b : List ℕ) where
       at true false = refl
       at false y = refl
 
-pub lining-first : (t : List ℕ) (s : Totals) (c b : List ℕ) → Room s c b → Ended t → length t ≤ length b - s .used
-    → Lining t (plainLines t (s .entries) (s .used) c b) c b 0 (s .entries) (s .used)
+pub lining-first : (origin : ℕ) (t : List ℕ) (s : Totals) (c b : List ℕ) → Room s c b → Ended t → length t ≤ length b - s .used
+    → Lining origin t (plainLines origin t (s .entries) (s .used) c b) c b 0 (s .entries) (s .used)
 unfolding plainLines readable
-lining-first t s c b r e h = record {
+lining-first origin t s c b r e h = record {
   left = length t;
   enough = omega arith;
   same = rw (lt-ltb 0 (length t) (e .some), le-leb (length t) (length b - s .used) h, eq-eqb (getD t (length t - 1) 0) newline (e .last)) refl;

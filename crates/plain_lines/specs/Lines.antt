@@ -38,26 +38,26 @@ overOn next u taken entries used c b =
     if eqb (overAt u) 0 then reached (to taken entries used) c b else
     next (taken + overAt u) entries used c b
 
--- the line l at the front of u is stored, if it is one
-unfoldable pub lineOn : (ℕ → ℕ → ℕ → List ℕ → List ℕ → Reached) → List ℕ → EntryLine → ℕ → ℕ → ℕ → List ℕ → List ℕ → Reached
-lineOn next u l taken entries used c b =
+-- the line l at the front of u is stored with its origin, if it is one
+unfoldable pub lineOn : ℕ → (ℕ → ℕ → ℕ → List ℕ → List ℕ → Reached) → List ℕ → EntryLine → ℕ → ℕ → ℕ → List ℕ → List ℕ → Reached
+lineOn origin next u l taken entries used c b =
     if eqb (l .taken) 0 then overOn next u taken entries used c b else
     next (taken + l .taken) (entries + 1) (used + (l .key + l .value))
-    (withRow c entries (record { start = used; keyLength = l .key; valueLength = l .value })) (withLine u b used)
+    (withRow c entries (record { start = used; keyLength = l .key; valueLength = l .value }) origin) (withLine u b used)
 
 -- the lines of t from `taken` on, n at most, as long as there is an entry left
-unfoldable pub linesFrom : ℕ → List ℕ → ℕ → ℕ → ℕ → List ℕ → List ℕ → Reached
-linesFrom zero t taken entries used c b = reached (to taken entries used) c b
-linesFrom (suc n) t taken entries used c b =
+unfoldable pub linesFrom : ℕ → ℕ → List ℕ → ℕ → ℕ → ℕ → List ℕ → List ℕ → Reached
+linesFrom origin zero t taken entries used c b = reached (to taken entries used) c b
+linesFrom origin (suc n) t taken entries used c b =
     if leb (length t) taken then reached (to taken entries used) c b else
     if leb mostEntries entries then reached (to taken entries used) c b else
-    lineOn (linesFrom n t) (drop taken t) (plainLine (drop taken t)) taken entries used c b
+    lineOn origin (linesFrom origin n t) (drop taken t) (plainLine (drop taken t)) taken entries used c b
 
 -- a text that ends with a newline, and surely has room among the bytes that are left
 unfoldable pub readable : List ℕ → ℕ → Bool
 readable t room = ltb 0 (length t) && (leb (length t) room && eqb (getD t (length t - 1) 0) newline)
 
-unfoldable pub plainLines : List ℕ → ℕ → ℕ → List ℕ → List ℕ → Reached
-plainLines t entries used c b =
-    if readable t (length b - used) then linesFrom (length t) t 0 entries used c b else
+unfoldable pub plainLines : ℕ → List ℕ → ℕ → ℕ → List ℕ → List ℕ → Reached
+plainLines origin t entries used c b =
+    if readable t (length b - used) then linesFrom origin (length t) t 0 entries used c b else
     reached (to 0 entries used) c b

@@ -36,16 +36,17 @@ fn passed_over(text: &[u8]) -> usize
 }
 
 // Reads the lines of the common form at the front of a text, with the empty lines and comments among them, as far as they go, if it ends
-// with a newline and surely has room.
+// with a newline and surely has room. The text is that of `origin`.
 pub fn plain_lines(
     classes: &[u8; 256],
     text: &[u8],
     totals: Totals,
     words: &mut [u16],
     store: &mut [u8],
+    origin: u16,
 ) -> Ahead
     requires { ⌜ (now classes ≡ byteClasses) × Room totals (now words) (now store) ⌝ }
-    ensures { λ r. ⌜ reached r (now (words .exit)) (now (store .exit)) ≡ plainLines (now (text .entry)) (totals .entries) (totals .used) (now (words .entry)) (now (store .entry)) ⌝ }
+    ensures { λ r. ⌜ reached r (now (words .exit)) (now (store .exit)) ≡ plainLines origin (now (text .entry)) (totals .entries) (totals .used) (now (words .entry)) (now (store .entry)) ⌝ }
 {
     let mut taken: usize = 0;
     let mut entries = totals.entries;
@@ -79,7 +80,7 @@ pub fn plain_lines(
             key,
             value,
         };
-        write_row(words, entries, row);
+        write_row(words, entries, row, origin);
         entries += 1;
         used += key + value;
         taken += line.taken;

@@ -9,10 +9,9 @@ use lib.Seq.{length-take-le}
 use borrow.Author.Tests.{lt-ltb, le-ltb}
 use Rattle.definition.specs.Lists.{any, zeroes, beyond}
 use Rattle.definition.specs.Limits.{contentsWords, bodyBytes}
-use Rattle.definition.specs.Archive.{laidOut}
-use Rattle.definition.specs.Text.{Entry}
-use Rattle.definition.specs.Image.{writtenOver}
-use Rattle.definition.specs.Reading.{Verdict, within, past, accepted, refused, outcome, left, judge, start, met, plain, readEntries, tooLong, reading}
+use Rattle.definition.specs.Archive.{laidOut, filesOf}
+use Rattle.definition.specs.Image.{Sourced, bare, storeOf, contentsOf, writtenOver}
+use Rattle.definition.specs.Reading.{Verdict, within, past, accepted, refused, outcome, left, judge, start, met, sourced, readEntries, tooLong, reading}
 use Rattle.image.specs.Running.{world, begun, run, answered, closedWords, closedBytes, finished}
 use Rattle.image.specs.declared.Totals.{Totals}
 use Rattle.image.specs.declared.Step.{Step}
@@ -23,16 +22,16 @@ use Rattle.reader.specs.Said.{Ready, leftBy}
 -- ---- The end of a reading, whatever it has met
 
 module _ (texts : List (List ℕ)) (archive c b : List ℕ) (hc : length c ≡ contentsWords) (hb : length b ≡ bodyBytes) where
-  pub ready : (r : Step) (c′ b′ : List ℕ) → answered r c′ b′ ≡ run (world begun c b) (met texts archive)
+  pub ready : (r : Step) (c′ b′ : List ℕ) → answered r c′ b′ ≡ run (filesOf archive) (world begun c b) (met texts archive)
       → length c′ ≡ length c → length b′ ≡ length b → Ready r c′ b′
   unfolding answered
-  ready (Go s) c′ b′ e lc lb = room-after c b hc hb (met texts archive) (world s c′ b′) (sym e)
+  ready (Go s) c′ b′ e lc lb = room-after c b hc hb (filesOf archive) (met texts archive) (world s c′ b′) (sym e)
   ready (Stop k) c′ b′ e lc lb = (lc ∙ hc, lb ∙ hb)
 
-  pub finished-is : (r : Step) (c′ b′ : List ℕ) → answered r c′ b′ ≡ run (world begun c b) (met texts archive)
+  pub finished-is : (r : Step) (c′ b′ : List ℕ) → answered r c′ b′ ≡ run (filesOf archive) (world begun c b) (met texts archive)
       → finished (answered r c′ b′) ≡ leftBy texts archive c b
   unfolding leftBy
-  finished-is r c′ b′ e = ap finished e ∙ finished-left c b hc hb (met texts archive)
+  finished-is r c′ b′ e = ap finished e ∙ finished-left c b hc hb (filesOf archive) (met texts archive)
 
 -- what `empty_image` and `close_image` leave is the end of a reading
 module _ (r : Step) (c b : List ℕ) (ready : Ready r c b) where
@@ -51,7 +50,7 @@ module _ (r : Step) (c b : List ℕ) (ready : Ready r c b) where
 -- ---- The call, in buffers of any length
 
 -- what is written over the front of a buffer, with the rest behind it
-over-front : (n : ℕ) (lent xs : List ℕ) → writtenOver n (take n lent) xs ++ drop n lent ≡ writtenOver n lent xs
+pub over-front : (n : ℕ) (lent xs : List ℕ) → writtenOver n (take n lent) xs ++ drop n lent ≡ writtenOver n lent xs
 unfolding writtenOver beyond
 over-front n lent xs =
     let none : drop n (take n lent) ≡ [] = drop-of-length-le (take n lent) {i = n} (taken-le n lent) in
@@ -60,14 +59,14 @@ over-front n lent xs =
     taken-le : (n : ℕ) (l : List ℕ) → length (take n l) ≤ n
     taken-le n l = omega (arith, lib.ListN.length-take n l)
 
-left-front : (v : Verdict) (es : List Entry) (c b : List ℕ)
-    → outcome (left v es (take contentsWords c) (take bodyBytes b) .answer)
-    (left v es (take contentsWords c) (take bodyBytes b) .contents ++ drop contentsWords c)
-    (left v es (take contentsWords c) (take bodyBytes b) .bodies ++ drop bodyBytes b)
-    ≡ left v es c b
+left-front : (v : Verdict) (xs : List Sourced) (c b : List ℕ)
+    → outcome (left v xs (take contentsWords c) (take bodyBytes b) .answer)
+    (left v xs (take contentsWords c) (take bodyBytes b) .contents ++ drop contentsWords c)
+    (left v xs (take contentsWords c) (take bodyBytes b) .bodies ++ drop bodyBytes b)
+    ≡ left v xs c b
 unfolding left
-left-front (within s) es c b = λ i. outcome (accepted (s .entries) (s .opens)) (over-front contentsWords c (Rattle.definition.specs.Image.contentsOf es) i) (over-front bodyBytes b (Rattle.definition.specs.Image.storeOf es) i)
-left-front (past k) es c b = λ i. outcome (refused k) (over-front contentsWords c (Rattle.definition.specs.Image.contentsOf []) i) (over-front bodyBytes b (Rattle.definition.specs.Image.storeOf []) i)
+left-front (within s) xs c b = λ i. outcome (accepted (s .entries) (s .opens)) (over-front contentsWords c (contentsOf xs) i) (over-front bodyBytes b (storeOf (bare xs)) i)
+left-front (past k) xs c b = λ i. outcome (refused k) (over-front contentsWords c (contentsOf []) i) (over-front bodyBytes b (storeOf []) i)
 
 module _ (texts : List (List ℕ)) (archive c b : List ℕ) where
   pub short-contents : length c < contentsWords → outcome (refused 1) c b ≡ reading texts archive c b
@@ -110,5 +109,5 @@ module _ {texts : List (List ℕ)} {archive c b : List ℕ} (h : Admitted texts 
   unfolding reading leftBy
   fronts a c′ b′ e =
       (λ i. outcome (e i .answer) (e i .contents ++ drop contentsWords c) (e i .bodies ++ drop bodyBytes b))
-      ∙ left-front (judge start (met texts archive)) (plain (readEntries texts archive)) c b
+      ∙ left-front (judge start (met texts archive)) (sourced (filesOf archive) (readEntries texts archive)) c b
       ∙ sym (rw (le-ltb (length c) contentsWords (h .words), le-ltb (length b) bodyBytes (h .bytes), h .short, h .laid) refl)

@@ -4,8 +4,9 @@ use mathlib.Core.Path.{_≡_}
 use Prim.Native.Nat.{ℕ}
 use lib.ListN.{length}
 use Rattle.definition.specs.Limits.{contentsWords, bodyBytes}
+use Rattle.definition.specs.Archive.{filesOf}
 use Rattle.definition.specs.Reading as definition
-use Rattle.definition.specs.Reading.{Outcome, left, judge, start, met, plain, readEntries}
+use Rattle.definition.specs.Reading.{Outcome, left, judge, start, met, sourced, readEntries}
 use Rattle.image.specs.Running.{Room}
 use Rattle.image.specs.declared.Step.{Step}
 use Rattle.image.specs.declared.Step.the-variants.{Go, Stop}
@@ -24,4 +25,4 @@ Ready (Stop k) c b = (length c ≡ contentsWords) × (length b ≡ bodyBytes)
 
 -- what a reading that passes 1 to 3 leaves
 unfoldable pub leftBy : List (List ℕ) → List ℕ → List ℕ → List ℕ → Outcome
-leftBy texts archive contents bodies = left (judge start (met texts archive)) (plain (readEntries texts archive)) contents bodies
+leftBy texts archive contents bodies = left (judge start (met texts archive)) (sourced (filesOf archive) (readEntries texts archive)) contents bodies

@@ -8,7 +8,7 @@ use native.Mathlib.Omega.{arith}
 use Rattle.definition.specs.Lists.{if_then_else_}
 use Rattle.definition.specs.Query.{Bounds}
 use Rattle.definition.specs.Lookup.{Reply, given, noValue, refused, Place, getBytesWithin, bytesAt}
-use Rattle.definition.specs.Value.{isUtf8, replied, readAs, asString, bytesOr, shownWithin}
+use Rattle.definition.specs.Value.{isUtf8, replied, readAs, asString, bytesOr, shownBy, shownWithin}
 use Rattle.lookup.specs.Replies.{replied as lookedUp}
 use Rattle.lookup.specs.declared.Lookup.{Lookup}
 use Rattle.readings.specs.Showing.{shownAt}
@@ -57,5 +57,5 @@ module _ (most : Bounds) (contents bodies name class : List ℕ) where
   pub shows : (r : Lookup) (default bytes : List ℕ) (atBodies atDefault starts : ℕ × ℕ) → lookedUp r ≡ getBytesWithin most contents bodies name class
       → (bytes ≡ bytesOr bodies default (lookedUp r)) × (starts ≡ shownAt (lookedUp r) atBodies atDefault)
       → (bytes ≡ shownWithin most contents bodies name class default) × (starts ≡ shownAt (getBytesWithin most contents bodies name class) atBodies atDefault)
-  unfolding shownWithin
+  unfolding shownBy
   shows r default bytes atBodies atDefault starts e s = rw e at s

@@ -13,10 +13,11 @@ use Rattle.laws.proofs.Writing.{image-text-long, written-text}
 use Rattle.laws.proofs.Adding.{adding-small}
 use Rattle.definition.specs.Query.{Bounds}
 use Rattle.definition.specs.Lookup.{getBytesWithin}
-use Rattle.definition.specs.Value.{getStringWithin}
+use Rattle.definition.specs.Value.{getStringBy, getStringWithin}
 use Rattle.definition.specs.Walking.{Walk, walkStep}
 use Rattle.definition.specs.Writing.{Filled, filled, writing}
 use Rattle.definition.specs.Adding.{Addition, addition, adding}
+use Rattle.definition.specs.Migration.{migrating}
 use Rattle.definition.specs.ThirdTerm.{Case, withFile, withoutFile}
 use Rattle.comparison.specs.declared.Compared.{Compared}
 use Rattle.comparison.specs.declared.Compared.the-variants.{Both, NoFile, Refused as RefusedCall}
@@ -30,6 +31,7 @@ use Rattle.lookup.proofs.Looking.{found-placed}
 use Rattle.reader.specs.declared.Answer.{Answer}
 use Rattle.reader.specs.declared.Answer.the-variants.{Accepted, Refused as RefusedReading}
 use Rattle.reader.specs.Said.{said}
+use Rattle.migration.proofs.Carried.{migrated-small}
 use Rattle.readings.proofs.Readings.{string-found}
 use Rattle.walk.specs.Replies.{stepReplied}
 use Rattle.walk.specs.declared.Stepped.{Stepped}
@@ -50,6 +52,11 @@ module _ (texts : List (List ℕ)) (archive contents bodies c b : List ℕ) wher
   read-few (Accepted n o) e = accepted-small texts archive contents bodies c b n o e
   read-few (RefusedReading k) e = tt
 
+module _ (old oldBytes contents bodies c b : List ℕ) where
+  pub migrate-few : (r : Answer) → outcome (said r) c b ≡ migrating old oldBytes contents bodies → Few r
+  migrate-few (Accepted n o) e = migrated-small old oldBytes contents bodies c b n o e
+  migrate-few (RefusedReading k) e = tt
+
 pub read-crosses : (r : Answer) (n : ℕ) (c b : List ℕ) (o : Outcome) → outcome (said r) c b ≡ o → n ≡ readCode (said r) → crossing n c b ≡ crossed o
 read-crosses r n c b o e f = rw (← e, f) refl
 
@@ -60,7 +67,7 @@ module _ (most : Bounds) (contents bodies name class : List ℕ) where
   bytes-small (Refused k) e = tt
 
   pub string-small : (r : Lookup) → replied r ≡ getStringWithin most contents bodies name class → Small r
-  unfolding getStringWithin
+  unfolding getStringBy
   string-small (Found p n) e = found-placed most contents bodies name class p n (string-found bodies (record { start = p; length = n }) _ e) .0
   string-small Nothing e = tt
   string-small (Refused k) e = tt

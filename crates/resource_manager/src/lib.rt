@@ -12,6 +12,7 @@ ghost use Rattle.definition.specs.Value as definition;
 ghost use Rattle.definition.specs.Value.{getString, getBool, getValue};
 ghost use Rattle.definition.specs.Writing.{writing};
 ghost use Rattle.definition.specs.Adding.{adding};
+ghost use Rattle.definition.specs.Migration.{migrating};
 ghost use Rattle.sources.specs.Lending.{lending, startUp};
 ghost use Rattle.codes.specs.Codes.{placeCode, boolCode, taking, taken};
 ghost use Rattle.resource_manager.specs.Boundary.{yes, crossed, crossing, filling, fillCode, addCrossed};
@@ -75,6 +76,20 @@ pub extern "C" fn resource_manager_read_default<'a>(
         contents,
         bodies,
     );
+    read_code(answer)
+}
+
+// Carries an old image, whose rows have three words, over into new buffers: the answer is that of `resource_manager_read`, with no opens.
+#[no_mangle]
+pub extern "C" fn resource_manager_migrate(
+    old_contents: &[u16],
+    old_bodies: &[u8],
+    contents: &mut [u16],
+    bodies: &mut [u8],
+) -> u64
+    ensures { λ r. ⌜ crossing r (now (contents .exit)) (now (bodies .exit)) ≡ crossed (migrating (now («old_contents» .entry)) (now («old_bodies» .entry)) (now (contents .entry)) (now (bodies .entry))) ⌝ }
+{
+    let answer = migration::migrate(old_contents, old_bodies, contents, bodies);
     read_code(answer)
 }
 

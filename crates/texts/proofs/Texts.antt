@@ -53,7 +53,7 @@ module _ {D : Type 0} (now : D → List ℕ) where
 
   -- reading all of them comes to the same as reading those from i on from here
   pub record Reading (archive : List ℕ) (ds : List D) (c₀ b₀ : List ℕ) (s : Totals) (c b : List ℕ) (i : ℕ) : Type 0 where
-    pub same : run (world begun c₀ b₀) (met (map now ds) archive) ≡ run (world s c b) (met (from i ds) archive)
+    pub same : run (filesOf archive) (world begun c₀ b₀) (met (map now ds) archive) ≡ run (filesOf archive) (world s c b) (met (from i ds) archive)
     pub room : Room s c b
     pub words-same : length c ≡ length c₀
     pub bytes-same : length b ≡ length b₀
@@ -62,7 +62,7 @@ module _ {D : Type 0} (now : D → List ℕ) where
   reading-first c b hc hb = record { same = refl; room = room-first c b hc hb; words-same = refl; bytes-same = refl }
 
   module _ {archive : List ℕ} {ds : List D} {c₀ b₀ : List ℕ} {s : Totals} {c b : List ℕ} {i : ℕ} (r : Reading archive ds c₀ b₀ s c b i) where
-    pub reading-done : length ds ≤ i → answered (Go s) c b ≡ run (world begun c₀ b₀) (met (map now ds) archive)
+    pub reading-done : length ds ≤ i → answered (Go s) c b ≡ run (filesOf archive) (world begun c₀ b₀) (met (map now ds) archive)
     unfolding answered eventsOfAll run
     reading-done h = sym (r .same ∙ rw (from-end ds i h) refl)
 
@@ -70,21 +70,21 @@ module _ {D : Type 0} (now : D → List ℕ) where
       abbrev here : List Event
       here = textEvents deepest (filesOf archive) [] [] (now (getD ds i d))
 
-      next : run (world s c b) (met (from i ds) archive) ≡ andThen (run (world s c b) here) (λ v. run v (met (from (i + 1) ds) archive))
+      next : run (filesOf archive) (world s c b) (met (from i ds) archive) ≡ andThen (run (filesOf archive) (world s c b) here) (λ v. run (filesOf archive) v (met (from (i + 1) ds) archive))
       unfolding eventsOfAll textEvents events
-      next = rw (from-next ds i d h) (run-append here (met (from (i + 1) ds) archive) (world s c b))
+      next = rw (from-next ds i d h) (run-append (filesOf archive) here (met (from (i + 1) ds) archive) (world s c b))
 
-      pub reading-text : (s′ : Totals) (c′ b′ : List ℕ) → answered (Go s′) c′ b′ ≡ run (world s c b) here
+      pub reading-text : (s′ : Totals) (c′ b′ : List ℕ) → answered (Go s′) c′ b′ ≡ run (filesOf archive) (world s c b) here
           → length c′ ≡ length c → length b′ ≡ length b → Reading archive ds c₀ b₀ s′ c′ b′ (i + 1)
       unfolding answered andThen
       reading-text s′ c′ b′ e hc hb = record {
         same = r .same ∙ next ∙ rw (← e) refl;
-        room = run-room here (world s c b) (world s′ c′ b′) (r .room) (sym e);
+        room = run-room (filesOf archive) here (world s c b) (world s′ c′ b′) (r .room) (sym e);
         words-same = hc ∙ r .words-same;
         bytes-same = hb ∙ r .bytes-same;
       }
 
-      pub text-stops : (k : ℕ) (c′ b′ : List ℕ) → answered (Stop k) c′ b′ ≡ run (world s c b) here
-          → answered (Stop k) c′ b′ ≡ run (world begun c₀ b₀) (met (map now ds) archive)
+      pub text-stops : (k : ℕ) (c′ b′ : List ℕ) → answered (Stop k) c′ b′ ≡ run (filesOf archive) (world s c b) here
+          → answered (Stop k) c′ b′ ≡ run (filesOf archive) (world begun c₀ b₀) (met (map now ds) archive)
       unfolding answered andThen
       text-stops k c′ b′ e = sym (r .same ∙ next ∙ rw (← e) refl)

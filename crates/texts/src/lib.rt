@@ -5,7 +5,7 @@ ghost use mathlib.Core.List.{map};
 ghost use lib.ListN.{length};
 ghost use Rattle.definition.specs.Limits.{contentsWords, bodyBytes};
 ghost use Rattle.definition.specs.Lists.{any};
-ghost use Rattle.definition.specs.Archive.{laidOut};
+ghost use Rattle.definition.specs.Archive.{laidOut, filesOf};
 ghost use Rattle.definition.specs.Reading.{met, tooLong};
 ghost use Rattle.image.specs.Running.{world, begun, run, answered};
 use byte_classes::byte_classes;
@@ -32,7 +32,7 @@ pub fn is_long(texts: &[&[u8]]) -> bool
 // Reads the texts one after another, each in the empty folder.
 pub fn parse_texts(texts: &[&[u8]], archive: &[u8], words: &mut [u16], store: &mut [u8]) -> Step
     requires { ⌜ (length (now words) ≡ contentsWords) × (length (now store) ≡ bodyBytes) × (laidOut (now archive) ≡ true) ⌝ }
-    ensures { λ r. ⌜ answered r (now (words .exit)) (now (store .exit)) ≡ run (world begun (now (words .entry)) (now (store .entry))) (met (map now (now (texts .entry))) (now (archive .entry))) ⌝ }
+    ensures { λ r. ⌜ answered r (now (words .exit)) (now (store .exit)) ≡ run (filesOf (now (archive .entry))) (world begun (now (words .entry)) (now (store .entry))) (met (map now (now (texts .entry))) (now (archive .entry))) ⌝ }
 {
     let classes = byte_classes();
     let mut s = Totals {

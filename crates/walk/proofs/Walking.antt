@@ -15,7 +15,7 @@ use Rattle.definition.specs.Writing.{entriesOfImage}
 use Rattle.definition.specs.Query.{Position, Query, positions, malformed, pastLimit, shell, queryOf}
 use Rattle.definition.specs.Ranking.{noEntry, rankOf, better}
 use Rattle.definition.specs.Lookup.{keysOf, refused}
-use Rattle.definition.specs.Walking.{hasRow, aligns, alignedFrom, firstOf, walk, nextOf, begun, walkStart, numberOr, stepped, walkStep}
+use Rattle.definition.specs.Walking.{hasRow, aligns, alignedFrom, firstOf, walk, nextOf, begun, walkStartBy, walkStart, numberOr, stepped, walkStepBy, walkStep}
 use Rattle.laws.proofs.Lists.{getD-inside}
 use Rattle.laws.proofs.Image.{image-sizes}
 use Rattle.query.specs.Shapes.{shaped}
@@ -89,7 +89,7 @@ module _ (contents bodies : List ℕ) (image : isImage contents bodies ≡ true)
 
 module _ (contents bodies name class : List ℕ) where
   pub steps : (next count : ℕ) → entryWithin shell true next count contents bodies name class ≡ walkStep contents bodies name class (walk next count)
-  unfolding entryWithin walkStep
+  unfolding entryWithin walkStepBy
   steps next count = at (isImage contents bodies) refl
     where
       at : (b : Bool) → isImage contents bodies ≡ b
@@ -99,10 +99,10 @@ module _ (contents bodies name class : List ℕ) where
       at false e = refl
 
   pub start-no-image : isImage contents bodies ≡ false → refused 8 ≡ walkStart contents bodies name class
-  unfolding walkStart
+  unfolding walkStartBy
   start-no-image e = rw e refl
 
   -- what the shape of both decides
   pub start-by-shape : isImage contents bodies ≡ true → (s : Shape) (ps : List Position) → queryOf name class ≡ shaped s ps → begun (countOf contents) (shaped s ps) ≡ walkStart contents bodies name class
-  unfolding walkStart
+  unfolding walkStartBy
   start-by-shape e s ps f = sym (rw (e, f) refl)

@@ -9,8 +9,10 @@ use native.Mathlib.Omega.{arith}
 use lib.ListN.{length, drop, getD, length-append}
 use lib.Seq.{drop-drop, getD-drop}
 use Rattle.definition.specs.Lists.{if_then_else_, ascii}
+use Rattle.definition.specs.Limits.{fileNameBytes}
+use Rattle.definition.specs.Archive.{File, filesOf, laidOut}
 use Rattle.definition.specs.Text.{Entry}
-use Rattle.definition.specs.Image.{keyOf, storeOf}
+use Rattle.definition.specs.Image.{keyOf, Sourced, bare, storeOf}
 use Rattle.definition.specs.Query.{Position, Query, positions, malformed, pastLimit}
 use Rattle.definition.specs.Walking.{aligns, alignedFrom}
 use Rattle.definition.specs.Adding.{numbersFrom, numbersOf}
@@ -19,52 +21,70 @@ use Rattle.printing.proofs.Pieces.{then-piece}
 use Rattle.printing.proofs.Numbers.{decimal-most}
 use Rattle.shown_bytes.specs.Shown.{shown}
 use Rattle.shown_bytes.proofs.Showing.{shown-most}
-use Rattle.walk_lines.specs.Lines.{listedLine, lineAt, linesAt, walkLines}
+use Rattle.places.specs.Places.{fileTold}
+use Rattle.places.proofs.Placing.{place-most}
+use Rattle.walk_lines.specs.Lines.{headOf, listedLine, blank, lineAt, linesAt, walkLines}
 
-module _ (i : ℕ) (key value : List ℕ) where
-  pub listed-long : length (listedLine i key value) ≡ length (decimal i) + 1 + length key + 2 + length (shown value) + 1
+module _ (i : ℕ) (place : List ℕ) where
+  pub head-long : length (headOf i place) ≡ length (decimal i) + 1 + length place + 2
+  unfolding headOf
+  head-long = simp length-append
+
+  pub head-put : {out o₁ o₂ o₃ o₄ : List ℕ} {at e₁ e₂ e₃ e₄ : ℕ} → Appends (decimal i) out at o₁ e₁ → Appends (ascii " ") o₁ e₁ o₂ e₂ → Appends place o₂ e₂ o₃ e₃
+      → Appends (ascii ": ") o₃ e₃ o₄ e₄ → Appends (headOf i place) out at o₄ e₄
+  unfolding headOf
+  head-put p₁ p₂ p₃ p₄ = then-piece (then-piece (then-piece p₁ p₂) p₃) p₄
+
+module _ (i : ℕ) (place key value : List ℕ) where
+  pub listed-long : length (listedLine i place key value) ≡ length (headOf i place) + length key + 2 + length (shown value) + 1
   unfolding listedLine
   listed-long = simp length-append
 
-  listed-most : length (listedLine i key value) ≤ 24 + length key + 4 * length value
-  listed-most = omega (arith, listed-long, decimal-most i, shown-most value)
+  listed-most : length place ≤ fileNameBytes → length (listedLine i place key value) ≤ 122 + length key + 4 * length value
+  listed-most h = omega (arith, listed-long, head-long i place, decimal-most i, shown-most value)
 
-  pub listed-put : {out o₁ o₂ o₃ o₄ o₅ o₆ : List ℕ} {at e₁ e₂ e₃ e₄ e₅ e₆ : ℕ} → Appends (decimal i) out at o₁ e₁ → Appends (ascii " ") o₁ e₁ o₂ e₂ → Appends key o₂ e₂ o₃ e₃
-      → Appends (ascii ": ") o₃ e₃ o₄ e₄ → Appends (shown value) o₄ e₄ o₅ e₅ → Appends (ascii "\n") o₅ e₅ o₆ e₆ → Appends (listedLine i key value) out at o₆ e₆
+  pub listed-put : {out o₁ o₂ o₃ o₄ o₅ : List ℕ} {at e₁ e₂ e₃ e₄ e₅ : ℕ} → Appends (headOf i place) out at o₁ e₁ → Appends key o₁ e₁ o₂ e₂
+      → Appends (ascii ": ") o₂ e₂ o₃ e₃ → Appends (shown value) o₃ e₃ o₄ e₄ → Appends (ascii "\n") o₄ e₄ o₅ e₅ → Appends (listedLine i place key value) out at o₅ e₅
   unfolding listedLine
-  listed-put p₁ p₂ p₃ p₄ p₅ p₆ = then-piece (then-piece (then-piece (then-piece (then-piece p₁ p₂) p₃) p₄) p₅) p₆
+  listed-put p₁ p₂ p₃ p₄ p₅ = then-piece (then-piece (then-piece (then-piece p₁ p₂) p₃) p₄) p₅
 
 -- ---- All lines
 
-abbrev pub blank : Entry
-blank = record { parts = []; value = [] }
-
 -- of the entries from number i on
-module _ (qs : List Position) (es : List Entry) where
-  lines-most : (i : ℕ) (xs : List Entry) → drop i es ≡ xs → length (linesAt es (alignedFrom i qs xs)) ≤ 24 * length xs + 4 * length (storeOf xs)
+module _ (archive : List ℕ) (h : laidOut archive ≡ true) (qs : List Position) (all : List Sourced) where
+  abbrev fs : List File
+  fs = filesOf archive
+
+  lines-most : (i : ℕ) (xs : List Sourced) → drop i all ≡ xs
+      → length (linesAt fs all (alignedFrom i qs (bare xs))) ≤ 122 * length xs + 4 * length (storeOf (bare xs))
   unfolding linesAt alignedFrom storeOf lineAt
   lines-most i [] d = omega arith
-  lines-most i (x ∷ xs) d = at (aligns qs x) (lines-most (suc i) xs rest)
+  lines-most i (x ∷ xs) d = at (aligns qs (x .entry)) (lines-most (suc i) xs rest)
     where
-      rest : drop (suc i) es ≡ xs
-      rest = ap (λ (m : ℕ). drop m es) (sym (add-one i)) ∙ sym (drop-drop 1 i es) ∙ ap (drop 1) d
+      rest : drop (suc i) all ≡ xs
+      rest = ap (λ (m : ℕ). drop m all) (sym (add-one i)) ∙ sym (drop-drop 1 i all) ∙ ap (drop 1) d
 
-      here : getD es i blank ≡ x
-      here = ap (λ (m : ℕ). getD es m blank) (sym (add-zero i)) ∙ sym (getD-drop i es 0 blank) ∙ ap (λ (l : List Entry). getD l 0 blank) d
+      here : getD all i blank ≡ x
+      here = ap (λ (m : ℕ). getD all m blank) (sym (add-zero i)) ∙ sym (getD-drop i all 0 blank) ∙ ap (λ (l : List Sourced). getD l 0 blank) d
 
-      size : length (storeOf (x ∷ xs)) ≡ length (keyOf (x .parts)) + length (x .value) + length (storeOf xs)
-      size = omega (arith, length-append (keyOf (x .parts) ++ x .value) (storeOf xs), length-append (keyOf (x .parts)) (x .value))
+      e : Entry
+      e = x .entry
 
-      line : length (lineAt es i) ≤ 24 + length (keyOf (x .parts)) + 4 * length (x .value)
-      line = rw here (listed-most i (keyOf (x .parts)) (x .value))
+      size : length (storeOf (bare (x ∷ xs))) ≡ length (keyOf (e .parts)) + length (e .value) + length (storeOf (bare xs))
+      size = omega (arith, length-append (keyOf (e .parts) ++ e .value) (storeOf (bare xs)), length-append (keyOf (e .parts)) (e .value))
 
-      at : (b : Bool) → length (linesAt es (alignedFrom (suc i) qs xs)) ≤ 24 * length xs + 4 * length (storeOf xs)
-          → length (linesAt es (if b then i ∷ alignedFrom (suc i) qs xs else alignedFrom (suc i) qs xs)) ≤ 24 * length (x ∷ xs) + 4 * length (storeOf (x ∷ xs))
-      at true h = omega (arith, h, size, line, length-append (lineAt es i) (linesAt es (alignedFrom (suc i) qs xs)))
-      at false h = omega (arith, h, size)
+      line : length (lineAt fs all i) ≤ 122 + length (keyOf (e .parts)) + 4 * length (e .value)
+      line = rw here (listed-most i (fileTold fs (x .origin)) (keyOf (e .parts)) (e .value) (place-most archive h (x .origin)))
 
-pub walk-most : (q : Query) (es : List Entry) → length (walkLines q es) ≤ 24 * length es + 4 * length (storeOf es)
+      at : (b : Bool) → length (linesAt fs all (alignedFrom (suc i) qs (bare xs))) ≤ 122 * length xs + 4 * length (storeOf (bare xs))
+          → length (linesAt fs all (if b then i ∷ alignedFrom (suc i) qs (bare xs) else alignedFrom (suc i) qs (bare xs)))
+          ≤ 122 * length (x ∷ xs) + 4 * length (storeOf (bare (x ∷ xs)))
+      at true k = omega (arith, k, size, line, length-append (lineAt fs all i) (linesAt fs all (alignedFrom (suc i) qs (bare xs))))
+      at false k = omega (arith, k, size)
+
+pub walk-most : (archive : List ℕ) → laidOut archive ≡ true → (q : Query) (xs : List Sourced)
+    → length (walkLines (filesOf archive) q xs) ≤ 122 * length xs + 4 * length (storeOf (bare xs))
 unfolding numbersFrom linesAt
-walk-most (positions qs) es = lines-most qs es 0 es refl
-walk-most malformed es = omega arith
-walk-most (pastLimit k) es = omega arith
+walk-most archive h (positions qs) xs = lines-most archive h qs xs 0 xs refl
+walk-most archive h malformed xs = omega arith
+walk-most archive h (pastLimit k) xs = omega arith

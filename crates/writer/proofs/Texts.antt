@@ -11,7 +11,7 @@ use lib.Seq.{take-length, length-take-le}
 use borrow.Author.Tests.{le-leb, leb-false, lt-ltb, le-ltb}
 use Rattle.definition.specs.Image as image
 use Rattle.definition.specs.Image.{rowsFrom, rowsIn, countOf, usedOf, keyAt, entriesIn, isImage}
-use Rattle.definition.specs.Writing.{beginsBlank, entryText, textOf, imageText, written, refused, filled, putInto, writing}
+use Rattle.definition.specs.Writing.{beginsBlank, entryText, textOf, imageText, written, refused, filled, putInto, writingBy, writing}
 use Rattle.laws.proofs.Keys.{parts-of}
 use Rattle.laws.proofs.Writing.{image-text-most}
 use Rattle.copies.specs.Appended.{Appends}
@@ -133,16 +133,16 @@ module _ {contents bodies text₀ text : List ℕ} {size i : ℕ} (w : Writing c
 
 module _ (contents bodies buffer : List ℕ) where
   pub no-image : isImage contents bodies ≡ false → filled (refused 8) buffer ≡ writing contents bodies buffer
-  unfolding writing
+  unfolding writingBy
   no-image e = rw e refl
 
   module _ (e : isImage contents bodies ≡ true) where
     pub no-room : leb (length (imageText contents bodies)) (length buffer) ≡ false → filled (refused 11) buffer ≡ writing contents bodies buffer
-    unfolding writing putInto
+    unfolding writingBy putInto
     no-room f = rw (e, lt-ltb (length buffer) (length (imageText contents bodies)) (leb-false (length (imageText contents bodies)) (length buffer) f)) refl
 
     pub text-put : {n : ℕ} {text : List ℕ} → Appends (imageText contents bodies) buffer 0 text n → filled (written n) text ≡ writing contents bodies buffer
-    unfolding writing putInto
+    unfolding writingBy putInto
     text-put {n} {text} p =
         let t = imageText contents bodies in
         let h : length t ≤ length buffer = omega (arith, p .fits) in

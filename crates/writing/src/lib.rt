@@ -36,7 +36,7 @@ pub fn write_help(fd: i32) {
         \x20 --without NAME      two answers, with that file and without it, and whether they differ\n\
         \x20 --missing           says on standard error which includes found no file, and what they looked for\n\
         \x20 --shared            says on standard error which keys come through two files that TEXT includes\n\
-        \x20 --list              a line for each resource that aligns: its number, its key and its value\n\
+        \x20 --list              a line for each resource that aligns: number, file, key and value\n\
         \x20 --write             the resources themselves, as a text that gives every query the same answer\n\
         \x20 --status-fd N       writes the status to descriptor N, 3 to 9\n\
         \x20 --help              prints this\n\

@@ -54,7 +54,7 @@ impl Walk {
         assert_eq!(port::read(&case.text, &[0, 0], &mut contents, &mut bodies), Ok((case.entries, 0)), "{name}");
         if job == Job::Add && contents[0] == 512 {
             // Room for one entry more.
-            contents[1] = contents[2 + 3 * 511];
+            contents[1] = contents[2 + 4 * 511];
             contents[0] = 511;
         }
         let query: &[u8] = if reading == "small" { b"XTerm.vt100.background" } else { b"App00.window.background" };

@@ -1,12 +1,12 @@
 //! The crate's answers held to the model's, and to the Rust's by `rusts.rs`.
 
 use model::image;
-use model::limits::TEXT_BYTES;
+use model::limits::{OLD_ROW_WORDS, ROW_WORDS, TEXT_BYTES};
 use model::lookup::{get_bool, get_bytes, get_string, get_value, show, Number, WINDOW};
 use model::walking::{self, Walk};
 use model::{adding, writing};
 use records::{Query, Source, Start};
-use resource_manager::{Database, Entry, Error, ValueError};
+use resource_manager::{Archive, Database, Entry, Error, Origin, ValueError};
 use std::any::Any;
 use std::fmt::Debug;
 use std::panic::{catch_unwind, AssertUnwindSafe};
@@ -162,6 +162,8 @@ impl Held {
             last = read.ok();
             if let Some(database) = &last {
                 same("entries", files::listed(database), records::listed(&self.contents, &self.bodies))?;
+                self.stand(database, archive.as_ref(), &source.archive)?;
+                self.migrate(database)?;
                 self.write(database)?;
             }
         }
@@ -173,6 +175,31 @@ impl Held {
             *(if is_start { &mut self.counts.rusts_starts } else { &mut self.counts.rusts_readings }) += compared;
         }
         Ok(last)
+    }
+
+    /// Compares where the lines stand, and the names of their files.
+    fn stand(&self, database: &Database, archive: Option<&Archive>, bytes: &[u8]) -> Result<(), String> {
+        let rows = self.contents[2..].chunks_exact(ROW_WORDS).take(usize::from(self.contents[0]));
+        let models: Vec<usize> = rows.map(|row| usize::from(row[ROW_WORDS - 1])).collect();
+        let origins: Vec<Origin> = (0..).map_while(|number| database.origin(number)).collect();
+        same("origins", origins.iter().map(|origin| word(*origin)).collect(), models)?;
+        let Some(archive) = archive else { return Ok(()) };
+        let files = model::archive::judge(bytes).expect("an archive that was read").files;
+        let names = origins.iter().map(|origin| origin.name_in(archive).map(|name| name.as_bytes().to_vec())).collect::<Vec<_>>();
+        let models = origins.iter().map(|origin| word(*origin).checked_sub(1).map(|file| files[file].name.clone())).collect();
+        same("names of files", names, models)
+    }
+
+    /// Compares the same image with rows of three words, carried over, and one whose bytes in use are miscounted, which is none.
+    fn migrate(&self, database: &Database) -> Result<(), String> {
+        let rows = self.contents[2..].chunks_exact(ROW_WORDS).flat_map(|row| &row[..OLD_ROW_WORDS]);
+        let mut old: Vec<u16> = self.contents[..2].iter().chain(rows).copied().collect();
+        let carried = Database::migrate(&old, &self.bodies).map_err(|e| format!("an old image is refused: {e}"))?;
+        same("entries carried over", files::listed(&carried), files::listed(database))?;
+        let unknown = (0..).map_while(|number| carried.origin(number)).all(|origin| origin == Origin::Unknown);
+        same("all their files are unknown", unknown, true)?;
+        old[1] += 1;
+        same("no old image", Database::migrate(&old, &self.bodies).map(|_| ()).map_err(Error::number), Err(8))
     }
 
     /// Compares the text that a database is written out as, and what that is read as.
@@ -318,4 +345,13 @@ pub fn same<T: Debug + PartialEq>(what: &str, crates: T, others: T) -> Result<()
         return Ok(());
     }
     Err(format!("{what}: {crates:?} by the crate, and not {others:?}"))
+}
+
+/// The fourth word of a row that says so.
+fn word(origin: Origin) -> usize {
+    match origin {
+        Origin::MainText => 0,
+        Origin::File(place) => place,
+        Origin::Unknown => 65_535,
+    }
 }

@@ -5,7 +5,7 @@ use crate::fenced::Fenced;
 use crate::lending::{holds, Edit, StartUpRoom};
 use cases::draw::Draw;
 use model::image;
-use model::limits::{BODIES_BYTES, CONTENTS_WORDS};
+use model::limits::{BODIES_BYTES, CONTENTS_WORDS, ROW_WORDS};
 use port::StartUp;
 use records::{Source, Start};
 use std::ops::Range;
@@ -28,7 +28,7 @@ pub const PORTS: Calls = Calls { read: port::read_word, read_default: port::read
 pub type Answer = Result<(usize, usize), u8>;
 
 const TEXT_PAGES: usize = 32;
-const CONTENTS_PAGES: usize = 1;
+const CONTENTS_PAGES: usize = 2;
 const BODIES_PAGES: usize = 9;
 const MOST_WORDS: usize = CONTENTS_PAGES * 2048;
 const MOST_BYTES: usize = BODIES_PAGES * 4096;
@@ -261,7 +261,7 @@ impl Both {
     /// contents alone.
     pub fn entries(&mut self) -> Vec<(&[u8], &[u8])> {
         let (contents, bodies) = self.image();
-        let rows = contents[2..].chunks(3).take(contents[0].into());
+        let rows = contents[2..].chunks(ROW_WORDS).take(contents[0].into());
         rows.map(|row| {
             let [start, key, value] = [row[0], row[1], row[2]].map(usize::from);
             (&bodies[start..start + key], &bodies[start + key..start + key + value])

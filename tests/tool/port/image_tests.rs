@@ -7,13 +7,14 @@ use cases::draw::Draw;
 use cases::texts;
 use cases::words::each_word;
 use model::image;
-use model::limits::{BODIES_BYTES, CONTENTS_WORDS, ENTRIES, KEY_PARTS};
+use model::limits::{BODIES_BYTES, CONTENTS_WORDS, ENTRIES, KEY_PARTS, ROW_WORDS};
 use records::Query;
 
-pub const TESTS: [(&str, Test); 5] = [
+pub const TESTS: [(&str, Test); 6] = [
     ("images of every length", lengths),
     ("images with a word changed", changed_words),
     ("images with a byte changed", changed_bytes),
+    ("where the lines of an image stand", origins),
     ("images at the limits", limits),
     ("keys of an image", keys),
 ];
@@ -76,9 +77,9 @@ impl Judging {
 fn lengths(lookups: Lookups) -> Result<String, String> {
     let mut judging = Judging::new(lookups);
     let (mut contents, mut bodies) = image_of(b"a:1\n*b.c:22");
-    contents.resize(2048, 7);
+    contents.resize(4096, 7);
     bodies.resize(BODIES_BYTES + 4096, 7);
-    for words in (0..=CONTENTS_WORDS + 2).chain([2048]) {
+    for words in (0..=CONTENTS_WORDS + 2).chain([4096]) {
         judging.expect("contents", &contents[..words], &bodies[..BODIES_BYTES], words >= CONTENTS_WORDS)?;
     }
     for bytes in (0..BODIES_BYTES).step_by(7).chain(BODIES_BYTES - 3..=BODIES_BYTES + 3).chain([BODIES_BYTES + 4096]) {
@@ -88,8 +89,10 @@ fn lengths(lookups: Lookups) -> Result<String, String> {
 }
 
 /// Words that are near a limit, or that sum past 16 bits with others.
-const WORDS: [u16; 24] =
-    [0, 1, 2, 3, 4, 5, 6, 7, 8, 9, 10, 255, 256, 511, 512, 513, 514, 32_766, 32_767, 32_768, 32_769, 65_533, 65_534, 65_535];
+const WORDS: [u16; 26] = [
+    0, 1, 2, 3, 4, 5, 6, 7, 8, 9, 10, 64, 65, 255, 256, 511, 512, 513, 514, 32_766, 32_767, 32_768, 32_769, 65_533, 65_534,
+    65_535,
+];
 
 /// Good images with the count or the used bytes changed to any word, and with one or two of the first
 /// words changed to words that matter.
@@ -106,8 +109,8 @@ fn changed_words(lookups: Lookups) -> Result<String, String> {
     }
     for text in [b"a:1\n*b.c:22".as_slice(), b"", b"a:", b"*a:z\n?.a:\nb.c:9"] {
         let (contents, bodies) = image_of(text);
-        for first in 0..11 {
-            for second in first..11 {
+        for first in 0..14 {
+            for second in first..14 {
                 for (one, other) in WORDS.iter().flat_map(|one| [0, 1, u16::MAX, 2].map(|more| (*one, more))) {
                     let mut changed = contents.clone();
                     changed[second] = changed[second].wrapping_add(other);
@@ -158,7 +161,7 @@ fn changed_bytes(lookups: Lookups) -> Result<String, String> {
         if image::read(&mut contents, &mut bodies, &[&texts::text(draw, 8, &query)], &[0, 0]).is_err() {
             continue;
         }
-        let (rows, used) = (2 + 3 * usize::from(contents[0]), usize::from(contents[1]));
+        let (rows, used) = (2 + ROW_WORDS * usize::from(contents[0]), usize::from(contents[1]));
         for _ in 0..draw.between(1, 2) {
             if draw.one_in(2) {
                 let at = draw.below(rows);
@@ -172,15 +175,31 @@ fn changed_bytes(lookups: Lookups) -> Result<String, String> {
     judging.report()
 }
 
+/// Every word that may say where a line stands, in the first row and in the last, and behind the last, where anything may stand.
+fn origins(lookups: Lookups) -> Result<String, String> {
+    let mut judging = Judging::new(lookups);
+    let (mut contents, bodies) = image_of(b"a:1\n*b.c:22");
+    for origin in (0..=130).chain([255, 256, 32_768, 65_470, 65_533, 65_534, 65_535]) {
+        for row in 0..3 {
+            let at = 5 + ROW_WORDS * row;
+            let before = std::mem::replace(&mut contents[at], origin);
+            let good = origin <= 64 || origin == 65_535 || row == 2;
+            judging.expect(&format!("{origin} in row {row}"), &contents, &bodies, good)?;
+            contents[at] = before;
+        }
+    }
+    judging.report()
+}
+
 /// Counts of 512 and 513, stores of 32,768 and 32,769.
 fn limits(lookups: Lookups) -> Result<String, String> {
     let mut judging = Judging::new(lookups);
     for count in [ENTRIES - 1, ENTRIES, ENTRIES + 1, ENTRIES + 2] {
-        let mut contents = vec![0; 2048];
+        let mut contents = vec![0; 2 + ROW_WORDS * (ENTRIES + 2)];
         let mut bodies = vec![0; BODIES_BYTES];
         contents[..2].copy_from_slice(&[count as u16, 2 * count as u16]);
         for row in 0..count {
-            contents[2 + 3 * row..5 + 3 * row].copy_from_slice(&[2 * row as u16, 2, 0]);
+            contents[2 + ROW_WORDS * row..][..ROW_WORDS].copy_from_slice(&[2 * row as u16, 2, 0, row as u16 % 65]);
             bodies[2 * row..2 * row + 2].copy_from_slice(b".a");
         }
         judging.expect(&format!("{count} entries"), &contents, &bodies, count <= ENTRIES)?;

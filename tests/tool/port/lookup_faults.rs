@@ -7,6 +7,7 @@ use crate::third::{Telling, Third};
 use crate::{both, lookup_tests};
 use cases::readings::Extent;
 use cases::struck::FAMILIES;
+use model::limits::ROW_WORDS;
 use port::{get_bool_word, get_bytes_word, get_string_word, get_value_word, show_word};
 
 const fn bytes(get_bytes: Lookup) -> Lookups {
@@ -176,9 +177,9 @@ fn first_of_equals(c: &[u16], b: &[u8], n: &[u8], k: &[u8]) -> u64 {
     contents[..2].copy_from_slice(&c[..2]);
     let mut used = 0;
     let mut places = Vec::new();
-    for (number, row) in c[2..].chunks(3).take(c[0].into()).collect::<Vec<_>>().into_iter().rev().enumerate() {
+    for (number, row) in c[2..].chunks(ROW_WORDS).take(c[0].into()).collect::<Vec<_>>().into_iter().rev().enumerate() {
         let [start, key, value] = [row[0], row[1], row[2]].map(usize::from);
-        contents[2 + 3 * number..5 + 3 * number].copy_from_slice(&[used as u16, row[1], row[2]]);
+        contents[2 + ROW_WORDS * number..][..ROW_WORDS].copy_from_slice(&[used as u16, row[1], row[2], row[3]]);
         bodies[used..used + key + value].copy_from_slice(&b[start..start + key + value]);
         places.push((used + key, start + key));
         used += key + value;

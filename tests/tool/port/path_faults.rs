@@ -1,6 +1,7 @@
 //! Shows that the comparison tells slips in the path of an include, which finds another file then, or one that has another folder.
 //! The port with a slip is the port with what it takes rewritten: each include names by dots, from the root, what the slip would
-//! find, and a file of that body stands in the folder that the slip would give it.
+//! find, and a file of that body stands in the folder that the slip would give it. Where its lines stand is then told by the place that the
+//! file had.
 
 use crate::both::{Both, Calls, PORTS};
 use crate::faults::{each_seen, status};
@@ -9,7 +10,7 @@ use cases::dotted;
 use cases::readings::Extent;
 use cases::slips::{slipped, Slip, SLIPS};
 use model::archive::{judge, Archive};
-use model::limits::{ARCHIVE_FILES, TEXT_BYTES};
+use model::limits::{ARCHIVE_FILES, ROW_WORDS, TEXT_BYTES};
 use model::line::{take_line, Line};
 use model::paths::join;
 use model::startup;
@@ -96,27 +97,51 @@ fn by_the_rust(calls: Calls, room: &str) -> Result<(), String> {
 
 fn read(text: &[u8], archive: &[u8], contents: &mut [u16], bodies: &mut [u8]) -> u64 {
     match rewritten(&[text], archive) {
-        Some((texts, archive)) => read_word(&texts[0], &archive, contents, bodies),
+        Some(Rewritten { texts, archive, places }) => {
+            let word = read_word(&texts[0], &archive, contents, bodies);
+            put_back(word, contents, &places)
+        }
         None => read_word(text, archive, contents, bodies),
     }
 }
 
 fn read_default(s: &StartUp, archive: &[u8], contents: &mut [u16], bodies: &mut [u8]) -> u64 {
     let texts = [s.property, s.xresources.bytes, s.xdefaults.bytes, s.xenvironment.bytes, s.host.bytes];
-    let Some((texts, archive)) = rewritten(&texts, archive) else { return read_default_word(s, archive, contents, bodies) };
+    let Some(Rewritten { texts, archive, places }) = rewritten(&texts, archive) else {
+        return read_default_word(s, archive, contents, bodies);
+    };
     let text = |of: Text, at: usize| Text { bytes: &texts[at], ..of };
     let (xresources, xdefaults) = (text(s.xresources, 1), text(s.xdefaults, 2));
     let (xenvironment, host) = (text(s.xenvironment, 3), text(s.host, 4));
-    read_default_word(
+    let word = read_default_word(
         &StartUp { property: &texts[0], xresources, xdefaults, xenvironment, host, ..*s },
         &archive,
         contents,
         bodies,
-    )
+    );
+    put_back(word, contents, &places)
+}
+
+/// Says in each row of an accepted reading which place the file had before it was rewritten.
+fn put_back(word: u64, contents: &mut [u16], places: &[u16]) -> u64 {
+    if word & 0xFFFF == 0 {
+        let count = usize::from(contents[0]);
+        for row in contents[2..].chunks_mut(ROW_WORDS).take(count).filter(|row| row[3] != 0) {
+            row[3] = places[usize::from(row[3]) - 1];
+        }
+    }
+    word
+}
+
+struct Rewritten {
+    texts: Vec<Vec<u8>>,
+    archive: Vec<u8>,
+    /// The place that each file had, from 1.
+    places: Vec<u16>,
 }
 
 /// Texts and archive as the slip of this process finds its files; none where they do not fit.
-fn rewritten(texts: &[&[u8]], archive: &[u8]) -> Option<(Vec<Vec<u8>>, Vec<u8>)> {
+fn rewritten(texts: &[&[u8]], archive: &[u8]) -> Option<Rewritten> {
     let mut rewriting = Rewriting { slip: *SLIP.get()?, archive: &judge(archive)?, found: Vec::new() };
     // A text that is too long is refused, or not looked at: it stays as it is.
     let is_long = |text: &[u8]| text.len() > TEXT_BYTES;
@@ -131,7 +156,9 @@ fn rewritten(texts: &[&[u8]], archive: &[u8]) -> Option<(Vec<Vec<u8>>, Vec<u8>)>
     }
     let files: Vec<(&[u8], &[u8])> = files.iter().map(|(name, body)| (&name[..], &body[..])).collect();
     let archive = archive_of(&files);
-    judge(&archive).map(|_| (texts, archive))
+    let place = |name: &[u8]| files.iter().position(|(of, _)| *of == name).map(|number| rewriting.found[number].0 as u16 + 1);
+    let places = judge(&archive)?.files.iter().map(|file| place(&file.name)).collect::<Option<Vec<u16>>>()?;
+    Some(Rewritten { texts, archive, places })
 }
 
 struct Rewriting<'a> {

@@ -7,8 +7,9 @@ use crate::faults;
 use crate::fenced::zero_bytes;
 use crate::run::Run;
 use crate::{
-    comparing, comparing_faults, comparing_tests, lookup_faults, lookup_tests, path_faults, start_up_faults, start_up_tests,
-    walking, walking_faults, walking_tests, window_faults, window_tests, writing_faults, writing_tests,
+    comparing, comparing_faults, comparing_tests, lookup_faults, lookup_tests, migrating_faults, migrating_tests, path_faults,
+    start_up_faults, start_up_tests, walking, walking_faults, walking_tests, window_faults, window_tests, writing_faults,
+    writing_tests,
 };
 use cases::archives;
 use cases::draw::Draw;
@@ -99,7 +100,9 @@ pub fn names() -> Vec<&'static str> {
     let comparing = comparing_tests::names().chain(["faults of the comparing call"]);
     let writing = writing_tests::names().chain(["faults of the writing call"]);
     let walking = walking_tests::names().chain(["faults of walks and additions"]);
-    readings.chain(start_ups).chain(lookups).chain(window).chain(comparing).chain(writing).chain(walking).collect()
+    let migrating = migrating_tests::names().chain(["faults of migrations"]);
+    let images = writing.chain(walking).chain(migrating);
+    readings.chain(start_ups).chain(lookups).chain(window).chain(comparing).chain(images).collect()
 }
 
 pub fn test(name: &str, room: &str) -> Result<String, String> {
@@ -127,6 +130,9 @@ pub fn test(name: &str, room: &str) -> Result<String, String> {
     if name == "faults of walks and additions" {
         return walking_faults::all_seen(room);
     }
+    if name == "faults of migrations" {
+        return migrating_faults::all_seen(room);
+    }
     if let Some(result) = lookup_tests::test(name, asking::PORTS, room) {
         return result;
     }
@@ -140,6 +146,9 @@ pub fn test(name: &str, room: &str) -> Result<String, String> {
         return result;
     }
     if let Some(result) = walking_tests::test(name, walking::PORTS) {
+        return result;
+    }
+    if let Some(result) = migrating_tests::test(name, port::migrate_word) {
         return result;
     }
     if let Some(test) = TESTS.iter().chain(&start_up_tests::TESTS).find(|(of, _)| *of == name).map(|(_, test)| *test) {

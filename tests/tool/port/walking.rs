@@ -6,6 +6,7 @@ use crate::fenced::Fenced;
 use crate::run::shown;
 use cases::images::Image;
 use cases::walks::{State, Turn};
+use model::limits::ROW_WORDS;
 use model::line::read_key;
 use model::matching::{all_rows, positions};
 use model::query::split;
@@ -173,7 +174,7 @@ impl Walking {
         let turn = self.turn;
         let Image { mut contents, mut bodies } = image.clone();
         if turn % 3 == 0 {
-            let rows = (2 + 3 * usize::from(contents[0])).min(contents.len());
+            let rows = (2 + ROW_WORDS * usize::from(contents[0])).min(contents.len());
             let used = usize::from(contents[1]).min(bodies.len());
             contents[rows..].fill(0xA5C3 ^ turn as u16);
             bodies[used..].fill(turn as u8);

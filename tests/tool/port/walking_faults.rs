@@ -3,7 +3,7 @@
 use crate::faults::{each_seen, peek, poke};
 use crate::walking::{Add, Calls, Start, Step, PORTS};
 use crate::walking_tests::{comparison_with_the_rust, whole_comparison};
-use model::limits::{BODIES_BYTES, CONTENTS_WORDS, ENTRIES, TEXT_BYTES};
+use model::limits::{BODIES_BYTES, CONTENTS_WORDS, ENTRIES, ROW_WORDS, TEXT_BYTES};
 use port::{add_word, get_bytes_word, walk_start_word, walk_step_word};
 
 const END: u64 = 65_535;
@@ -98,7 +98,7 @@ const STEPS: [(&str, Step); 14] = [
     }),
 ];
 
-const ADDITIONS: [(&str, Add); 28] = [
+const ADDITIONS: [(&str, Add); 29] = [
     ("12 after 5", |c, b, t| {
         let word = add_word(c, b, t);
         if word == 12 && t.split(|b| *b == b'\n').any(|line| line.iter().filter(|b| **b == b'.').count() == 16) {
@@ -108,10 +108,12 @@ const ADDITIONS: [(&str, Add); 28] = [
         }
     }),
     ("zeroes behind the entry's bytes", |c, b, t| on_added(c, b, t, |c, b, _| b[c[1] as usize..BODIES_BYTES].fill(0))),
-    ("zeroes behind the entry's row", |c, b, t| on_added(c, b, t, |c, _, number| c[5 + 3 * number..CONTENTS_WORDS].fill(0))),
+    ("zeroes behind the entry's row", |c, b, t| {
+        on_added(c, b, t, |c, _, number| c[2 + ROW_WORDS * (number + 1)..CONTENTS_WORDS].fill(0))
+    }),
     ("bytes used read from the first word", |c, b, t| {
         let (count, used) = (c[0], c[1]);
-        on_added(c, b, t, |c, _, number| c[2 + 3 * number] = if count == 0 { used } else { count })
+        on_added(c, b, t, |c, _, number| c[2 + ROW_WORDS * number] = if count == 0 { used } else { count })
     }),
     ("a refusal that has written the key", |c, b, t| {
         let word = add_word(c, b, t);
@@ -124,7 +126,7 @@ const ADDITIONS: [(&str, Add); 28] = [
     ("a refusal that has written the row", |c, b, t| {
         let (word, count) = (add_word(c, b, t), c[0] as usize);
         if word == 7 && count < ENTRIES {
-            c[2 + 3 * count] ^= 1;
+            c[2 + ROW_WORDS * count] ^= 1;
         }
         word
     }),
@@ -151,11 +153,14 @@ const ADDITIONS: [(&str, Add); 28] = [
     }),
     ("a number from bit 32 on", |c, b, t| on_number(add_word(c, b, t), |number| number << 16)),
     ("the count is not raised", |c, b, t| on_added(c, b, t, |c, _, number| c[0] = number as u16)),
-    ("the bytes used are not raised", |c, b, t| on_added(c, b, t, |c, _, number| c[1] = c[2 + 3 * number])),
-    ("the lengths are swapped", |c, b, t| on_added(c, b, t, |c, _, number| c.swap(3 + 3 * number, 4 + 3 * number))),
+    ("the bytes used are not raised", |c, b, t| on_added(c, b, t, |c, _, number| c[1] = c[2 + ROW_WORDS * number])),
+    ("a line of the main text", |c, b, t| on_added(c, b, t, |c, _, number| c[5 + ROW_WORDS * number] = 0)),
+    ("the lengths are swapped", |c, b, t| {
+        on_added(c, b, t, |c, _, number| c.swap(3 + ROW_WORDS * number, 4 + ROW_WORDS * number))
+    }),
     ("the last byte of the value is another", |c, b, t| on_added(c, b, t, |c, b, _| b[c[1] as usize - 1] ^= 1)),
     ("a word more is written", |c, b, t| {
-        on_added(c, b, t, |c, _, number| c.iter_mut().skip(5 + 3 * number).take(1).for_each(|word| *word = 0))
+        on_added(c, b, t, |c, _, number| c.iter_mut().skip(2 + ROW_WORDS * (number + 1)).take(1).for_each(|word| *word = 0))
     }),
     ("2 before 8", |c, b, t| if t.len() > TEXT_BYTES { 2 } else { add_word(c, b, t) }),
     ("12 before 2", |c, b, t| match add_word(c, b, t) {
@@ -276,7 +281,7 @@ fn past_the_images_count(c: &[u16], b: &[u8], n: &[u8], k: &[u8], next: &mut u16
     let mut longer = c.to_vec();
     let last = usize::from(count.min(ENTRIES as u16));
     if longer.len() >= CONTENTS_WORDS && last > usize::from(c[0]) && last > 0 {
-        let row = &c[3 * last - 1..3 * last + 2];
+        let row = &c[2 + ROW_WORDS * (last - 1)..][..ROW_WORDS];
         longer[0] = last as u16;
         longer[1] = row[0].wrapping_add(row[1]).wrapping_add(row[2]);
     }

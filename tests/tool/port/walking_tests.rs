@@ -7,7 +7,7 @@ use crate::walking::{Added, Calls, Stepped, Walking};
 use cases::images::Image;
 use cases::readings::Extent;
 use cases::walks::{at_limits, family, whole_walk, AtLimit, State, Turn};
-use model::limits::{BODIES_BYTES, CONTENTS_WORDS, ENTRIES, QUERY_BYTES, QUERY_PARTS, TEXT_BYTES};
+use model::limits::{BODIES_BYTES, CONTENTS_WORDS, ENTRIES, QUERY_BYTES, QUERY_PARTS, ROW_WORDS, TEXT_BYTES};
 use records::Query;
 
 type Test = fn(Calls) -> Result<String, String>;
@@ -140,7 +140,7 @@ fn any_state(calls: Calls) -> Result<String, String> {
     }
     // Rows that stand behind those of the image are no entries of it.
     let mut fewer = image(SIX);
-    (fewer.contents[0], fewer.contents[1]) = (2, fewer.contents[2 + 3 * 2]);
+    (fewer.contents[0], fewer.contents[1]) = (2, fewer.contents[2 + ROW_WORDS * 2]);
     let (contents, bodies) = (fewer.contents.clone(), fewer.bodies.clone());
     for next in 0..=6 {
         walking.lend_slices(&contents, &bodies);
@@ -235,13 +235,13 @@ fn limits(calls: Calls) -> Result<String, String> {
 fn writes(calls: Calls) -> Result<String, String> {
     let mut walking = Walking::new(calls);
     let (mut contents, mut bodies) = (vec![0xA5C3; CONTENTS_WORDS + 3], vec![0x5A; BODIES_BYTES + 3]);
-    contents[..5].copy_from_slice(&[1, 3, 0, 2, 1]);
+    contents[..6].copy_from_slice(&[1, 3, 0, 2, 1, 0]);
     bodies[..3].copy_from_slice(b".a1");
     for _ in 0..4 {
         walking.lend_slices(&contents, &bodies);
         same("the number", walking.add(b"! more\n*b..c : y\\nz\n")?, Ok(1))?;
         let (mut words, mut bytes) = (contents.clone(), bodies.clone());
-        words[..8].copy_from_slice(&[2, 10, 0, 2, 1, 3, 4, 3]);
+        words[..10].copy_from_slice(&[2, 10, 0, 2, 1, 0, 3, 4, 3, 65_535]);
         bytes[3..10].copy_from_slice(b"*b.cy\nz");
         same("what is left", walking.both.image() == (&words[..], &bytes[..]), true)?;
         for (text, refused) in [(b"".as_slice(), 12), (b"a:\nb:", 12), (b"a.a.a.a.a.a.a.a.a.a.a.a.a.a.a.a.a:", 5)] {
@@ -250,7 +250,7 @@ fn writes(calls: Calls) -> Result<String, String> {
         }
         same("an empty value", walking.add(b"?d:")?, Ok(2))?;
         (words[0], words[1]) = (3, 14);
-        words[8..11].copy_from_slice(&[10, 4, 0]);
+        words[10..14].copy_from_slice(&[10, 4, 0, 65_535]);
         bytes[10..14].copy_from_slice(b".?.d");
         same("what is left", walking.both.image() == (&words[..], &bytes[..]), true)?;
     }
@@ -304,7 +304,7 @@ fn no_images(calls: Calls) -> Result<String, String> {
         [(0, 0), (1, BODIES_BYTES), (CONTENTS_WORDS - 1, BODIES_BYTES), (CONTENTS_WORDS, BODIES_BYTES - 1), (CONTENTS_WORDS, 0)];
     let mut bad: Vec<(Vec<u16>, Vec<u8>)> =
         short.iter().map(|(words, bytes)| (contents[..*words].to_vec(), bodies[..*bytes].to_vec())).collect();
-    for (at, more) in [(0, 1), (0, 513), (1, 1), (1, u16::MAX), (2, 1), (3, 1), (4, 1), (5, 1), (6, 1)] {
+    for (at, more) in [(0, 1), (0, 513), (1, 1), (1, u16::MAX), (2, 1), (3, 1), (4, 1), (5, 65), (5, 65_534), (6, 1), (7, 1)] {
         let mut changed = contents.clone();
         changed[at] = changed[at].wrapping_add(more);
         bad.push((changed, bodies.clone()));

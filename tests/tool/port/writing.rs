@@ -6,7 +6,7 @@ use crate::fenced::Fenced;
 use crate::run::shown;
 use cases::draw::Draw;
 use cases::images::{Entry, Image};
-use model::limits::{TEXT_BYTES, WRITTEN_BYTES};
+use model::limits::{ROW_WORDS, TEXT_BYTES, WRITTEN_BYTES};
 use model::line::{read_key, Component};
 use model::writing;
 use records::{archive_of, Query, Source};
@@ -143,7 +143,7 @@ impl Writing {
         let turn = self.turn;
         let Image { mut contents, mut bodies } = image.clone();
         if turn % 3 == 0 {
-            let rows = (2 + 3 * usize::from(contents[0])).min(contents.len());
+            let rows = (2 + ROW_WORDS * usize::from(contents[0])).min(contents.len());
             let used = usize::from(contents[1]).min(bodies.len());
             contents[rows..].fill(0xA5C3 ^ turn as u16);
             bodies[used..].fill(turn as u8);

@@ -110,7 +110,7 @@ fn no_images(write: Write) -> Result<String, String> {
         [(0, 0), (1, BODIES_BYTES), (CONTENTS_WORDS - 1, BODIES_BYTES), (CONTENTS_WORDS, BODIES_BYTES - 1), (CONTENTS_WORDS, 0)];
     let mut bad: Vec<(Vec<u16>, Vec<u8>)> =
         short.iter().map(|(words, bytes)| (contents[..*words].to_vec(), bodies[..*bytes].to_vec())).collect();
-    for (at, more) in [(0, 1), (0, 513), (1, 1), (1, u16::MAX), (2, 1), (3, 1), (4, 1), (5, 1), (6, 1)] {
+    for (at, more) in [(0, 1), (0, 513), (1, 1), (1, u16::MAX), (2, 1), (3, 1), (4, 1), (5, 65), (5, 65_534), (6, 1), (7, 1)] {
         let mut changed = contents.clone();
         changed[at] = changed[at].wrapping_add(more);
         bad.push((changed, bodies.clone()));

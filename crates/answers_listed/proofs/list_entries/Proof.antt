@@ -16,7 +16,8 @@ list-image-requires c κs =
     let x = c .before .before .before in
     let w = x .before .before .before .before in
     let s = start-of w in
-    (read-image (map now (s .args .texts .now)) (s .args .archive .now) (s .args .name .now) (s .args .class .now) _ _ (rw (x .enum-told .given .1) at (w .read-texts .ensures)), s .pre)
+    let i = read-image (map now (s .args .texts .now)) (s .args .archive .now) (s .args .name .now) (s .args .class .now) _ _ (rw (x .enum-told .given .1) at (w .read-texts .ensures)) in
+    (i .0, i .1, s .pre)
 
 returns : tie.Need-returns
 unfolding zeroes

@@ -9,7 +9,7 @@ use Rattle.answers_listed.proofs.list_image.Statement.{statement}
 use Rattle.answers_listed.proofs.list_image.Tie as tie
 
 abbrev start-of : tie.After-walk-start → tie.Start
-start-of c = c .before .before .before .before .before .before
+start-of c = c .before .before .before .before .before .before .before
 
 -- a walk that was begun
 begun : (c : tie.After-put-walk-arg) → let a = start-of (c .before .before .before .before) .args in
@@ -19,25 +19,25 @@ begun c = rw (c .before .before .started2 .given .1) at (c .before .before .befo
 put-walk-requires : tie.Need-put-walk-requires
 put-walk-requires c κs =
     let s = start-of (c .before .before .before .before) in
-    (sym (begun c), lines-room _ _ _ _ _ (begun c) (s .args .out .now) (s .pre .1))
+    (sym (begun c), s .pre .1, lines-room _ _ _ _ _ _ (begun c) (s .args .out .now) (s .pre .1) (s .pre .2))
 
 returns : tie.Need-returns
 returns c =
     let test = c .before .before .before .before .before in
     let w = test .before .before .before in
-    told-none _ _ _ _ _ (begun (w .before)) (w .put-walk .ensures) (test .if1 .taken) (c .before .before .put .ensures)
+    told-none _ _ _ _ _ _ (begun (w .before)) (w .put-walk .ensures) (test .if1 .taken) (c .before .before .put .ensures)
 
 returns-2 : tie.Need-returns-2
 returns-2 c =
     let x = c .before .before .before .before .before in
     let w = x .before .before in
     let s = start-of w in
-    told-refused (s .args .contents .now) (s .args .bodies .now) (s .args .name .now) (s .args .class .now) (s .pre .0) _ (rw (x .started .given .1) at (w .walk-start .ensures)) (c .before .before .refuse .ensures)
+    told-refused (s .args .contents .now) (s .args .bodies .now) (s .args .archive .now) (s .args .name .now) (s .args .class .now) (s .pre .0) _ (rw (x .started .given .1) at (w .walk-start .ensures)) (c .before .before .refuse .ensures)
 
 returns-3 : tie.Need-returns-3
 returns-3 c =
     let w = c .before .before .before in
-    told-some _ _ _ _ _ (begun (w .before)) (w .put-walk .ensures) (omega (arith, c .if1 .left))
+    told-some _ _ _ _ _ _ (begun (w .before)) (w .put-walk .ensures) (omega (arith, c .if1 .left))
 
 pub list-image-spec : {M : Type 1} → statement M
 list-image-spec =

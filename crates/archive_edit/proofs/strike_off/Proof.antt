@@ -8,7 +8,7 @@ use Rattle.definition.specs.Archive.{struckOff}
 use Rattle.laws.proofs.Archive.{laidOut-says}
 use Rattle.archive.specs.Walk.{lengthsAt}
 use Rattle.archive.proofs.Walk.{rows-room, length-files}
-use Rattle.archive_edit.proofs.Striking.{Numbers, numbers, strike-written}
+use Rattle.archive_edit.proofs.Striking.{starts-at, ends-at, Numbers, numbers, strike-written}
 use Rattle.archive_edit.proofs.strike_off.Statement.{statement}
 use Rattle.archive_edit.proofs.strike_off.Tie as tie
 
@@ -26,7 +26,8 @@ facts c =
     let start = c .before .before .before .before .before in
     let a = start .args in
     let m = c .member-of .result in
-    let q = numbers (a .archive .now) (a .file) (start .pre .0) (start .pre .1) (counted .result) (m .start) (m .end) (counted .ensures .0) (c .member-of .ensures .0) (c .member-of .ensures .1) in
+    let q = numbers (a .archive .now) (a .file) (start .pre .0) (start .pre .1) (counted .result) (m .start) (m .end) (counted .ensures .0)
+    (starts-at (a .archive .now) (a .file) (c .member-of .ensures)) (ends-at (a .archive .now) (start .pre .0) (a .file) (start .pre .1) (c .member-of .ensures)) in
     (q, c .before .lengths-at .ensures, counted .ensures .1, start .pre .2)
 
 -- after each write: where the numbers are known, and that `out` is as long as before
@@ -60,7 +61,8 @@ returns c =
     let a = start .args in
     let m = known .member-of .result in
     let row = known .before .lengths-at .ensures in
-    strike-written (a .archive .now) (a .file) (start .pre .0) (start .pre .1) (counted .result) (m .start) (m .end) (counted .ensures .0) (known .member-of .ensures .0) (known .member-of .ensures .1)
+    strike-written (a .archive .now) (a .file) (start .pre .0) (start .pre .1) (counted .result) (m .start) (m .end) (counted .ensures .0)
+    (starts-at (a .archive .now) (a .file) (known .member-of .ensures)) (ends-at (a .archive .now) (start .pre .0) (a .file) (start .pre .1) (known .member-of .ensures))
     (a .out .now) _ _ _ _ (c₁ .put-word .ensures) (rw row at (c₂ .copy-part .ensures)) (rw row at (c₃ .copy-part2 .ensures)) (c₄ .copy-part3 .ensures)
 
 pub strike-off-spec : {M : Type 1} → statement M

@@ -11,6 +11,9 @@ slice-write-words-2 c = simp length-set (omega arith)
 slice-write-words-3 : tie.Need-slice-write-words-3
 slice-write-words-3 c = simp length-set (omega arith)
 
+slice-write-words-4 : tie.Need-slice-write-words-4
+slice-write-words-4 c = simp length-set (omega arith)
+
 returns : tie.Need-returns
 returns c = rw (c .before .before .before .row-start .ensures)
 
@@ -28,5 +31,8 @@ write-row-spec = tie.close (tie.spec
     (λ c. search needs)
     (λ c. search needs)
     slice-write-words-3
+    (λ c. search needs)
+    (λ c. search needs)
+    slice-write-words-4
     (λ c. search needs)
     returns)

@@ -7,6 +7,7 @@ use lib.ListN.{length, take, drop}
 use borrow.Author.Needs.{needs}
 use borrow.Fn.Kinds.{In}
 use borrow.Fn.PlainCycle.{Measures, is, falls, and}
+use Rattle.definition.specs.Limits.{archiveFiles}
 use Rattle.definition.specs.Archive.{filesOf}
 use Rattle.definition.specs.Text.{lineAt}
 use Rattle.laws.proofs.Lists.{length-part-rest}
@@ -15,7 +16,7 @@ use Rattle.image.specs.Running.{world}
 use Rattle.lines.proofs.Lined.{Skips, Includes, Enters, lined}
 use Rattle.parser.specs.Putting.{Puts}
 use Rattle.plain_lines.proofs.Lines.{ahead}
-use Rattle.includes.proofs.Opening.{no-depth, Sought, not-found, is-at, all-opened, room-on, opened}
+use Rattle.includes.proofs.Opening.{no-depth, Sought, not-found, is-at, all-opened, small-number, room-on, opened}
 use Rattle.includes.proofs.Loop.{
   Reading,
   reading-first,
@@ -71,10 +72,10 @@ abbrev parse-database-calls : ℕ → parse-database-lts.Claims
 parse-database-calls t = (plain-lines-reads.Asked, plain-lines-reads.Learnt, parse-line-reads.Asked, parse-line-reads.Learnt, include-below t, include.Post, parse-entry-reads.Asked, parse-entry-reads.Learnt)
 
 abbrev Inv-loop : parse-database-lts.InvT-loop
-Inv-loop classes text folder archive depth words₀ store₀ s₀ rest₀ words store s rest = Reading depth (filesOf archive) folder text (world s₀ words₀ store₀) s words store rest
+Inv-loop classes text folder archive depth words₀ store₀ origin s₀ rest₀ words store s rest = Reading origin depth (filesOf archive) folder text (world s₀ words₀ store₀) s words store rest
 
 abbrev μ-loop : parse-database-lts.MeasureT-loop
-μ-loop classes text folder archive depth words₀ store₀ s₀ rest₀ words store s rest = length rest
+μ-loop classes text folder archive depth words₀ store₀ origin s₀ rest₀ words store s rest = length rest
 
 module _ (t : ℕ) where
   -- ---- An include
@@ -96,6 +97,10 @@ module _ (t : ℕ) where
       )
   stands c = is-at (sought (c .before .before .before .before)) (c .before .before .found .given .1) .inside
 
+  -- its place, from 1, fits a word
+  numbered : (c : include-lts.Else2 (include-calls t) (include-at t) include.Post) → c .before .before .found .given .0 .0 .number < archiveFiles
+  numbered c = small-number (sought (c .before .before .before .before)) (c .before .before .found .given .1)
+
   include-returns : include-lts.Need-returns (include-calls t) (include-at t) include.Post
   include-returns c =
       let a = c .before .before .before .before .before .before .args in
@@ -103,7 +108,7 @@ module _ (t : ℕ) where
 
   include-parse-database-requires : include-lts.Need-parse-database-requires (include-calls t) (include-at t) include.Post
   include-parse-database-requires c κs =
-      let here = c .before .before .before .before .before in
+      let here = c .before .before .before .before .before .before in
       let find-here = here .before .before .before .before in
       let start-here = find-here .before .before .before .before .before .before .before in
       (omega (arith, start-here .pre .0, find-here .before .if1 .left), (room-on (sought find-here) (here .before .before .found .given .1) (here .if2 .left), start-here .pre .1 .1, start-here .pre .1 .2))
@@ -111,7 +116,7 @@ module _ (t : ℕ) where
   include-returns-4 : include-lts.Need-returns-4 (include-calls t) (include-at t) include.Post
   include-returns-4 c =
       let call-here = c .before .before .before .before in
-      let here = call-here .before .before .before .before .before .before in
+      let here = call-here .before .before .before .before .before .before .before in
       opened (sought (here .before .before .before .before)) (here .before .before .found .given .1) (here .if2 .left) (call-here .before .before .before .before .folder-of .ensures .0) _ _ _ (call-here .parse-database .ensures)
 
   -- ---- A text
@@ -123,7 +128,7 @@ module _ (t : ℕ) where
   here : (c : parse-database-lts.After-rest (parse-database-calls t) (parse-database-at t) parse-database.Post Inv-loop μ-loop) → (
       let a = c .before .before .before .before .before .before .before .before .before .before .before .before .before .before .before .args in
       let call = c .before .before .before .before .before .plain-lines in
-      Reading (a .depth) (filesOf (a .archive .now)) (a .folder .now) (a .text .now) (world (a .totals) (a .words .now) (a .store .now))
+      Reading (a .origin) (a .depth) (filesOf (a .archive .now)) (a .folder .now) (a .text .now) (world (a .totals) (a .words .now) (a .store .now))
       (ahead (c .before .before .before .before .before .before .before .before .before .loop .s) (call .result)) (call .last .1 .1 .1 .0) (call .last .1 .1 .1 .1 .0) (rest-in c)
       )
   here c = let call = c .before .before .before .before .before .plain-lines in reading-plain (c .before .before .before .before .before .before .before .before .before .loop .inv) (call .ensures) (call .kept .1 .1 .1 .0) (call .kept .1 .1 .1 .1 .0)
@@ -156,7 +161,7 @@ module _ (t : ℕ) where
       let before = c .before .before .before .before .before .before .before .before .before .before .before .before .before .before .before in
       let plain = before .before .before .before .before .before .plain-lines in
       let call = c .before .before .before .before .before .before .before .parse-entry in
-      Puts (rest-in before) (c .before .before .before .before .before .before .before .before .before .before .before .line3 .given .0 .0) (world (ahead (before .before .before .before .before .before .before .before .before .before .loop .s) (plain .result)) (plain .last .1 .1 .1 .0) (plain .last .1 .1 .1 .1 .0))
+      Puts (rest-in before) (c .before .before .before .before .before .before .before .before .before .before .before .line3 .given .0 .0) (before .before .before .before .before .before .before .before .before .before .before .before .before .before .before .before .args .origin) (world (ahead (before .before .before .before .before .before .before .before .before .before .loop .s) (plain .result)) (plain .last .1 .1 .1 .0) (plain .last .1 .1 .1 .1 .0))
       (call .last .1 .1 .1 .1 .1 .1 .1 .0) (call .last .1 .1 .1 .1 .1 .1 .1 .1 .0) (c .before .put .given .0 .0) (c .before .put .given .0 .1 .0)
       )
   put c = rw (c .before .put .given .1) at (c .before .before .before .before .before .before .before .parse-entry .ensures)
@@ -220,10 +225,11 @@ pub +include+parse-database-spec : {M : Type 1} → statement M
     (include-returns t) (λ c κs. search needs) (λ c. search needs) (λ c. search needs)
     (λ c. not-found (sought t (c .before .before)) (c .enum-told .given .1))
     (λ c. all-opened (sought t (c .before .before .before .before)) (c .before .before .found .given .1) (c .if2 .taken)) (λ c. search needs)
-    (λ c. stands t c .name-in) (λ c. let s = stands t c in omega (arith, s .name-in, s .body-in, s .end-in))
-    (λ c. let s = stands t c in omega (arith, s .name-in, s .body-in, s .end-in)) (λ c κs. search needs) (λ c. stands t (c .before .before) .body-in)
-    (λ c. let s = stands t (c .before .before) in omega (arith, s .body-in, s .end-in))
-    (λ c. let s = stands t (c .before .before) in omega (arith, s .body-in, s .end-in)) (λ c. search needs) (include-parse-database-requires t)
+    (λ c. omega (arith, numbered t (c .before))) (λ c. omega (arith, numbered t (c .before)))
+    (λ c. stands t (c .before) .name-in) (λ c. let s = stands t (c .before) in omega (arith, s .name-in, s .body-in, s .end-in))
+    (λ c. let s = stands t (c .before) in omega (arith, s .name-in, s .body-in, s .end-in)) (λ c κs. search needs) (λ c. stands t (c .before .before .before) .body-in)
+    (λ c. let s = stands t (c .before .before .before) in omega (arith, s .body-in, s .end-in))
+    (λ c. let s = stands t (c .before .before .before) in omega (arith, s .body-in, s .end-in)) (λ c. search needs) (include-parse-database-requires t)
     (λ c. search needs) (λ c. search needs) (include-returns-4 t))
     λ t. parse-database-lts.spec (parse-database-calls t) (parse-database-at t) parse-database.Post Inv-loop μ-loop
     (λ c. reading-first _ _ _ (c .before .before .before .before .before .pre .1 .0))

@@ -10,7 +10,7 @@ use Rattle.definition.specs.Archive.{filesOf}
 use Rattle.laws.proofs.Lists.{length-part-rest}
 use Rattle.image.specs.Running.{world}
 use Rattle.plain_lines.proofs.Lines.{ahead}
-use Rattle.includes.proofs.Loop.{Reading, reading-first, reading-plain, reading-done}
+use Rattle.includes.proofs.Loop.{stands-main, Reading, reading-first, reading-plain, reading-done}
 use Rattle.includes.proofs.parse_text.Statement.{statement}
 use Rattle.includes.proofs.parse_text.Tie as tie
 
@@ -19,7 +19,7 @@ here : (c : tie.After-slice-known4) → (
     let a = c .before .before .before .before .before .before .before .before .before .before .before .args in
     let call = c .before .before .before .before .plain-lines in
     let n = call .result .taken in
-    Reading deepest (filesOf (a .archive .now)) [] (a .text .now) (world (a .totals) (a .words .now) (a .store .now))
+    Reading 0 deepest (filesOf (a .archive .now)) [] (a .text .now) (world (a .totals) (a .words .now) (a .store .now))
     (ahead (a .totals) (call .result)) (call .last .1 .1 .1 .0) (call .last .1 .1 .1 .1 .0) (take (length (a .text .now) - n) (drop n (a .text .now)))
     )
 here c =
@@ -28,10 +28,10 @@ here c =
     reading-plain (reading-first (a .totals) (a .words .now) (a .store .now) (c .before .before .before .before .before .before .before .before .before .before .before .pre .0)) (call .ensures) (call .kept .1 .1 .1 .0) (call .kept .1 .1 .1 .1 .0)
 
 returns : tie.Need-returns
-returns c = reading-done (here (c .before)) (omega (arith, length-part-rest (c .before .before .before .before .before .before .before .before .before .before .before .before .args .text .now) (c .before .before .before .before .before .plain-lines .result .taken), c .if1 .taken))
+returns c = reading-done (here (c .before)) (omega (arith, length-part-rest (c .before .before .before .before .before .before .before .before .before .before .before .before .args .text .now) (c .before .before .before .before .before .plain-lines .result .taken), c .if1 .taken)) [] (stands-main _)
 
 returns-2 : tie.Need-returns-2
-returns-2 c ch = c .before .before .before .before .parse-database .ensures ch ∙ sym (here (c .before .before .before .before .before .before .before .before .before .before) .same ch)
+returns-2 c = c .before .before .before .before .parse-database .ensures [] (stands-main _) ∙ sym (here (c .before .before .before .before .before .before .before .before .before .before) .same [] (stands-main _))
 
 pub parse-text-spec : {M : Type 1} → statement M
 parse-text-spec =

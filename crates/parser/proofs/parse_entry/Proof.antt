@@ -39,7 +39,7 @@ stored c = decoded-fits (rw (c .before .decoded .given .1) at (c .before .before
 returns-4 : tie.Need-returns-4
 returns-4 c =
     let value-here = c .before .before .before .before in
-    long-value (keyed value-here) (rw (c .enum-told .given .1) at (value-here .parse-value .ensures))
+    long-value (keyed value-here) _ (rw (c .enum-told .given .1) at (value-here .parse-value .ensures))
 
 sub-length : tie.Need-sub-length
 sub-length c = value-after (keyed (c .before .before .before .before .before)) (stored c)
@@ -65,19 +65,19 @@ add-passed-2 c =
 returns-5 : tie.Need-returns-5
 returns-5 c =
     let done-here = c .before .before .before .before .before in
-    done-next (keyed (done-here .before .before .before .before .before)) (stored done-here) (c .before .before .before .write-row .ensures) (c .if4 .taken)
+    done-next (keyed (done-here .before .before .before .before .before)) (stored done-here) _ (c .before .before .before .write-row .ensures) (c .if4 .taken)
 
 returns-6 : tie.Need-returns-6
 returns-6 c =
     let done-here = c .before .before .before .before .before in
-    done-last (keyed (done-here .before .before .before .before .before)) (stored done-here) (c .before .before .before .write-row .ensures) (c .if4 .left)
+    done-last (keyed (done-here .before .before .before .before .before)) (stored done-here) _ (c .before .before .before .write-row .ensures) (c .if4 .left)
 
 pub parse-entry-spec : {M : Type 1} → statement M
 parse-entry-spec = tie.close (tie.spec
-    (λ c. many-parts (c .before .before .before .before .pre .1) (c .if1 .taken))
-    (λ c. many-entries (c .before .before .before .before .before .pre .1) (c .before .if1 .left) (c .if2 .taken))
+    (λ c. many-parts _ (c .before .before .before .before .pre .1) (c .if1 .taken))
+    (λ c. many-entries _ (c .before .before .before .before .before .pre .1) (c .before .if1 .left) (c .if2 .taken))
     (λ c. search needs)
-    (λ c. long-key (c .before .before .before .before .before .before .pre .1) (c .before .before .if1 .left) (c .before .if2 .left) (c .if3 .taken))
+    (λ c. long-key _ (c .before .before .before .before .before .before .pre .1) (c .before .before .if1 .left) (c .before .if2 .left) (c .if3 .taken))
     (λ c κs. search needs)
     (λ c. search needs)
     (λ c. search needs)

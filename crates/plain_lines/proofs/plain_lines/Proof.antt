@@ -14,10 +14,10 @@ use Rattle.plain_lines.proofs.plain_lines.Statement.{statement}
 use Rattle.plain_lines.proofs.plain_lines.Tie as tie
 
 abbrev Inv-loop : tie.InvT-loop
-Inv-loop classes text words₀ store₀ taken₀ entries₀ used₀ n words store taken entries used = Lining text (plainLines text entries₀ used₀ words₀ store₀) words store taken entries used
+Inv-loop classes text words₀ store₀ origin taken₀ entries₀ used₀ n words store taken entries used = Lining origin text (plainLines origin text entries₀ used₀ words₀ store₀) words store taken entries used
 
 abbrev μ-loop : tie.MeasureT-loop
-μ-loop classes text words₀ store₀ taken₀ entries₀ used₀ n words store taken entries used = length text - taken
+μ-loop classes text words₀ store₀ origin taken₀ entries₀ used₀ n words store taken entries used = length text - taken
 
 ends : (c : tie.Else3 Inv-loop μ-loop) → Ended (c .before .before .before .before .before .before .before .args .text .now)
 ends c = record { some = omega (arith, c .before .before .before .if1 .left); last = eqb-true _ _ (not-false _ (c .if3 .left)) }
@@ -28,8 +28,8 @@ less c = ltb-true _ _ (c .if4 .taken)
 -- the text is not read so
 returns : tie.Need-returns Inv-loop μ-loop
 returns c =
-    ⊎-elim (λ w. unread-empty _ _ _ _ _ (w .taken))
-    (⊎-elim (λ w. unread-long _ _ _ _ _ (ltb-true _ _ (w .1 .taken))) (λ w. unread-open _ _ _ _ _ (not-true _ (w .3 .taken)))) (c .if1 .came)
+    ⊎-elim (λ w. unread-empty _ _ _ _ _ _ (w .taken))
+    (⊎-elim (λ w. unread-long _ _ _ _ _ _ (ltb-true _ _ (w .1 .taken))) (λ w. unread-open _ _ _ _ _ _ (not-true _ (w .3 .taken)))) (c .if1 .came)
 
 -- the buffers keep their lengths
 words-same : (c : tie.Then4 Inv-loop μ-loop) → length (c .before .before .loop .words) ≡ length (c .before .before .before .before .before .before .before .before .before .before .args .words .now)
@@ -79,7 +79,7 @@ plain-lines-spec =
     Inv-loop μ-loop
     (λ c. omega (arith, c .before .before .before .before .pre .1 .used-most, c .before .before .before .before .pre .1 .bytes-long)) (λ c. omega (arith, c .before .if1 .left)) (λ c. omega (arith, c .before .before .if1 .left))
     returns
-    (λ c. lining-first _ (c .before .before .before .before .before .before .before .args .totals) _ _ (c .before .before .before .before .before .before .before .pre .1) (ends c) (ltb-false _ _ (c .before .before .if2 .left)))
+    (λ c. lining-first _ _ (c .before .before .before .before .before .before .before .args .totals) _ _ (c .before .before .before .before .before .before .before .pre .1) (ends c) (ltb-false _ _ (c .before .before .if2 .left)))
     (λ c. omega (arith, c .before .loop-test .taken)) (λ c. omega (arith, c .before .loop-test .taken)) (λ c. search needs)
     (λ c κs. (c .before .before .before .before .before .before .before .before .before .before .before .before .pre .0, rest-ends (c .before .before .before .before .loop .inv) (ends (c .before .before .before .before .before)) (c .before .before .before .loop-test .taken), rest-room (c .before .before .before .before .loop .inv) (ends (c .before .before .before .before .before)) (c .before .before .before .loop-test .taken)))
     (λ c. omega (arith, c .before .before .before .before .before .before .before .before .loop-test .taken)) (λ c. omega (arith, c .before .before .before .before .before .before .before .before .loop-test .taken)) (λ c. search needs)

@@ -1,7 +1,7 @@
 -- `readings::window_get_bool` meets its contract. Assumes nothing.
 use mathlib.Core.Path.{ap, _∙_}
 use Rattle.definition.specs.Query.{window}
-use Rattle.definition.specs.Value.{asString, asBool, getStringWithin, getBoolWithin}
+use Rattle.definition.specs.Value.{asString, asBool, getStringBy, getBoolBy}
 use Rattle.lookup.proofs.Looking.{bytes-within}
 use borrow.Author.Needs.{needs}
 use Rattle.readings.proofs.window_get_bool.Statement.{statement}
@@ -11,7 +11,7 @@ bool-of-requires : tie.Need-bool-of-requires
 bool-of-requires c κs = bytes-within window _ _ _ _ (c .window-get-bytes .result) (c .window-get-bytes .ensures)
 
 returns : tie.Need-returns
-unfolding getStringWithin getBoolWithin
+unfolding getStringBy getBoolBy
 returns c = c .bool-of .ensures ∙ ap (asBool _) (ap (asString _) (c .before .window-get-bytes .ensures))
 
 pub window-get-bool-spec : {M : Type 1} → statement M

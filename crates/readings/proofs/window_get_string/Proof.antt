@@ -1,7 +1,7 @@
 -- `readings::window_get_string` meets its contract. Assumes nothing.
 use mathlib.Core.Path.{ap, _∙_}
 use Rattle.definition.specs.Query.{window}
-use Rattle.definition.specs.Value.{asString, getStringWithin}
+use Rattle.definition.specs.Value.{asString, getStringBy}
 use Rattle.lookup.proofs.Looking.{bytes-within}
 use borrow.Author.Needs.{needs}
 use Rattle.readings.proofs.window_get_string.Statement.{statement}
@@ -11,7 +11,7 @@ string-of-requires : tie.Need-string-of-requires
 string-of-requires c κs = bytes-within window _ _ _ _ (c .window-get-bytes .result) (c .window-get-bytes .ensures)
 
 returns : tie.Need-returns
-unfolding getStringWithin
+unfolding getStringBy
 returns c = c .string-of .ensures ∙ ap (asString _) (c .before .window-get-bytes .ensures)
 
 pub window-get-string-spec : {M : Type 1} → statement M

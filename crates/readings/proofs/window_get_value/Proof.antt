@@ -1,7 +1,7 @@
 -- `readings::window_get_value` meets its contract. Assumes nothing.
 use mathlib.Core.Path.{ap, _∙_}
 use Rattle.definition.specs.Query.{window}
-use Rattle.definition.specs.Value.{asString, asNumber, getStringWithin, getValueWithin}
+use Rattle.definition.specs.Value.{asString, asNumber, getStringBy, getValueBy}
 use Rattle.lookup.proofs.Looking.{bytes-within}
 use borrow.Author.Needs.{needs}
 use Rattle.readings.proofs.window_get_value.Statement.{statement}
@@ -11,7 +11,7 @@ value-of-requires : tie.Need-value-of-requires
 value-of-requires c κs = bytes-within window _ _ _ _ (c .window-get-bytes .result) (c .window-get-bytes .ensures)
 
 returns : tie.Need-returns
-unfolding getStringWithin getValueWithin
+unfolding getStringBy getValueBy
 returns c = c .value-of .ensures ∙ ap (asNumber _) (ap (asString _) (c .before .window-get-bytes .ensures))
 
 pub window-get-value-spec : {M : Type 1} → statement M

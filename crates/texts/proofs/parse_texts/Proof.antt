@@ -1,5 +1,4 @@
 -- `texts::parse_texts` meets its contract. Assumes nothing.
-use mathlib.Core.List.{[]}
 use mathlib.Core.Path.{_∙_}
 use Prim.Native.Nat.{_-_}
 use lib.ListN.{length}
@@ -28,7 +27,7 @@ loop-again c =
     let call-here = c .before .before .before .before .before .before .before in
     let kept = call-here .parse-text .kept .1 .1 .1 .1 in
     reading-text now (call-here .before .before .before .before .before .before .loop .inv) _ (call-here .before .before .before .before .before .loop-test .taken) _ _ _
-    (rw (c .before .step .given .1) at (call-here .parse-text .ensures [])) (kept .0) (kept .1 .0)
+    (rw (c .before .step .given .1) at (call-here .parse-text .ensures)) (kept .0) (kept .1 .0)
 
 same-length : tie.Need-same-length Inv-loop μ-loop
 same-length c = c .before .before .before .before .before .before .before .parse-text .kept .1 .1 .1 .1 .0 ∙ c .before .before .before .before .before .before .before .before .before .before .before .before .before .loop .inv .words-same
@@ -40,7 +39,7 @@ returns : tie.Need-returns Inv-loop μ-loop
 returns c =
     let call-here = c .before .before .before .before .before .before .before in
     text-stops now (call-here .before .before .before .before .before .before .loop .inv) _ (call-here .before .before .before .before .before .loop-test .taken) _ _ _
-    (rw (c .before .step2 .given .1) at (call-here .parse-text .ensures []))
+    (rw (c .before .step2 .given .1) at (call-here .parse-text .ensures))
 
 pub parse-texts-spec : {M : Type 1} → statement M
 parse-texts-spec = tie.close (tie.spec Inv-loop μ-loop

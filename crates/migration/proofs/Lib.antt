@@ -1,0 +1,3 @@
+-- Laws of an old image carried over.
+pub mod Carrying
+pub mod Carried
