@@ -1,5 +1,6 @@
 /*
- * X resource texts read into a database image, looked up and listed in it, added to it, and written out again.
+ * X resource texts read into a database image, looked up and listed in it, added to it, and written out again; and a
+ * board of packs that come and go, each an image, with the answers of its watched queries.
  *
  * The functions stand in the static library libresource_manager.a, for x86-64 Linux. Their contracts, which
  * crates/resource_manager states and proves, are here in words. They allocate nothing, keep nothing between calls,
@@ -10,7 +11,7 @@
  *   - a pointer is never NULL, also where its count is 0, and is aligned for its type;
  *   - behind it are as many readable elements as its count says, or writable ones where it is not const;
  *   - a buffer that is written overlaps nothing else that is lent to the same call.
- * A count is a count of elements: of 16-bit words for contents, of bytes for all else.
+ * A count is a count of elements: of 16-bit words for contents and for the words of a board, of bytes for all else.
  */
 #ifndef RESOURCE_MANAGER_H
 #define RESOURCE_MANAGER_H
@@ -52,26 +53,35 @@ extern "C" {
 /* The longest text that an image is written out as: a buffer of so many bytes is enough for every image. */
 #define RESOURCE_MANAGER_WRITTEN_BYTES 66048
 
+/* The two buffers of a board: at least this long. What is lent beyond is never touched. */
+#define RESOURCE_MANAGER_BOARD_WORDS 32882  /* 16-bit words */
+#define RESOURCE_MANAGER_BOARD_BYTES 589824
+#define RESOURCE_MANAGER_PACKS 16           /* the most that a board keeps */
+#define RESOURCE_MANAGER_QUERIES 32         /* the most that it watches */
+
 /* Includes nest this deep. A deeper one adds nothing, and is no refusal. */
 #define RESOURCE_MANAGER_DEPTH 100
 
-/* The low 16 bits of every answer. 1 to 12 are refusals, and then all higher bits are 0. */
+/* The low 16 bits of every answer. 1 to 14 are refusals, and then all higher bits are 0. */
 enum resource_manager_status {
     RESOURCE_MANAGER_OK = 0,
-    RESOURCE_MANAGER_SHORT_BUFFERS = 1,      /* contents or bodies too short for an image */
+    RESOURCE_MANAGER_SHORT_BUFFERS = 1,      /* the buffers of an image, or of a board, are too short */
     RESOURCE_MANAGER_LONG_TEXT = 2,          /* main text, a text that a start-up uses, or an added text too long */
     RESOURCE_MANAGER_BAD_SHELF = 3,          /* shelf not laid out as below */
     RESOURCE_MANAGER_MANY_OPENS = 4,         /* too many included files opened */
     RESOURCE_MANAGER_MANY_ENTRY_PARTS = 5,   /* an entry has too many parts */
     RESOURCE_MANAGER_MANY_ENTRIES = 6,       /* too many entries */
     RESOURCE_MANAGER_FULL_STORE = 7,         /* keys and values too large in all */
-    RESOURCE_MANAGER_NO_IMAGE = 8,           /* the buffers that a call lends hold no database image */
+    RESOURCE_MANAGER_NO_IMAGE = 8,           /* the buffers that a call lends hold no database image, or no board */
     RESOURCE_MANAGER_LONG_QUERY = 9,         /* name or class too long */
     RESOURCE_MANAGER_MANY_QUERY_PARTS = 10,  /* name or class of too many parts */
     RESOURCE_MANAGER_SHORT_TEXT_BUFFER = 11, /* the buffer of a writing is shorter than the text */
     RESOURCE_MANAGER_NOT_ONE_ENTRY = 12,     /* the text of an addition makes no entry or more than one */
+    RESOURCE_MANAGER_FULL_BOARD = 13,        /* a seventeenth pack, or a thirty-third query */
+    RESOURCE_MANAGER_BAD_PACK_NUMBER = 14,   /* 0; one that is there already, or that is not there to leave */
     RESOURCE_MANAGER_NOT_A_NUMBER = 65534,   /* get_value: the value is no 64-bit decimal number */
-    RESOURCE_MANAGER_NONE = 65535            /* no such value; the end of a walk; of a comparing call: no such file */
+    RESOURCE_MANAGER_NONE = 65535            /* no such value; the end of a walk; of a comparing call: no such file;
+                                                of a board: no query of that number */
 };
 
 /* The status of any answer. */
@@ -294,7 +304,7 @@ uint64_t resource_manager_walk_step(const uint16_t *contents, size_t contents_co
 uint64_t resource_manager_add(uint16_t *contents, size_t contents_count, uint8_t *bodies, size_t bodies_count,
                               const uint8_t *text, size_t text_count);
 
-/* The number of the entry that a step came to, or that was added. */
+/* The number of the entry that a step came to, or that was added; of a query that is watched; of all answers, how many. */
 static inline size_t resource_manager_number_of(uint64_t answer)
 {
     return (size_t)(answer >> 16);
@@ -326,6 +336,100 @@ static inline struct resource_manager_bytes resource_manager_value_of(const uint
     value.start = bodies + row[0] + row[1];
     value.count = row[2];
     return value;
+}
+
+/*
+ * A board keeps up to 16 packs, each a database image with a number from 1 to 65,535, in the order in which they
+ * arrived, and watches up to 32 queries, numbered from 0. A pack that left and comes again is the last.
+ *
+ *     static uint16_t words[RESOURCE_MANAGER_BOARD_WORDS];
+ *     static uint8_t bytes[RESOURCE_MANAGER_BOARD_BYTES];
+ *     resource_manager_board_make(words, RESOURCE_MANAGER_BOARD_WORDS, bytes, RESOURCE_MANAGER_BOARD_BYTES);
+ *
+ * Every call but this one is refused by 8 for buffers that hold no board, and judges all of it; no call leaves such.
+ * What is refused leaves the board as it was.
+ *
+ * The words are the number of packs, the number of queries, 32 pairs of lengths (of a query's name and of its class),
+ * and 16 slots of 2,051: a pack's number, and its contents. The bytes are 32 times 2,048 for a query's name with its
+ * class behind it, and 16 times 32,768 for a pack's bodies. The packs stand in the first slots, in their order.
+ *
+ * Makes an empty board: OK, or refused by 1.
+ */
+uint64_t resource_manager_board_make(uint16_t *words, size_t words_count, uint8_t *bytes, size_t bytes_count);
+
+/*
+ * Watches a query from now on: OK with its number in the answer (resource_manager_number_of). Equal queries get numbers
+ * of their own, and a malformed query is kept, and gets NONE. Refused by 1, 8, 13, and then 9 or 10.
+ */
+uint64_t resource_manager_board_watch(uint16_t *words, size_t words_count, uint8_t *bytes, size_t bytes_count,
+                                      const uint8_t *name, size_t name_count, const uint8_t *class_name,
+                                      size_t class_count);
+
+/*
+ * A pack arrives, last. Its image is copied, and what becomes of the lent one is not seen. Refused by 1; 8, also if
+ * contents and bodies hold no image; 13; and 14 if the number is 0 or that of a pack which is there.
+ */
+uint64_t resource_manager_board_arrive(uint16_t *words, size_t words_count, uint8_t *bytes, size_t bytes_count,
+                                       uint16_t number, const uint16_t *contents, size_t contents_count,
+                                       const uint8_t *bodies, size_t bodies_count);
+
+/* A pack leaves; the rest keep their order. Refused by 1, 8, and 14 if no pack has that number. */
+uint64_t resource_manager_board_leave(uint16_t *words, size_t words_count, uint8_t *bytes, size_t bytes_count,
+                                      uint16_t number);
+
+/*
+ * The answer of a watched query: the value that a lookup finds in the entries of all packs, one pack's behind
+ * another's. OK: its place and length (resource_manager_place_of, resource_manager_length_of) in the bodies of the pack
+ * whose number is then in *pack, as those were lent. NONE: no value, or no query of that number. Refused by 1 or 8.
+ * Without a value *pack is as it was.
+ */
+uint64_t resource_manager_board_answer(const uint16_t *words, size_t words_count, const uint8_t *bytes,
+                                       size_t bytes_count, uint16_t query, uint16_t *pack);
+
+/*
+ * The bytes of a watched answer, given the pack's number that came with it, where the board itself keeps them: the lent
+ * image may be gone. By the layout (crates/definition/specs/Board.antt: slotStart, bodyStart), slot n, from 0, has its
+ * pack's number in word 2 + 2 * 32 + 2051 * n, and that pack's bodies from byte 2 * 1024 * 32 + 32768 * n on; word 0 says
+ * how many slots are in use. The bytes stand there until a pack leaves or the board is made again. NULL of 0 bytes if the
+ * answer has no value, or no pack has that number.
+ */
+static inline struct resource_manager_bytes resource_manager_board_value_of(const uint16_t *words, const uint8_t *bytes,
+                                                                            uint64_t answer, uint16_t pack)
+{
+    const uint16_t *slots = words + 2 + 2 * RESOURCE_MANAGER_QUERIES;
+    const uint8_t *bodies = bytes + 2 * RESOURCE_MANAGER_QUERY_BYTES * RESOURCE_MANAGER_QUERIES;
+    struct resource_manager_bytes value = {NULL, 0};
+    size_t n;
+    for (n = 0; n < words[0] && n < RESOURCE_MANAGER_PACKS; n++) {
+        if (slots[(1 + RESOURCE_MANAGER_CONTENTS_WORDS) * n] == pack &&
+            resource_manager_status_of(answer) == RESOURCE_MANAGER_OK) {
+            value.start = bodies + RESOURCE_MANAGER_BODIES_BYTES * n + resource_manager_place_of(answer);
+            value.count = resource_manager_length_of(answer);
+        }
+    }
+    return value;
+}
+
+/*
+ * All watched answers by one judging of the board: OK with their number (resource_manager_number_of). Then
+ * answers[query] and packs[query], for each query from 0 to 31, are what resource_manager_board_answer gives for that
+ * query and leaves in *pack. Refused by 1 or 8: both arrays are as they were.
+ */
+uint64_t resource_manager_board_answers(const uint16_t *words, size_t words_count, const uint8_t *bytes,
+                                        size_t bytes_count, uint64_t answers[RESOURCE_MANAGER_QUERIES],
+                                        uint16_t packs[RESOURCE_MANAGER_QUERIES]);
+
+/*
+ * Which watched answers would change, in their bytes or between bytes and none, if a pack left: OK with the bits of
+ * these queries, the lowest for query 0. The board is as it was. Refused as its leaving would be.
+ */
+uint64_t resource_manager_board_report(const uint16_t *words, size_t words_count, const uint8_t *bytes,
+                                       size_t bytes_count, uint16_t number);
+
+/* The bits of a report. */
+static inline uint32_t resource_manager_changes_of(uint64_t answer)
+{
+    return (uint32_t)(answer >> 32);
 }
 
 /*

@@ -4,7 +4,7 @@ use crate::limits;
 use std::error;
 use std::fmt;
 
-/// Why a reading, a lookup, a walk, an addition or a writing was refused. Each refusal has a number, the same in every language.
+/// Why a reading, a lookup, a walk, an addition, a writing or a call of a board was refused. Each refusal has a number, the same in every language.
 #[derive(Clone, Copy, Debug, PartialEq, Eq, Hash)]
 #[repr(u8)]
 pub enum Error {
@@ -33,9 +33,13 @@ pub enum Error {
     ShortTextBuffer = 11,
     /// The text of an addition makes no entry, or more than one: see [`Database::add`](crate::Database::add).
     NotOneEntry = 12,
+    /// The board keeps [`PACKS`](limits::PACKS) packs, or watches [`QUERIES`](limits::QUERIES) queries, already.
+    FullBoard = 13,
+    /// The pack's number is 0, is that of a pack on the board as it arrives, or of none as it leaves.
+    BadPackNumber = 14,
 }
 
-const ALL: [Error; 12] = [
+const ALL: [Error; 14] = [
     Error::ShortBuffers,
     Error::LongText,
     Error::BadArchive,
@@ -48,10 +52,12 @@ const ALL: [Error; 12] = [
     Error::ManyQueryParts,
     Error::ShortTextBuffer,
     Error::NotOneEntry,
+    Error::FullBoard,
+    Error::BadPackNumber,
 ];
 
 impl Error {
-    /// The refusal's number, 1 to 12.
+    /// The refusal's number, 1 to 14.
     pub fn number(self) -> u8 {
         self as u8
     }
@@ -82,6 +88,8 @@ impl fmt::Display for Error {
             Error::ManyQueryParts => write!(f, "a query whose name or class has more than {} parts", limits::QUERY_PARTS),
             Error::ShortTextBuffer => write!(f, "a buffer that is shorter than the text"),
             Error::NotOneEntry => write!(f, "a text to be added that makes no entry or more than one"),
+            Error::FullBoard => write!(f, "a board that has {} packs, or {} queries, already", limits::PACKS, limits::QUERIES),
+            Error::BadPackNumber => write!(f, "a pack's number that is 0, taken or not there"),
         }?;
         write!(f, " (refused by {})", self.number())
     }
@@ -141,8 +149,8 @@ mod tests {
     }
 
     #[test]
-    #[should_panic(expected = "gave 13, which is no answer")]
+    #[should_panic(expected = "gave 15, which is no answer")]
     fn no_other_number_is_a_refusal() {
-        Error::of_answer(13);
+        Error::of_answer(15);
     }
 }

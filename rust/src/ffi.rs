@@ -2,6 +2,7 @@
 
 #![allow(unsafe_code)]
 
+use crate::limits::QUERIES;
 use crate::StartUp;
 
 /// A lookup but `resource_manager_get_value`. A slice passes as a pointer and a count of elements.
@@ -227,6 +228,59 @@ extern "C" {
         bodies_count: usize,
         text: *const u8,
         text_count: usize,
+    ) -> u64;
+
+    fn resource_manager_board_make(words: *mut u16, words_count: usize, bytes: *mut u8, bytes_count: usize) -> u64;
+
+    fn resource_manager_board_watch(
+        words: *mut u16,
+        words_count: usize,
+        bytes: *mut u8,
+        bytes_count: usize,
+        name: *const u8,
+        name_count: usize,
+        class: *const u8,
+        class_count: usize,
+    ) -> u64;
+
+    fn resource_manager_board_arrive(
+        words: *mut u16,
+        words_count: usize,
+        bytes: *mut u8,
+        bytes_count: usize,
+        number: u16,
+        contents: *const u16,
+        contents_count: usize,
+        bodies: *const u8,
+        bodies_count: usize,
+    ) -> u64;
+
+    fn resource_manager_board_leave(words: *mut u16, words_count: usize, bytes: *mut u8, bytes_count: usize, number: u16) -> u64;
+
+    fn resource_manager_board_answer(
+        words: *const u16,
+        words_count: usize,
+        bytes: *const u8,
+        bytes_count: usize,
+        query: u16,
+        pack: *mut u16,
+    ) -> u64;
+
+    fn resource_manager_board_answers(
+        words: *const u16,
+        words_count: usize,
+        bytes: *const u8,
+        bytes_count: usize,
+        answers: *mut [u64; QUERIES],
+        packs: *mut [u16; QUERIES],
+    ) -> u64;
+
+    fn resource_manager_board_report(
+        words: *const u16,
+        words_count: usize,
+        bytes: *const u8,
+        bytes_count: usize,
+        number: u16,
     ) -> u64;
 
     fn resource_manager_compare_without(
@@ -568,6 +622,73 @@ pub(crate) fn add(ImageMut { contents, bodies }: ImageMut, text: &[u8]) -> u64 {
     }
 }
 
+/// 0, for an empty board; or the refusal's number. The words and the bytes of a board are lent as those of an image are.
+pub(crate) fn board_make(ImageMut { contents, bodies }: ImageMut) -> u64 {
+    // SAFETY: as for `add`.
+    unsafe { resource_manager_board_make(contents.as_mut_ptr(), contents.len(), bodies.as_mut_ptr(), bodies.len()) }
+}
+
+/// 0 in bits 0 to 15 and the query's number from bit 16 on; or the refusal's number, with the board as it was.
+pub(crate) fn board_watch(ImageMut { contents, bodies }: ImageMut, name: &[u8], class: &[u8]) -> u64 {
+    // SAFETY: as for `add`.
+    unsafe {
+        resource_manager_board_watch(
+            contents.as_mut_ptr(),
+            contents.len(),
+            bodies.as_mut_ptr(),
+            bodies.len(),
+            name.as_ptr(),
+            name.len(),
+            class.as_ptr(),
+            class.len(),
+        )
+    }
+}
+
+/// 0; or the refusal's number, with the board as it was.
+pub(crate) fn board_arrive(ImageMut { contents, bodies }: ImageMut, number: u16, pack: Image) -> u64 {
+    // SAFETY: as for `add`.
+    unsafe {
+        resource_manager_board_arrive(
+            contents.as_mut_ptr(),
+            contents.len(),
+            bodies.as_mut_ptr(),
+            bodies.len(),
+            number,
+            pack.contents.as_ptr(),
+            pack.contents.len(),
+            pack.bodies.as_ptr(),
+            pack.bodies.len(),
+        )
+    }
+}
+
+/// 0; or the refusal's number, with the board as it was.
+pub(crate) fn board_leave(ImageMut { contents, bodies }: ImageMut, number: u16) -> u64 {
+    // SAFETY: as for `add`.
+    unsafe { resource_manager_board_leave(contents.as_mut_ptr(), contents.len(), bodies.as_mut_ptr(), bodies.len(), number) }
+}
+
+/// 0 in bits 0 to 15, the place in bits 16 to 31 and the length from bit 32 on, with the pack's number in `pack`; 65535 for none, or
+/// the refusal's number, with `pack` as it was.
+pub(crate) fn board_answer(Image { contents, bodies }: Image, query: u16, pack: &mut u16) -> u64 {
+    // SAFETY: as for the lookups; the pack's number is borrowed for writing.
+    unsafe { resource_manager_board_answer(contents.as_ptr(), contents.len(), bodies.as_ptr(), bodies.len(), query, pack) }
+}
+
+/// 0 in bits 0 to 15 and the number of queries from bit 16 on, with an answer for each number in `answers` and `packs`, as `board_answer`
+/// gives it; or the refusal's number, with both as they were.
+pub(crate) fn board_answers(Image { contents, bodies }: Image, answers: &mut [u64; QUERIES], packs: &mut [u16; QUERIES]) -> u64 {
+    // SAFETY: as for the lookups; both arrays are borrowed for writing.
+    unsafe { resource_manager_board_answers(contents.as_ptr(), contents.len(), bodies.as_ptr(), bodies.len(), answers, packs) }
+}
+
+/// 0 in bits 0 to 15 and a bit for each query from bit 32 on; or the refusal's number.
+pub(crate) fn board_report(Image { contents, bodies }: Image, number: u16) -> u64 {
+    // SAFETY: as for the lookups.
+    unsafe { resource_manager_board_report(contents.as_ptr(), contents.len(), bodies.as_ptr(), bodies.len(), number) }
+}
+
 /// 0 with the answers of both lookups, as `get_bytes` gives them, in `with_it` and `without`; 65535 if there is no such
 /// file, or the refusal's number, with both as they were.
 pub(crate) fn compare_without(text: &[u8], Question { archive, file, name, class }: Question, room: Room) -> u64 {
@@ -682,7 +803,7 @@ pub(crate) fn compare_default_without(start_up: &StartUp, Question { archive, fi
 #[cfg(test)]
 mod tests {
     use super::*;
-    use crate::limits::{BODIES_BYTES, CONTENTS_WORDS};
+    use crate::limits::{BOARD_BYTES, BOARD_WORDS, BODIES_BYTES, CONTENTS_WORDS};
 
     const NO_FILES: &[u8] = b"\0\0";
 
@@ -851,6 +972,85 @@ mod tests {
             bytes[..7].copy_from_slice(b".a1*b22");
             assert_eq!((contents, bodies), (words, bytes));
         }
+    }
+
+    /// The words and bytes of a board of garbage, so much longer or shorter, and made.
+    fn board(words: isize, bytes: isize) -> (u64, Box<[u16]>, Box<[u8]>) {
+        let (mut words, mut bytes) =
+            buffers(BOARD_WORDS.checked_add_signed(words).unwrap(), BOARD_BYTES.checked_add_signed(bytes).unwrap());
+        let answer = board_make(ImageMut { contents: &mut words, bodies: &mut bytes });
+        (answer, words, bytes)
+    }
+
+    /// All answers in arrays of garbage.
+    fn all_answers(image: Image) -> (u64, [u64; QUERIES], [u16; QUERIES]) {
+        let (mut answers, mut packs) = ([9; QUERIES], [7; QUERIES]);
+        (board_answers(image, &mut answers, &mut packs), answers, packs)
+    }
+
+    #[test]
+    fn a_board_in_buffers_just_long_enough_and_one_short() {
+        for (words, bytes) in [(-1, 0), (0, -1), (-(BOARD_WORDS as isize), -(BOARD_BYTES as isize))] {
+            let (answer, mut words, mut bytes) = board(words, bytes);
+            assert_eq!(answer, 1);
+            let as_it_was = (words.clone(), bytes.clone());
+            assert_eq!(board_watch(ImageMut { contents: &mut words, bodies: &mut bytes }, b"a", b""), 1);
+            assert_eq!(board_leave(ImageMut { contents: &mut words, bodies: &mut bytes }, 7), 1);
+            assert_eq!((&words, &bytes), (&as_it_was.0, &as_it_was.1));
+            let image = Image { contents: &words, bodies: &bytes };
+            let mut pack = 7;
+            assert_eq!((board_answer(image, 0, &mut pack), pack), (1, 7));
+            assert_eq!(all_answers(image), (1, [9; QUERIES], [7; QUERIES]));
+            assert_eq!(board_report(image, 7), 1);
+        }
+        for more in [0, 1, 100] {
+            let (answer, mut words, mut bytes) = board(more, more);
+            assert_eq!(answer, 0);
+            let (mut contents, mut bodies) = buffers(CONTENTS_WORDS, BODIES_BYTES);
+            assert_eq!(read(b"a:1\nb: -5", NO_FILES, &mut contents, &mut bodies), 2 << 16);
+            let pack = Image { contents: &contents, bodies: &bodies };
+            assert_eq!(board_watch(ImageMut { contents: &mut words, bodies: &mut bytes }, b"b", b"B"), 0);
+            assert_eq!(board_watch(ImageMut { contents: &mut words, bodies: &mut bytes }, b".a", b""), 1 << 16);
+            assert_eq!(board_arrive(ImageMut { contents: &mut words, bodies: &mut bytes }, 65_535, pack), 0);
+            assert_eq!(board_arrive(ImageMut { contents: &mut words, bodies: &mut bytes }, 65_535, pack), 14);
+            // What is written, in garbage that is not.
+            let (mut expected, mut expected_bytes) = buffers(words.len(), bytes.len());
+            expected[..6].copy_from_slice(&[1, 2, 1, 1, 2, 0]);
+            expected[66..77].copy_from_slice(&[65_535, 2, 7, 0, 2, 1, 0, 3, 2, 2, 0]);
+            expected_bytes[..2].copy_from_slice(b"bB");
+            expected_bytes[2_048..2_050].copy_from_slice(b".a");
+            expected_bytes[65_536..65_543].copy_from_slice(b".a1.b-5");
+            assert_eq!((&words, &bytes), (&expected, &expected_bytes));
+            let image = Image { contents: &words, bodies: &bytes };
+            let mut number = 7;
+            assert_eq!((board_answer(image, 0, &mut number), number), (5 << 16 | 2 << 32, 65_535));
+            let mut number = 7;
+            assert_eq!((board_answer(image, 1, &mut number), number), (65_535, 7));
+            assert_eq!((board_answer(image, 2, &mut number), number), (65_535, 7));
+            let (mut answers, mut packs) = ([65_535; QUERIES], [7; QUERIES]);
+            (answers[0], packs[0]) = (5 << 16 | 2 << 32, 65_535);
+            assert_eq!(all_answers(image), (2 << 16, answers, packs));
+            assert_eq!((board_report(image, 65_535), board_report(image, 7)), (1 << 32, 14));
+            assert_eq!(board_leave(ImageMut { contents: &mut words, bodies: &mut bytes }, 65_535), 0);
+            expected[0] = 0;
+            assert_eq!((&words, &bytes), (&expected, &expected_bytes));
+        }
+    }
+
+    #[test]
+    fn garbage_is_no_board() {
+        let (mut words, mut bytes) = buffers(BOARD_WORDS, BOARD_BYTES);
+        let (contents, bodies) = buffers(CONTENTS_WORDS, BODIES_BYTES);
+        let pack = Image { contents: &contents, bodies: &bodies };
+        assert_eq!(board_watch(ImageMut { contents: &mut words, bodies: &mut bytes }, b"a", b""), 8);
+        assert_eq!(board_arrive(ImageMut { contents: &mut words, bodies: &mut bytes }, 7, pack), 8);
+        assert_eq!(board_leave(ImageMut { contents: &mut words, bodies: &mut bytes }, 7), 8);
+        assert_eq!((&words, &bytes), (&buffers(BOARD_WORDS, BOARD_BYTES).0, &buffers(BOARD_WORDS, BOARD_BYTES).1));
+        let image = Image { contents: &words, bodies: &bytes };
+        let mut number = 7;
+        assert_eq!((board_answer(image, 0, &mut number), number), (8, 7));
+        assert_eq!(all_answers(image), (8, [9; QUERIES], [7; QUERIES]));
+        assert_eq!(board_report(image, 7), 8);
     }
 
     /// Neither is a walk begun, nor does it go on, nor is anything added.

@@ -31,7 +31,8 @@
 //! places, as x11rb does, and [`StartUp::texts`] says which of these texts count.
 //!
 //! What x11rb has not: [`Database::aligned`] lists every entry that aligns with a query, and a [`Walk`] does so while
-//! [`Database::add`] adds lines; [`Database::to_text`] and [`Database::write_to`] write a database out as a text.
+//! [`Database::add`] adds lines; [`Database::to_text`] and [`Database::write_to`] write a database out as a text; and a [`Board`]
+//! keeps packs that come and go, with the answers of watched queries.
 //!
 //! # Proved, and not
 //!
@@ -47,6 +48,7 @@
 #![deny(unsafe_code, missing_docs)]
 
 mod archive;
+mod board;
 mod database;
 mod directory;
 mod error;
@@ -56,6 +58,7 @@ mod start_up;
 mod walk;
 
 pub use archive::{Archive, ArchiveError, ArchiveErrorKind};
+pub use board::{Board, Watched};
 pub use database::{Comparison, Database, Entries, Entry, Origin, Window};
 pub use directory::DirectoryError;
 pub use error::{Error, NotANumber, ValueError};

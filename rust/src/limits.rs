@@ -42,6 +42,17 @@ pub const WINDOW_BYTES: usize = 128;
 /// Parts of the name, and of the class, of such a query ([`ManyQueryParts`](crate::Error::ManyQueryParts)).
 pub const WINDOW_PARTS: usize = 8;
 
+/// Packs that a [`Board`](crate::Board) keeps ([`FullBoard`](crate::Error::FullBoard)).
+pub const PACKS: usize = 16;
+
+/// Queries that a [`Board`](crate::Board) watches ([`FullBoard`](crate::Error::FullBoard)).
+pub const QUERIES: usize = 32;
+
+/// The words and the bytes of a board.
+pub(crate) const BOARD_WORDS: usize = 32_882;
+
+pub(crate) const BOARD_BYTES: usize = 589_824;
+
 /// Words that say where entries stand: two, and four for each entry.
 pub(crate) const CONTENTS_WORDS: usize = 2 + 4 * ENTRIES;
 

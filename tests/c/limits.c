@@ -13,13 +13,15 @@
 #include <sys/mman.h>
 
 #define PAGE ((size_t)4096)
-#define ROOM (20 * PAGE)  /* more than anything that is lent */
+#define ROOM (20 * PAGE)  /* more than anything that is lent, but for a board's bytes */
+#define BOARD_ROOM (150 * PAGE)
 #define STACK (16 * PAGE) /* what the header says that a call may take */
 
 /* Where the room for each thing that is lent ends. */
 static uint8_t *text_end, *second_end, *shelf_end, *contents_end, *bodies_end, *name_end, *class_end;
 static uint8_t *struck_end, *contents_without_end, *bodies_without_end, *default_end, *written_end;
-static uint8_t *next_end, *count_end, *old_contents_end, *old_bodies_end;
+static uint8_t *next_end, *count_end, *old_contents_end, *old_bodies_end, *board_words_end, *board_bytes_end;
+static uint8_t *answers_end, *packs_end;
 static size_t text_count, second_count, shelf_count;
 static size_t contents_count = RESOURCE_MANAGER_CONTENTS_WORDS, bodies_count = RESOURCE_MANAGER_BODIES_BYTES;
 static int checks;
@@ -39,14 +41,19 @@ static void expect(const char *what, uint64_t seen, uint64_t wanted)
     }
 }
 
-/* The end of a room of its own, with a fence behind it. */
-static uint8_t *fenced(void)
+/* The end of a room of so many bytes, whole pages, with a fence behind it. */
+static uint8_t *fenced_room(size_t room)
 {
-    uint8_t *start = (uint8_t *)mmap(NULL, ROOM + PAGE, PROT_READ | PROT_WRITE, MAP_PRIVATE | MAP_ANONYMOUS, -1, 0);
-    if (start == MAP_FAILED || mprotect(start + ROOM, PAGE, PROT_NONE) != 0) {
+    uint8_t *start = (uint8_t *)mmap(NULL, room + PAGE, PROT_READ | PROT_WRITE, MAP_PRIVATE | MAP_ANONYMOUS, -1, 0);
+    if (start == MAP_FAILED || mprotect(start + room, PAGE, PROT_NONE) != 0) {
         fail("no room");
     }
-    return start + ROOM;
+    return start + room;
+}
+
+static uint8_t *fenced(void)
+{
+    return fenced_room(ROOM);
 }
 
 /* ---- What is lent */
@@ -1340,6 +1347,181 @@ static void chains(void)
     }
 }
 
+/* ---- A board */
+
+static uint16_t *lent_words(size_t words)
+{
+    return (uint16_t *)(void *)board_words_end - words;
+}
+
+static uint64_t *lent_answers(void)
+{
+    return (uint64_t *)(void *)answers_end - RESOURCE_MANAGER_QUERIES;
+}
+
+static uint16_t *lent_packs(void)
+{
+    return (uint16_t *)(void *)packs_end - RESOURCE_MANAGER_QUERIES;
+}
+
+static uint64_t make_board(size_t words, size_t bytes)
+{
+    return resource_manager_board_make(lent_words(words), words, board_bytes_end - bytes, bytes);
+}
+
+static uint64_t watch(const char *name, const char *class_name)
+{
+    const size_t words = RESOURCE_MANAGER_BOARD_WORDS, bytes = RESOURCE_MANAGER_BOARD_BYTES;
+    size_t name_count = put_before(name_end, name, 1, ""), class_count = put_before(class_end, class_name, 1, "");
+    return resource_manager_board_watch(lent_words(words), words, board_bytes_end - bytes, bytes, name_end - name_count,
+                                        name_count, class_end - class_count, class_count);
+}
+
+static uint64_t arrive(uint16_t number)
+{
+    const size_t words = RESOURCE_MANAGER_BOARD_WORDS, bytes = RESOURCE_MANAGER_BOARD_BYTES;
+    return resource_manager_board_arrive(lent_words(words), words, board_bytes_end - bytes, bytes, number, lent_contents(),
+                                         contents_count, lent_bodies(), bodies_count);
+}
+
+static uint64_t leave(uint16_t number)
+{
+    const size_t words = RESOURCE_MANAGER_BOARD_WORDS, bytes = RESOURCE_MANAGER_BOARD_BYTES;
+    return resource_manager_board_leave(lent_words(words), words, board_bytes_end - bytes, bytes, number);
+}
+
+static uint64_t watched(uint16_t query, uint16_t *pack)
+{
+    const size_t words = RESOURCE_MANAGER_BOARD_WORDS, bytes = RESOURCE_MANAGER_BOARD_BYTES;
+    return resource_manager_board_answer(lent_words(words), words, board_bytes_end - bytes, bytes, query, pack);
+}
+
+/* All answers, in arrays at their fences. */
+static uint64_t all_watched(void)
+{
+    const size_t words = RESOURCE_MANAGER_BOARD_WORDS, bytes = RESOURCE_MANAGER_BOARD_BYTES;
+    return resource_manager_board_answers(lent_words(words), words, board_bytes_end - bytes, bytes, lent_answers(), lent_packs());
+}
+
+static uint64_t report(uint16_t number)
+{
+    const size_t words = RESOURCE_MANAGER_BOARD_WORDS, bytes = RESOURCE_MANAGER_BOARD_BYTES;
+    return resource_manager_board_report(lent_words(words), words, board_bytes_end - bytes, bytes, number);
+}
+
+/* In garbage: buffers one short, one call of each kind on what is no board, a full board, and one that is emptied again. */
+static void boards(void)
+{
+    const size_t words = RESOURCE_MANAGER_BOARD_WORDS, bytes = RESOURCE_MANAGER_BOARD_BYTES;
+    uint16_t pack = 7;
+    size_t n;
+    memset(board_words_end - ROOM, FILLED, ROOM);
+    memset(board_bytes_end - BOARD_ROOM, FILLED, BOARD_ROOM);
+    expect("a board one word short", make_board(words - 1, bytes), RESOURCE_MANAGER_SHORT_BUFFERS);
+    expect("a board one byte short", make_board(words, bytes - 1), RESOURCE_MANAGER_SHORT_BUFFERS);
+    expect("a query where no board is", watch("a", ""), RESOURCE_MANAGER_NO_IMAGE);
+    expect("an answer where no board is", watched(0, &pack), RESOURCE_MANAGER_NO_IMAGE);
+    memset(answers_end - ROOM, FILLED, ROOM);
+    memset(packs_end - ROOM, FILLED, ROOM);
+    expect("all answers where no board is", all_watched(), RESOURCE_MANAGER_NO_IMAGE);
+    expect("the first of them as it was", lent_answers()[0], UINT64_C(0x0101010101010101) * FILLED);
+    expect("a report where no board is", report(1), RESOURCE_MANAGER_NO_IMAGE);
+    expect("a board", make_board(words, bytes), RESOURCE_MANAGER_OK);
+    for (n = 0; n < RESOURCE_MANAGER_QUERIES; n++) {
+        expect("a query's number", resource_manager_number_of(watch(n == 1 ? ".a" : "a", "")), n);
+    }
+    expect("a query too many", watch("a", ""), RESOURCE_MANAGER_FULL_BOARD);
+    expect("none", watched(0, &pack), RESOURCE_MANAGER_NONE);
+    expect("the pack's number as it was", pack, 7);
+    set_image("", 0, "*a:1");
+    expect("a pack of number 0", arrive(0), RESOURCE_MANAGER_BAD_PACK_NUMBER);
+    for (n = 1; n <= RESOURCE_MANAGER_PACKS; n++) {
+        expect("a pack", arrive((uint16_t)n), RESOURCE_MANAGER_OK);
+    }
+    expect("a pack too many", arrive(0), RESOURCE_MANAGER_FULL_BOARD);
+    contents_count--;
+    expect("no image", arrive(100), RESOURCE_MANAGER_NO_IMAGE);
+    contents_count++;
+    expect("the same bytes of another pack", report(RESOURCE_MANAGER_PACKS), RESOURCE_MANAGER_OK);
+    set_image("", 0, "a:22");
+    expect("a leaving", leave(1), RESOURCE_MANAGER_OK);
+    expect("a pack in its place", arrive(65535), RESOURCE_MANAGER_OK);
+    expect("its value's length", resource_manager_length_of(watched(0, &pack)), 2);
+    expect("its value's place", resource_manager_place_of(watched(RESOURCE_MANAGER_QUERIES - 1, &pack)), 2);
+    expect("its number", pack, 65535);
+    expect("all answers", resource_manager_number_of(all_watched()), RESOURCE_MANAGER_QUERIES);
+    for (n = 0; n < RESOURCE_MANAGER_QUERIES; n++) {
+        pack = 0x0101 * FILLED;
+        expect("one of them", lent_answers()[n], watched((uint16_t)n, &pack));
+        expect("its pack", lent_packs()[n], pack);
+    }
+    expect("no query of that number", watched(RESOURCE_MANAGER_QUERIES, &pack), RESOURCE_MANAGER_NONE);
+    expect("all change but the malformed one", resource_manager_changes_of(report(65535)), 4294967293u);
+    expect("a report of no pack", report(1), RESOURCE_MANAGER_BAD_PACK_NUMBER);
+    expect("a leaving of no pack", leave(1), RESOURCE_MANAGER_BAD_PACK_NUMBER);
+}
+
+/* The lent image is gone: nothing of it is needed for a watched value. */
+static void forget_image(void)
+{
+    memset(lent_contents(), FILLED, 2 * contents_count);
+    memset(lent_bodies(), FILLED, bodies_count);
+}
+
+static struct resource_manager_bytes watched_value(uint64_t answer, uint16_t pack)
+{
+    return resource_manager_board_value_of(lent_words(RESOURCE_MANAGER_BOARD_WORDS),
+                                           board_bytes_end - RESOURCE_MANAGER_BOARD_BYTES, answer, pack);
+}
+
+/* The value of query 0 stands in this slot, at this place of its bodies, and is this. */
+static void expect_value(size_t slot, size_t place, const char *wanted)
+{
+    uint16_t pack = 0;
+    uint64_t answer = watched(0, &pack);
+    struct resource_manager_bytes value = watched_value(answer, pack);
+    expect("where a value stands in a board", (uint64_t)(value.start - (board_bytes_end - 589824)),
+           65536 + 32768 * slot + place);
+    expect("its length", value.count, strlen(wanted));
+    expect("its bytes", memcmp(value.start, wanted, strlen(wanted)) == 0, 1);
+}
+
+static void expect_no_value(const char *what, uint64_t answer, uint16_t pack)
+{
+    struct resource_manager_bytes value = watched_value(answer, pack);
+    expect(what, value.start == NULL && value.count == 0, 1);
+}
+
+/* The bytes of an answer, where the board keeps them: in each slot, after slots have moved up, empty, and where there are none. */
+static void board_values(void)
+{
+    char text[] = "b:longer\n*a:1A";
+    uint16_t pack = 0;
+    uint64_t answer;
+    size_t n;
+    make_board(RESOURCE_MANAGER_BOARD_WORDS, RESOURCE_MANAGER_BOARD_BYTES);
+    watch("a", "");
+    watch("c", "");
+    for (n = 0; n < RESOURCE_MANAGER_PACKS; n++, text[sizeof text - 2]++) {
+        set_image("", 0, text);
+        expect("a pack", arrive((uint16_t)(100 - n)), RESOURCE_MANAGER_OK);
+        forget_image();
+        expect_value(n, 10, text + sizeof text - 3);
+    }
+    answer = watched(0, &pack);
+    expect_no_value("no pack of that number", answer, 1);
+    expect_no_value("an answer that is none", watched(1, &pack), pack);
+    expect_no_value("an answer that is refused", RESOURCE_MANAGER_NO_IMAGE, pack);
+    expect("the first leaves", leave(100), RESOURCE_MANAGER_OK);
+    expect_value(RESOURCE_MANAGER_PACKS - 2, 10, "1P");
+    expect("the last leaves", leave(pack), RESOURCE_MANAGER_OK);
+    expect_no_value("a pack that left", answer, pack);
+    set_image("", 0, "a:");
+    expect("a pack", arrive(65535), RESOURCE_MANAGER_OK);
+    forget_image();
+    expect_value(RESOURCE_MANAGER_PACKS - 2, 2, "");
+}
+
 static void *all(void *unused)
 {
     readings();
@@ -1351,6 +1533,8 @@ static void *all(void *unused)
     shows();
     writings();
     walks_and_additions();
+    boards();
+    board_values();
     which_texts();
     for (lent_as = 0; lent_as < MAIN; lent_as++) {
         readings();
@@ -1367,11 +1551,12 @@ int main(void)
     pthread_t thread;
     uint8_t **rooms[] = {&text_end, &second_end, &shelf_end, &contents_end, &bodies_end, &name_end, &class_end,
                          &struck_end, &contents_without_end, &bodies_without_end, &default_end, &written_end,
-                         &next_end, &count_end, &old_contents_end, &old_bodies_end};
+                         &next_end, &count_end, &old_contents_end, &old_bodies_end, &board_words_end, &answers_end, &packs_end};
     size_t n;
     for (n = 0; n < sizeof rooms / sizeof rooms[0]; n++) {
         *rooms[n] = fenced();
     }
+    board_bytes_end = fenced_room(BOARD_ROOM);
     if (pthread_attr_init(&small) != 0 || pthread_attr_setstacksize(&small, STACK) != 0 ||
         pthread_create(&thread, &small, all, NULL) != 0 || pthread_join(thread, NULL) != 0) {
         fail("no thread");

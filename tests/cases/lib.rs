@@ -2,6 +2,7 @@
 
 pub mod admitted;
 pub mod archives;
+pub mod boards;
 pub mod chains;
 pub mod crowded;
 pub mod damage;

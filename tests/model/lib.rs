@@ -1,4 +1,4 @@
-//! The settings core as document 01 and requests (i), (iii), (iv), (v) and (vi) of document 02 lay it down, written for
+//! The settings core as document 01 and requests (i), (iii), (iv), (v), (vi), (viii) and (ix) of document 02 lay it down, written for
 //! reading and not for speed.
 //!
 //! It is a second reference beside the Rust: it has the limits, the refusals and the image, which
@@ -7,6 +7,7 @@
 
 pub mod adding;
 pub mod archive;
+pub mod board;
 pub mod image;
 pub mod limits;
 pub mod line;

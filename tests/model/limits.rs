@@ -30,6 +30,12 @@ pub const QUERY_PARTS: usize = 32;
 pub const WINDOW_BYTES: usize = 128;
 pub const WINDOW_PARTS: usize = 8;
 
+/// Of a board, document 02 (ix).
+pub const PACKS: usize = 16;
+pub const QUERIES: usize = 32;
+pub const BOARD_WORDS: usize = 32_882;
+pub const BOARD_BYTES: usize = 589_824;
+
 /// The refusals in the order of their numbers, from 1.
 #[derive(Clone, Copy, Debug, PartialEq, Eq)]
 pub enum Refusal {
@@ -45,6 +51,8 @@ pub enum Refusal {
     ManyQueryParts,
     ShortTextBuffer,
     NotOneEntry,
+    FullBoard,
+    BadPackNumber,
 }
 
 impl Refusal {

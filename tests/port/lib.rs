@@ -7,7 +7,10 @@ struct Bytes {
     length: usize,
 }
 
-// A slice passes as a pointer and a count of elements.
+/// The queries that a board watches, at the most.
+const QUERIES: usize = 32;
+
+// A slice passes as a pointer and a count of elements, an array as a pointer.
 extern "C" {
     fn resource_manager_read(
         text: *const u8,
@@ -210,6 +213,52 @@ extern "C" {
         bodies_count: usize,
         text: *const u8,
         text_count: usize,
+    ) -> u64;
+    fn resource_manager_board_make(words: *mut u16, words_count: usize, bytes: *mut u8, bytes_count: usize) -> u64;
+    fn resource_manager_board_watch(
+        words: *mut u16,
+        words_count: usize,
+        bytes: *mut u8,
+        bytes_count: usize,
+        name: *const u8,
+        name_count: usize,
+        class: *const u8,
+        class_count: usize,
+    ) -> u64;
+    fn resource_manager_board_arrive(
+        words: *mut u16,
+        words_count: usize,
+        bytes: *mut u8,
+        bytes_count: usize,
+        number: u16,
+        contents: *const u16,
+        contents_count: usize,
+        bodies: *const u8,
+        bodies_count: usize,
+    ) -> u64;
+    fn resource_manager_board_leave(words: *mut u16, words_count: usize, bytes: *mut u8, bytes_count: usize, number: u16) -> u64;
+    fn resource_manager_board_answer(
+        words: *const u16,
+        words_count: usize,
+        bytes: *const u8,
+        bytes_count: usize,
+        query: u16,
+        pack: *mut u16,
+    ) -> u64;
+    fn resource_manager_board_answers(
+        words: *const u16,
+        words_count: usize,
+        bytes: *const u8,
+        bytes_count: usize,
+        answers: *mut [u64; QUERIES],
+        packs: *mut [u16; QUERIES],
+    ) -> u64;
+    fn resource_manager_board_report(
+        words: *const u16,
+        words_count: usize,
+        bytes: *const u8,
+        bytes_count: usize,
+        number: u16,
     ) -> u64;
     fn resource_manager_compare_without(
         text: *const u8,
@@ -550,6 +599,72 @@ pub fn add_word(contents: &mut [u16], bodies: &mut [u8], text: &[u8]) -> u64 {
     unsafe {
         resource_manager_add(contents.as_mut_ptr(), contents.len(), bodies.as_mut_ptr(), bodies.len(), text.as_ptr(), text.len())
     }
+}
+
+/// Makes an empty board: 0, or 1.
+pub fn board_make_word(words: &mut [u16], bytes: &mut [u8]) -> u64 {
+    // SAFETY: as for the reading; the buffers are borrowed for writing. So are those of the other calls of a board.
+    unsafe { resource_manager_board_make(words.as_mut_ptr(), words.len(), bytes.as_mut_ptr(), bytes.len()) }
+}
+
+/// The number of the query that is watched from now on, from bit 16 on; or the refusal's number.
+pub fn board_watch_word(words: &mut [u16], bytes: &mut [u8], name: &[u8], class: &[u8]) -> u64 {
+    // SAFETY: as above.
+    unsafe {
+        resource_manager_board_watch(
+            words.as_mut_ptr(),
+            words.len(),
+            bytes.as_mut_ptr(),
+            bytes.len(),
+            name.as_ptr(),
+            name.len(),
+            class.as_ptr(),
+            class.len(),
+        )
+    }
+}
+
+/// A pack arrives: 0, or the refusal's number.
+pub fn board_arrive_word(words: &mut [u16], bytes: &mut [u8], number: u16, contents: &[u16], bodies: &[u8]) -> u64 {
+    // SAFETY: as above.
+    unsafe {
+        resource_manager_board_arrive(
+            words.as_mut_ptr(),
+            words.len(),
+            bytes.as_mut_ptr(),
+            bytes.len(),
+            number,
+            contents.as_ptr(),
+            contents.len(),
+            bodies.as_ptr(),
+            bodies.len(),
+        )
+    }
+}
+
+/// A pack leaves: 0, or the refusal's number.
+pub fn board_leave_word(words: &mut [u16], bytes: &mut [u8], number: u16) -> u64 {
+    // SAFETY: as above.
+    unsafe { resource_manager_board_leave(words.as_mut_ptr(), words.len(), bytes.as_mut_ptr(), bytes.len(), number) }
+}
+
+/// The answer of a watched query, as `get_bytes_word` gives it, with the pack's number in `pack` where there is a value.
+pub fn board_answer_word(words: &[u16], bytes: &[u8], query: u16, pack: &mut u16) -> u64 {
+    // SAFETY: as for the lookups; the pack's number is borrowed for writing.
+    unsafe { resource_manager_board_answer(words.as_ptr(), words.len(), bytes.as_ptr(), bytes.len(), query, pack) }
+}
+
+/// All watched answers: how many, from bit 16 on, with what `board_answer_word` gives and leaves for each number in both arrays; or the refusal's
+/// number.
+pub fn board_answers_word(words: &[u16], bytes: &[u8], answers: &mut [u64; QUERIES], packs: &mut [u16; QUERIES]) -> u64 {
+    // SAFETY: as for the lookups; both arrays are borrowed for writing.
+    unsafe { resource_manager_board_answers(words.as_ptr(), words.len(), bytes.as_ptr(), bytes.len(), answers, packs) }
+}
+
+/// Which answers the leaving of a pack would change, a bit for each query from bit 32 on; or the refusal's number.
+pub fn board_report_word(words: &[u16], bytes: &[u8], number: u16) -> u64 {
+    // SAFETY: as for the lookups.
+    unsafe { resource_manager_board_report(words.as_ptr(), words.len(), bytes.as_ptr(), bytes.len(), number) }
 }
 
 /// What `compare_without_word` writes: the shelf with the file struck off, an image with the file and

@@ -1,6 +1,6 @@
 //! The port, the Rust, Xlib and xcb-xrm side by side, on the same inputs, in one run.
 //!
-//!     bench time ROOM                times and memory, as tables of readings, of lookups, of walks and of writings
+//!     bench time ROOM                times and memory, as tables of readings, of lookups, of walks, of boards and of writings
 //!     bench cases ROOM               lists what can be counted, as CASE/SIDE, and how many calls that is
 //!     bench count CASE/SIDE ROOM     those calls in `measured`, for an instruction counter
 //!     bench counted FILE ROOM        tables of what was counted: lines of CASE/SIDE and a number
@@ -8,6 +8,8 @@
 //! ROOM is a directory for the files that all but the port read. The program starts itself as
 //! `bench try CASE/SIDE ROOM` and `bench held CASE/SIDE ROOM`.
 
+#[path = "bench/boards.rs"]
+mod boards;
 #[path = "bench/c_libraries.rs"]
 mod c_libraries;
 #[path = "bench/children.rs"]
@@ -115,6 +117,7 @@ fn show_all(room: &str) {
     readings::time_all(room);
     let compared = lookups::time_all(room);
     walks::time_all();
+    boards::time_all();
     writings::time_all(room);
     children::say_held(room);
     let lines: Vec<String> = readings::differing(room).into_iter().chain(compared.lines()).collect();
@@ -132,6 +135,7 @@ fn list_cases(room: &str) {
         sides.for_each(|side| println!("{}/{} {}", asking.name(), side.name(), asking.counted()));
     }
     walks::all().for_each(|walk| println!("{}/{} {}", walk.name, Side::Port.name(), walk.calls));
+    boards::all().for_each(|board| println!("{}/{} 1", board.name, Side::Port.name()));
     for writing in writings::all(room) {
         let sides = [Side::Port].into_iter().chain(writings::OTHERS).filter(|side| writing.tried(*side).is_ok());
         sides.for_each(|side| println!("{}/{} 1", writing.name, side.name()));
@@ -151,6 +155,11 @@ fn with_work(case: &str, side: Side, room: &str, hand_on: &mut dyn FnMut(&mut dy
     }
     if let Some(walk) = walks::find(case) {
         let mut work = walk.work();
+        work();
+        return hand_on(&mut work);
+    }
+    if let Some(board) = boards::find(case) {
+        let mut work = board.work();
         work();
         return hand_on(&mut work);
     }
@@ -186,6 +195,8 @@ fn show_counted(file: &str, room: &str) {
     lookups::all().for_each(|asking| row(&asking.what(), asking.name(), &lookups::OTHERS));
     table::head("Walks and additions", "instructions", &[]);
     walks::all().for_each(|walk| row(&walk.what, walk.name, &[]));
+    table::head("A board", "instructions", &[]);
+    boards::all().for_each(|board| row(&board.what, &board.name, &[]));
     table::head("Writing out", "instructions", &writings::OTHERS);
     writings::all(room).for_each(|writing| row(&writing.what, writing.name, &writings::OTHERS));
 }

@@ -16,7 +16,7 @@ use cases::walks;
 use cases::words::{keys, queries};
 use model::archive::{judge, lay_out, strike, File};
 use model::image::{self, Accepted};
-use model::limits::{BODIES_BYTES, CONTENTS_WORDS, OLD_CONTENTS_WORDS, ROW_WORDS, TEXT_BYTES};
+use model::limits::{Refusal, BOARD_BYTES, BOARD_WORDS, BODIES_BYTES, CONTENTS_WORDS, OLD_CONTENTS_WORDS, ROW_WORDS, TEXT_BYTES};
 use model::line::{read_key, write_key, Part};
 use model::lookup::{get_bool, get_bytes, get_value, show, Bounds, Number, SHELL, WINDOW};
 use model::matching::{all_rows, beats_the_rest, highest_row, positions, winner};
@@ -25,14 +25,14 @@ use model::query::split;
 use model::reading;
 use model::startup::StartUp;
 use model::walking::{self, Walk};
-use model::{adding, writing};
+use model::{adding, board, writing};
 use records::Source;
 use std::collections::{BTreeMap, BTreeSet};
 use std::process::ExitCode;
 
 type Test = fn() -> Result<String, String>;
 
-const TESTS: [(&str, Test); 22] = [
+const TESTS: [(&str, Test); 23] = [
     ("examples", examples),
     ("booleans", booleans),
     ("limits", limits),
@@ -55,6 +55,7 @@ const TESTS: [(&str, Test); 22] = [
     ("walks-with-additions", walks_with_additions),
     ("origins", origins),
     ("migrations", migrations),
+    ("boards", boards),
 ];
 
 fn main() -> ExitCode {
@@ -781,6 +782,191 @@ fn migrations() -> Result<String, String> {
         same(label, lent.is_untouched(), true)?;
     }
     Ok(format!("an old image, and {} that are refused", refused.len()))
+}
+
+/// A board without buffers, and one in garbage beside it: each call goes to both, which give the same and keep the same.
+struct Boards {
+    history: board::Board,
+    words: Vec<u16>,
+    bytes: Vec<u8>,
+}
+
+/// An answer as pack, place and length.
+type Watched = Option<(u16, usize, usize)>;
+
+fn watched(found: Option<board::Found>) -> Watched {
+    found.map(|found| (found.pack, found.place.start, found.place.length))
+}
+
+impl Boards {
+    fn made() -> Result<Self, String> {
+        let (mut words, mut bytes) = (vec![WORD; BOARD_WORDS], vec![BYTE; BOARD_BYTES]);
+        same("a making", board::make(&mut words, &mut bytes), Ok(()))?;
+        Ok(Self { history: board::Board::default(), words, bytes })
+    }
+
+    /// A call gives this by the history and in the buffers, which then hold what the history says.
+    fn gives<T: PartialEq + std::fmt::Debug>(
+        &mut self,
+        what: &str,
+        expected: Result<T, Refusal>,
+        history: impl FnOnce(&mut board::Board) -> Result<T, Refusal>,
+        buffers: impl FnOnce(&mut [u16], &mut [u8]) -> Result<T, Refusal>,
+    ) -> Result<(), String> {
+        let before = (self.words.clone(), self.bytes.clone());
+        same(&format!("{what}, in buffers"), buffers(&mut self.words, &mut self.bytes).as_ref(), expected.as_ref())?;
+        same(&format!("{what}, without"), history(&mut self.history).as_ref(), expected.as_ref())?;
+        let held = board::read_board(&self.words, &self.bytes);
+        same(&format!("{what}: what the buffers hold"), held.as_ref() == Ok(&self.history), true)?;
+        let is_as_before = expected.is_ok() || before == (self.words.clone(), self.bytes.clone());
+        same(&format!("{what}: what a refusal leaves"), is_as_before, true)
+    }
+
+    fn watch(&mut self, what: &str, name: &[u8], class: &[u8], expected: Result<usize, Refusal>) -> Result<(), String> {
+        self.gives(what, expected, |board| board.watch(name, class), |words, bytes| board::watch(words, bytes, name, class))
+    }
+
+    fn arrive(&mut self, what: &str, number: u16, lent: &Lent, expected: Result<(), Refusal>) -> Result<(), String> {
+        let Lent { contents, bodies } = lent;
+        self.gives(
+            what,
+            expected,
+            |board| board.arrive(number, contents, bodies),
+            |words, bytes| board::arrive(words, bytes, number, contents, bodies),
+        )
+    }
+
+    fn leave(&mut self, what: &str, number: u16, expected: Result<(), Refusal>) -> Result<(), String> {
+        self.gives(what, expected, |board| board.leave(number), |words, bytes| board::leave(words, bytes, number))
+    }
+
+    /// One by one, and all at once.
+    fn answers(&mut self, what: &str, expected: &[Watched]) -> Result<(), String> {
+        let all = |found: Vec<Option<board::Found>>| found.into_iter().map(watched).collect::<Vec<_>>();
+        let told = expected.to_vec();
+        self.gives(what, Ok(told), |board| Ok(all(board.answers())), |words, bytes| board::answers(words, bytes).map(all))?;
+        let none = [None, None];
+        for (query, found) in expected.iter().chain(&none).enumerate() {
+            let in_buffers = |words: &mut [u16], bytes: &mut [u8]| board::answer(words, bytes, query as u16).map(watched);
+            self.gives(what, Ok(*found), |board| Ok(watched(board.answer(query))), in_buffers)?;
+        }
+        Ok(())
+    }
+
+    fn report(&mut self, what: &str, number: u16, expected: Result<u32, Refusal>) -> Result<(), String> {
+        self.gives(what, expected, |board| board.report(number), |words, bytes| board::report(words, bytes, number))
+    }
+}
+
+/// Document 02 (ix): the definition's own examples, on a board without buffers and on one in garbage.
+fn boards() -> Result<String, String> {
+    let histories = [packs_that_come_and_go, full_board, more_than_512_entries, full_rooms, no_boards];
+    histories.iter().try_for_each(|history| history())?;
+    Ok(format!("{} histories, without buffers and in garbage", histories.len()))
+}
+
+fn packs_that_come_and_go() -> Result<(), String> {
+    let mut boards = Boards::made()?;
+    boards.watch("a query", b"a.b", b"", Ok(0))?;
+    boards.watch("the same again", b"a.b", b"", Ok(1))?;
+    boards.watch("a malformed one", b".a", b"", Ok(2))?;
+    boards.watch("a byte more", &[b'a'; 1025], b"", Err(Refusal::LongQuery))?;
+    boards.watch("a part more", &b"a.".repeat(33), b"", Err(Refusal::ManyQueryParts))?;
+    boards.answers("no packs", &[None; 3])?;
+    let packs: [(u16, &[u8]); 3] = [(7, b"a*b:old\n*c:x"), (9, b"c:\na.b:new"), (2, b"a*b:last")];
+    for (number, text) in packs {
+        let lent = image_of(text);
+        boards.arrive("an arrival", number, &lent, Ok(()))?;
+        boards.arrive("a number that is there", number, &lent, Err(Refusal::BadPackNumber))?;
+    }
+    boards.answers("three packs", &[Some((9, 6, 3)), Some((9, 6, 3)), None])?;
+    for (number, told) in [(7, Ok(0)), (9, Ok(3)), (2, Ok(0)), (1, Err(Refusal::BadPackNumber))] {
+        boards.report("a report", number, told)?;
+    }
+    boards.leave("a leaving", 9, Ok(()))?;
+    boards.answers("of equals the later", &[Some((2, 4, 4)), Some((2, 4, 4)), None])?;
+    boards.report("the very same bytes or not", 2, Ok(3))?;
+    boards.leave("a leaving", 2, Ok(()))?;
+    boards.answers("the one that is left", &[Some((7, 4, 3)), Some((7, 4, 3)), None])?;
+    boards.leave("number 0", 0, Err(Refusal::BadPackNumber))?;
+    boards.leave("a number that is not there", 2, Err(Refusal::BadPackNumber))
+}
+
+/// A seventeenth pack and a thirty-third query, and a making after them.
+fn full_board() -> Result<(), String> {
+    let mut boards = Boards::made()?;
+    let (lent, mut short) = (image_of(b"a:1"), image_of(b"a:1"));
+    short.contents.truncate(CONTENTS_WORDS - 1);
+    for number in 7..23 {
+        boards.arrive("a pack", number, &lent, Ok(()))?;
+    }
+    boards.arrive("a seventeenth", 0, &lent, Err(Refusal::FullBoard))?;
+    boards.arrive("no image", 0, &short, Err(Refusal::NoImage))?;
+    short = Lent { bodies: lent.bodies[..BODIES_BYTES - 1].to_vec(), ..image_of(b"a:1") };
+    boards.arrive("bodies one byte short", 0, &short, Err(Refusal::NoImage))?;
+    for number in 0..32 {
+        boards.watch("a query", b"a", b"", Ok(number))?;
+    }
+    boards.watch("a thirty-third", &[b'a'; 1025], b"", Err(Refusal::FullBoard))?;
+    boards.answers("all from the last", &[Some((22, 2, 1)); 32])?;
+    same("a making", board::make(&mut boards.words, &mut boards.bytes), Ok(()))?;
+    boards.history = board::Board::default();
+    boards.answers("an empty board", &[])
+}
+
+/// The joined entries are more than an image holds.
+fn more_than_512_entries() -> Result<(), String> {
+    let mut boards = Boards::made()?;
+    boards.watch("a query", b"a", b"", Ok(0))?;
+    boards.watch("another", b"b", b"", Ok(1))?;
+    boards.arrive("512 entries", 1, &image_of(&b"*a:x\n".repeat(512)), Ok(()))?;
+    boards.arrive("two more", 2, &image_of(b"b:y\na:z"), Ok(()))?;
+    boards.answers("entries 513 and 514", &[Some((2, 5, 1)), Some((2, 2, 1))])?;
+    boards.report("without them", 2, Ok(3))?;
+    boards.report("without the others", 1, Ok(0))
+}
+
+/// Texts, malformed ones too, and images that fill their rooms, which stand one right behind another; a value of no bytes behind the last
+/// byte.
+fn full_rooms() -> Result<(), String> {
+    let mut boards = Boards::made()?;
+    for (query, letter) in (b'A'..=b'`').enumerate() {
+        boards.watch("the longest texts", &[letter; 1024], &[letter; 1024], Ok(query))?;
+    }
+    let long = (b".z".to_vec(), vec![b'v'; BODIES_BYTES - 2 * 512]);
+    let Image { contents, bodies } = Image::of(&[vec![long], vec![(b".a".to_vec(), vec![]); 511]].concat());
+    let full = Lent { contents, bodies };
+    for number in 1..17 {
+        boards.arrive("a full pack", number, &full, Ok(()))?;
+    }
+    boards.leave("the first", 1, Ok(()))?;
+    boards.arrive("and again", 1, &full, Ok(()))?;
+    let mut last = Boards::made()?;
+    last.watch("a query", b"a", b"", Ok(0))?;
+    last.arrive("a full pack", 1, &full, Ok(()))?;
+    last.answers("behind the last byte", &[Some((1, BODIES_BYTES, 0))])
+}
+
+/// Buffers one too short, and words that make no board.
+fn no_boards() -> Result<(), String> {
+    let mut boards = Boards::made()?;
+    for number in 7..23 {
+        boards.arrive("a pack", number, &image_of(b""), Ok(()))?;
+    }
+    for number in 0..32 {
+        boards.watch("a query", b"a", b"", Ok(number))?;
+    }
+    let Boards { words, bytes, .. } = boards;
+    let refused = |words: &[u16], bytes: &[u8]| board::answer(words, bytes, 0).err();
+    same("a word short", refused(&words[1..], &bytes), Some(Refusal::ShortBuffers))?;
+    same("a byte short", refused(&words, &bytes[1..]), Some(Refusal::ShortBuffers))?;
+    for (at, word) in [(0, 17), (1, 33), (board::slot_start(1), 7), (board::slot_start(2), 0), (board::lengths_start(31), 1025)] {
+        let mut other = words.clone();
+        other[at] = word;
+        same("no board", refused(&other, &bytes), Some(Refusal::NoImage))?;
+        same("no answers", board::answers(&other, &bytes), Err(Refusal::NoImage))?;
+    }
+    Ok(())
 }
 
 /// A walk with additions under way lists, of the entries below its start's count, those that align, each once, and ends.

@@ -13,6 +13,8 @@
 //!     port_beside writings                          lists the families of images
 //!     port_beside walk FAMILY SEED TIMES ROOM       compares the walks and additions of one family
 //!     port_beside walks                             lists the families of walks and additions
+//!     port_beside board FAMILY SEED TIMES ROOM      compares the calls of a board over one family of histories
+//!     port_beside boards                            lists the families of histories
 //!     port_beside order FAMILY SEED TIMES ROOM      rearranges one family of texts and packs
 //!     port_beside orders                            lists the families of texts and packs
 //!     port_beside test NAME ROOM                    runs one test
@@ -23,6 +25,14 @@
 
 #[path = "port/asking.rs"]
 mod asking;
+#[path = "port/board_buffers.rs"]
+mod board_buffers;
+#[path = "port/board_faults.rs"]
+mod board_faults;
+#[path = "port/board_tests.rs"]
+mod board_tests;
+#[path = "port/boards.rs"]
+mod boards;
 #[path = "port/both.rs"]
 mod both;
 #[path = "port/comparing.rs"]
@@ -90,6 +100,7 @@ mod writing_faults;
 mod writing_tests;
 
 use asking::Lookups;
+use boards::Boards;
 use cases::chains::{self, every_combination, Combination};
 use cases::images;
 use cases::lookups;
@@ -125,6 +136,8 @@ fn main() -> ExitCode {
         ["writings"] => Ok(names(&images::FAMILIES)),
         ["walk", family, seed, times, _] => walk(family, seed, times),
         ["walks"] => Ok(names(&walks::FAMILIES)),
+        ["board", family, seed, times, _] => board(family, seed, times),
+        ["boards"] => Ok(names(&cases::boards::FAMILIES)),
         ["order", family, seed, times, room] => order(family, seed, times, room),
         ["orders"] => Ok(names(&cases::orders::FAMILIES)),
         ["test", name, room] => tests::test(name, room),
@@ -218,6 +231,14 @@ fn walk(family: &str, seed: &str, times: &str) -> Result<String, String> {
     let mut walking = Walking::new(walking::PORTS);
     family(extent(seed, times)?, &mut |image, turns| walking.see(image, turns))?;
     walking.counts.report()
+}
+
+fn board(family: &str, seed: &str, times: &str) -> Result<String, String> {
+    let family = find(&cases::boards::FAMILIES, family)?;
+    let extent = extent(seed, times)?;
+    let mut boards = Boards::new(boards::PORTS, extent.seed);
+    family(extent, &mut |history| boards.see(history))?;
+    boards.counts.report()
 }
 
 /// Both readings have a directory of their own for the Rust's files.

@@ -8,7 +8,7 @@ use native.Mathlib.Nat.{min-eq-left}
 use native.Mathlib.Omega.{arith}
 use lib.Dec.{leb, ltb}
 use lib.ListN.{length, take, drop, set}
-use lib.Seq.{paste, sets-eq, take-length}
+use lib.Seq.{paste, sets-eq}
 use borrow.Author.Tests.{lt-ltb, le-ltb, le-leb, lt-leb, ltb-false, leb-false}
 use Rattle.definition.specs.Lists.{if_then_else_}
 use Rattle.definition.specs.Limits.{mostEntries, mostParts, bodyBytes, textBytes, unknownFile}
@@ -19,6 +19,7 @@ use Rattle.definition.specs.Lookup.{given, refused}
 use Rattle.definition.specs.Adding.{Addition, addition, entriesAdded, over, appended, judged, addedOne, adding}
 use Rattle.laws.proofs.Lists.{paste-append}
 use Rattle.laws.proofs.Image.{image-holds}
+use Rattle.laws.proofs.Adding.{over-paste}
 use Rattle.image.specs.Rows.{rowStart, withRow}
 use Rattle.components.specs.Parts.{partsOf}
 use Rattle.values.specs.Decoded.{decodedAt, Decoded}
@@ -50,10 +51,6 @@ module _ (count size len entries used : ℕ) where
       none-past h = rw (le-ltb mostParts count few, lt-leb mostEntries entries room, le-ltb bodyBytes (used + (size + len)) h) refl
 
 -- ---- What is written
-
-over-paste : (n : ℕ) (xs lent : List ℕ) → paste lent n xs (length xs) ≡ over n xs lent
-unfolding over
-over-paste n xs lent = ap (λ (l : List ℕ). take n lent ++ l ++ drop (n + length xs) lent) (take-length xs)
 
 module _ {t u : List ℕ} {size : ℕ} {verbatim : Bool} {len entries used : ℕ} {c b : List ℕ} (f : Fitting t u size verbatim len entries used c b) where
   abbrev written : Entry

@@ -2,4 +2,5 @@
 mod Lookups
 mod Walks
 mod Origins
+mod Boards
 mod Bounds

@@ -8,9 +8,9 @@ use native.Mathlib.Omega.{arith}
 use lib.Dec.{eqb}
 use lib.ListN.{length, getD, drop}
 use lib.Seq.{drop-cons}
-use borrow.Author.Tests.{eq-eqb, ne-eqb, eqb-true, eqb-false}
 use Rattle.definition.specs.Lists.{any, takeWhile}
 use Rattle.definition.specs.Bytes.{star, isBinding}
+use Rattle.laws.proofs.Lists.{eqb-sym}
 use Rattle.scan.proofs.Runs.{Passed, passed-none, passed-more, passed-stop, passed-end}
 use Rattle.components.specs.Parts.{Bound}
 
@@ -24,13 +24,6 @@ pub record Binding-at (t : List ℕ) (l : Bool) (i : ℕ) : Type 0 where
 
 pub binding-first : (t : List ℕ) → Binding-at t false 0
 binding-first t = record { run = passed-none isBinding t; loose = refl }
-
-pub eqb-sym : (a b : ℕ) → eqb a b ≡ eqb b a
-eqb-sym a b = at (eqb b a) refl
-  where
-    at : (x : Bool) → eqb b a ≡ x → eqb a b ≡ x
-    at true e = eq-eqb a b (sym (eqb-true b a e))
-    at false e = ne-eqb a b (λ k. eqb-false b a e (sym k))
 
 -- where the run is over no `*` is left
 run-over : (t : List ℕ) (i : ℕ) → length (takeWhile isBinding (drop i t)) ≡ 0 → isLoose (drop i t) ≡ false

@@ -11,10 +11,9 @@ use Rattle.definition.specs.Lists.{if_then_else_, takeWhile, dropWhile}
 use Rattle.definition.specs.Parsing.{nothing}
 use Rattle.definition.specs.Bytes.{question, isDigit, isName}
 use Rattle.definition.specs.Text.{Binding, componentAt}
-use Rattle.laws.proofs.Lists.{not-both, take-run, drop-run, length-takeWhile-le}
+use Rattle.laws.proofs.Lists.{not-both, eqb-sym, take-run, drop-run, length-takeWhile-le}
 use Rattle.scan.specs.Scanned.{startsWith}
 use Rattle.components.specs.Parts.{componentIf, Begun}
-use Rattle.components.proofs.Bindings.{eqb-sym}
 
 no-component : (t : List ℕ) → ((b : Binding) → componentAt b t ≡ nothing) → Begun t (record { named = false; len = 0 })
 no-component t e = record {

@@ -14,11 +14,10 @@ use Rattle.definition.specs.Parsing.{Parsed, many}
 use Rattle.definition.specs.Bytes.{dot, star, isBinding}
 use Rattle.definition.specs.Text.{Part, partAt}
 use Rattle.definition.specs.Image.{bindingByte, keyOf}
-use Rattle.laws.proofs.Lists.{not-both, and-true, and-both, same-refl, same-eq, same-append, takeWhile-dropWhile, all-takeWhile, drop-run, part-rest}
+use Rattle.laws.proofs.Lists.{not-both, eqb-sym, and-true, and-both, same-refl, same-eq, same-append, takeWhile-dropWhile, all-takeWhile, drop-run, part-rest}
 use Rattle.components.specs.Parts.{partsOf, keyFirst, bindingIf, componentText, Parted, boundFirst, isVerbatim}
 use Rattle.components.specs.declared.Next.{Next}
 use Rattle.components.proofs.Turns.{past, parts-over, parts-turn, key-turn, bytes-length}
-use Rattle.components.proofs.Bindings.{eqb-sym}
 
 -- the key of the parts at the front of t, and what follows the parts
 abbrev pub written : List ℕ → List ℕ

@@ -22,6 +22,7 @@ use Rattle.definition.specs.Value.{Number, table, afterRow, firstRow, ch
 use Rattle.definition.specs.Walking.{hasRow, aligns, alignedFrom, firstOf, nextOf, begun, walkStartBy, numberOr, stepped, walkStepBy, afterStep}
 use Rattle.definition.specs.Adding.{entriesAdded, over, appended, judged, addedOne, adding, listedAfter, turned, played, stepsIn, numbersFrom}
 use Rattle.definition.specs.Migration.{carried, migrating}
+use Rattle.definition.specs.Board.{checked, replyTo, changed, ifGiven, afterCalls, broughtBy, joined as joinedEntries, foundAt, foundIn, queryNumber, storeNumber, bytesFound, sameAnswer, each, changes, bitsOf, reported, lengthsStart, slotStart, textStart, bodyStart, slotAt, queryAt, areSlots, haveRoom, isBoard, boardMake, writing, boardCall, boardAnswer, boardAnswers, boardReport, afterAll, answerAmong}
 
 -- an example unfolds all of the definition
 unfoldable pub definition : ℕ
@@ -40,6 +41,9 @@ unfolding
     hasRow aligns alignedFrom firstOf nextOf begun walkStartBy numberOr stepped walkStepBy afterStep
     entriesAdded over appended judged addedOne adding listedAfter turned played stepsIn numbersFrom
     carried migrating
+    checked replyTo changed ifGiven afterCalls broughtBy joinedEntries foundAt foundIn queryNumber storeNumber bytesFound sameAnswer each changes bitsOf
+    reported lengthsStart slotStart textStart bodyStart slotAt queryAt areSlots haveRoom isBoard boardMake writing boardCall boardAnswer boardAnswers boardReport
+    afterAll answerAmong
 definition = 0
 
 -- ---- What an example looks at

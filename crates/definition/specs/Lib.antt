@@ -22,6 +22,7 @@ pub mod Adding
 pub mod Migration
 pub mod ThirdTerm
 pub mod Orders
+pub mod Board
 pub mod Evaluation
 mod Examples
 mod NameBytes
@@ -32,5 +33,6 @@ mod Texts
 mod Walks
 mod Orderings
 mod Origins
+mod Boards
 mod Numbers
 mod Recorded

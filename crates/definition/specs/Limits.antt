@@ -67,3 +67,21 @@ windowBytes = 128
 
 abbrev pub windowParts : ℕ
 windowParts = 8
+
+-- of a board (document 02 (ix))
+abbrev pub mostPacks : ℕ
+mostPacks = 16
+
+abbrev pub mostQueries : ℕ
+mostQueries = 32
+
+-- the words of a pack's slot: its number, then its contents
+abbrev pub slotWords : ℕ
+slotWords = 1 + contentsWords
+
+-- the words and the bytes of the lent board
+abbrev pub boardWords : ℕ
+boardWords = 2 + 2 * mostQueries + slotWords * mostPacks
+
+abbrev pub boardBytes : ℕ
+boardBytes = 2 * queryBytes * mostQueries + bodyBytes * mostPacks

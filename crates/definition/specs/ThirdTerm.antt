@@ -1,6 +1,6 @@
 -- What the buyer's third term says, in its words; the crate `laws` proves it of the definition.
 use mathlib.Core.Bool.{Bool, true, false, not}
-use mathlib.Core.List.{List, []}
+use mathlib.Core.List.{List, [], map}
 use mathlib.Core.Logic.{_↔_, _⊎_}
 use mathlib.Core.Option.{Option}
 use mathlib.Core.Path.{_≡_}
@@ -8,6 +8,7 @@ use Prim.Native.Nat.{ℕ, _<_}
 use lib.ListN.{length, getD}
 use Rattle.definition.specs.Lists.{any, filter, same}
 use Rattle.definition.specs.Archive.{filesOf, struckOff}
+use Rattle.definition.specs.Text.{Entry}
 use Rattle.definition.specs.Including.{Entered}
 use Rattle.definition.specs.Image.{tooShort}
 use Rattle.definition.specs.Reading.{Answer, accepted, refused as refusedReading, Outcome, reading, readEntries, plain}
@@ -15,36 +16,64 @@ use Rattle.definition.specs.Query.{Query, positions, malformed, pastLimi
 use Rattle.definition.specs.Matching.{Beats}
 use Rattle.definition.specs.Lookup.{keysOf, answerOf, Reply, refused, Place, getBytesWithin, answerIn}
 
+-- ---- The striking-off rule, of any list of entries and of those that came through something: a file here, a pack of a board in Board.antt
+
+-- of what stands in such a list: its entry, whether that came through the something, and what stands for a number with none
+pub record Through (A : Type 0) : Type 0 where
+  pub entry : A → Entry
+  pub came : A → Bool
+  pub absent : A
+
+module _ {A : Type 0} (t : Through A) where
+  abbrev pub entries : List A → List Entry
+  entries xs = map (t .entry) xs
+
+  -- the entries once all that came through it are left out
+  abbrev pub leftOut : List A → List A
+  leftOut xs = filter (λ x. not (t .came x)) xs
+
+  -- entry i beats the rest; of a malformed query nothing aligns
+  abbrev pub BeatsRest : List A → Query → ℕ → Type 0
+  BeatsRest xs (positions qs) i = Beats (keysOf (entries xs)) qs i
+  BeatsRest xs malformed i = ⊥
+  BeatsRest xs (pastLimit k) i = ⊥
+
+  abbrev pub numbered : List A → ℕ → A
+  numbered xs i = getD xs i (t .absent)
+
+  module _ (xs : List A) (q : Query) where
+    -- no entry that came through it beats the rest
+    abbrev pub NoneThroughBeats : Type 0
+    NoneThroughBeats = (i : ℕ) → BeatsRest xs q i → t .came (numbered xs i) ≡ false
+
+    -- or one does, some entry beats the rest once all that came through it are left out, and both carry the very same bytes
+    pub record SameBytesWithout : Type 0 where
+      pub winner : ℕ
+      pub beats : BeatsRest xs q winner
+      pub through : t .came (numbered xs winner) ≡ true
+      pub other : ℕ
+      pub beatsLeft : BeatsRest (leftOut xs) q other
+      pub sameBytes : t .entry (numbered xs winner) .value ≡ t .entry (numbered (leftOut xs) other) .value
+
+    -- the two answers, bytes or none, are equal exactly when one of the two holds
+    abbrev pub EqualJustWhen : Type 0
+    EqualJustWhen = (answerOf (entries xs) q ≡ answerOf (entries (leftOut xs)) q) ↔ (NoneThroughBeats ⊎ SameBytesWithout)
+
+abbrev pub StrikingOff : Type 1
+StrikingOff = (A : Type 0) (t : Through A) (xs : List A) (q : Query) → EqualJustWhen t xs q
+
+-- ---- The term
+
 -- an entry came through a file if that file is on its chain of includes
 unfoldable pub cameThrough : List ℕ → Entered → Bool
 cameThrough file x = any (same file) (x .chain)
 
--- the entries once all that came through that file are left out
-abbrev pub leftWithout : List ℕ → List Entered → List Entered
-leftWithout file xs = filter (λ x. not (cameThrough file x)) xs
-
--- entry i beats the rest; of a malformed query nothing aligns
-abbrev pub BeatsRest : List Entered → Query → ℕ → Type 0
-BeatsRest xs (positions qs) i = Beats (keysOf (plain xs)) qs i
-BeatsRest xs malformed i = ⊥
-BeatsRest xs (pastLimit k) i = ⊥
-
 abbrev pub entryNumber : List Entered → ℕ → Entered
 entryNumber xs i = getD xs i (record { chain = []; entry = record { parts = []; value = [] } })
 
-module _ (file : List ℕ) (xs : List Entered) (q : Query) where
-  -- no entry that came through that file beats the rest
-  abbrev pub NoneThroughBeats : Type 0
-  NoneThroughBeats = (i : ℕ) → BeatsRest xs q i → cameThrough file (entryNumber xs i) ≡ false
-
-  -- or one does, some entry beats the rest once all that came through that file are left out, and both carry the very same bytes
-  pub record SameBytesWithout : Type 0 where
-    pub winner : ℕ
-    pub beats : BeatsRest xs q winner
-    pub through : cameThrough file (entryNumber xs winner) ≡ true
-    pub other : ℕ
-    pub beatsLeft : BeatsRest (leftWithout file xs) q other
-    pub sameBytes : entryNumber xs winner .entry .value ≡ entryNumber (leftWithout file xs) other .entry .value
+-- of the entries of a reading, those that came through that file
+abbrev pub throughFile : List ℕ → Through Entered
+throughFile file = record { entry = λ x. x .entry; came = cameThrough file; absent = entryNumber [] 0 }
 
 abbrev pub isAccepted : Answer → Bool
 isAccepted (accepted entries opens) = true
@@ -103,6 +132,8 @@ module _ (c : Case) where
     pub secondAnswers : (k : ℕ) → lookup withoutFile ≡ refused k → ⊥
     pub firstAnswer : lookedUp withFile ≡ defined (c .archive)
     pub secondAnswer : lookedUp withoutFile ≡ defined (struckOff (c .file) (c .archive))
+    -- they are equal exactly when no entry that came through that file beats the rest; or one does, some entry beats the rest once all that came
+    -- through that file are left out, and both carry the very same bytes
     pub equalJustWhen : (lookedUp withFile ≡ lookedUp withoutFile)
-        ↔ (NoneThroughBeats fileName (readEntries (c .texts) (c .archive)) query
-        ⊎ SameBytesWithout fileName (readEntries (c .texts) (c .archive)) query)
+        ↔ (NoneThroughBeats (throughFile fileName) (readEntries (c .texts) (c .archive)) query
+        ⊎ SameBytesWithout (throughFile fileName) (readEntries (c .texts) (c .archive)) query)

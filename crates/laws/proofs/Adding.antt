@@ -9,7 +9,7 @@ use native.Mathlib.Numerals.{add-one}
 use native.Mathlib.Omega.{arith}
 use lib.Dec.{eqb, leb}
 use lib.ListN.{length, take, drop, length-append, length-drop, drop-of-length-le}
-use lib.Seq.{slice, length-take-le, take-append-le, drop-append-le, take-take, take-at, take-add, drop-drop}
+use lib.Seq.{slice, paste, take-length, length-take-le, take-append-le, drop-append-le, take-take, take-at, take-add, drop-drop}
 use borrow.Author.Tests.{le-ltb, le-leb, eqb-true, eq-eqb}
 use Rattle.definition.specs.Lists.{if_then_else_, all}
 use Rattle.definition.specs.Parsing.{Parsed}
@@ -80,7 +80,12 @@ use Rattle.laws.proofs.Walking.{aligned-append, aligned-rest}
 
 -- ---- Written over what stands
 
-over-long : (n : ℕ) (xs lent : List ℕ) → n + length xs ≤ length lent → length (over n xs lent) ≡ length lent
+-- as a copying writes it
+pub over-paste : (n : ℕ) (xs lent : List ℕ) → paste lent n xs (length xs) ≡ over n xs lent
+unfolding over
+over-paste n xs lent = ap (λ (l : List ℕ). take n lent ++ l ++ drop (n + length xs) lent) (take-length xs)
+
+pub over-long : (n : ℕ) (xs lent : List ℕ) → n + length xs ≤ length lent → length (over n xs lent) ≡ length lent
 unfolding over
 over-long n xs lent h =
     let a = length-append (take n lent ++ xs) (drop (n + length xs) lent) in
@@ -88,7 +93,7 @@ over-long n xs lent h =
     omega (arith, a, b, length-take-le n lent (omega arith), length-drop (n + length xs) lent)
 
 -- what stands before is as it was
-over-before : (n : ℕ) (xs lent : List ℕ) → n ≤ length lent → (from to : ℕ) → to ≤ n → slice from to (over n xs lent) ≡ slice from to lent
+pub over-before : (n : ℕ) (xs lent : List ℕ) → n ≤ length lent → (from to : ℕ) → to ≤ n → slice from to (over n xs lent) ≡ slice from to lent
 unfolding over
 over-before n xs lent h from to k =
     let m = length-take-le n lent h in
@@ -166,7 +171,7 @@ module _ (e : Entry) (contents : List ℕ) (room : 2 + rowWords * countOf conten
 
 -- ---- What is read by the rows
 
-all-append : {A : Type 0} (p : A → Bool) (xs : List A) (y : A) → all p xs ≡ true → p y ≡ true → all p (xs ++ y ∷ []) ≡ true
+pub all-append : {A : Type 0} (p : A → Bool) (xs : List A) (y : A) → all p xs ≡ true → p y ≡ true → all p (xs ++ y ∷ []) ≡ true
 unfolding all
 all-append p [] y h k = and-both k refl
 all-append p (x ∷ xs) y h k = let a = and-true (p x) (all p xs) h in and-both (a .0) (all-append p xs y (a .1) k)
@@ -184,12 +189,12 @@ packed-append at (s ∷ rows) used r h e =
     and-both (a .0) (packed-append (valueEnd s) rows used r (a .1) e)
 
 -- two bodies give the same by the rows
-record Agree (bodies other : List ℕ) (rows : List Row) : Type 0 where
-  entries : entriesIn rows other ≡ entriesIn rows bodies
-  keys : all (λ r. isKey (keyAt other r)) rows ≡ all (λ r. isKey (keyAt bodies r)) rows
+pub record Agree (bodies other : List ℕ) (rows : List Row) : Type 0 where
+  pub entries : entriesIn rows other ≡ entriesIn rows bodies
+  pub keys : all (λ r. isKey (keyAt other r)) rows ≡ all (λ r. isKey (keyAt bodies r)) rows
 
 -- they do if they are the same up to where the rows are packed
-agree : (bodies other : List ℕ) (used : ℕ) → ((from to : ℕ) → to ≤ used → slice from to other ≡ slice from to bodies)
+pub agree : (bodies other : List ℕ) (used : ℕ) → ((from to : ℕ) → to ≤ used → slice from to other ≡ slice from to bodies)
     → (at : ℕ) (rows : List Row) → packed at rows used ≡ true → Agree bodies other rows
 unfolding packed entriesIn all
 agree bodies other used same at [] h = record { entries = refl; keys = refl }

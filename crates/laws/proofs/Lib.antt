@@ -18,4 +18,5 @@ pub mod Window
 pub mod Walking
 pub mod Adding
 pub mod Migration
+pub mod Striking
 pub mod ThirdTerm

@@ -283,6 +283,9 @@ both-ways true b p q = sym (p refl)
 both-ways false true p q = q refl
 both-ways false false p q = refl
 
+pub eqb-sym : (a b : ℕ) → eqb a b ≡ eqb b a
+eqb-sym a b = both-ways (eqb a b) (eqb b a) (λ e. eq-eqb b a (sym (eqb-true a b e))) (λ e. eq-eqb a b (sym (eqb-true b a e)))
+
 pub lower-differ : (xs ys : List ℕ) → lower xs ys ≡ true → same xs ys ≡ false
 lower-differ xs ys h = at (same xs ys) refl
   where

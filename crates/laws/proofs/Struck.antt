@@ -8,7 +8,7 @@ use Rattle.definition.specs.Lists.{if_then_else_, any, filter, same}
 use Rattle.definition.specs.Archive.{File, bodyOf, folderOf, pathOf}
 use Rattle.definition.specs.Text.{Line, skipped, include, entry, linesOf}
 use Rattle.definition.specs.Including.{Chain, Event, opened, entered, eventsOf, opening, seeking, including, events, eventsOfAll, Entered, entriesOf}
-use Rattle.definition.specs.ThirdTerm.{cameThrough, leftWithout}
+use Rattle.definition.specs.ThirdTerm.{cameThrough, throughFile, leftOut}
 use Rattle.laws.proofs.Lists.{same-eq, any-append, filter-append}
 
 -- gs are the files fs without `file`, as far as finding can tell
@@ -148,13 +148,13 @@ module _ (file : List ℕ) where
 
   -- ---- Of the entries and the opens
 
-  pub entries-without : (es : List Event) → entriesOf (eventsWithout es) ≡ leftWithout file (entriesOf es)
+  pub entries-without : (es : List Event) → entriesOf (eventsWithout es) ≡ leftOut (throughFile file) (entriesOf es)
   unfolding filter entriesOf cameThrough
   entries-without [] = refl
   entries-without (opened ch ∷ es) = at (on ch) (entries-without es)
     where
-      at : (b : Bool) → entriesOf (eventsWithout es) ≡ leftWithout file (entriesOf es)
-          → entriesOf (if not b then opened ch ∷ eventsWithout es else eventsWithout es) ≡ leftWithout file (entriesOf es)
+      at : (b : Bool) → entriesOf (eventsWithout es) ≡ leftOut (throughFile file) (entriesOf es)
+          → entriesOf (if not b then opened ch ∷ eventsWithout es else eventsWithout es) ≡ leftOut (throughFile file) (entriesOf es)
       at true ih = ih
       at false ih = ih
   entries-without (entered ch e ∷ es) = at (on ch) (entries-without es)
@@ -162,8 +162,8 @@ module _ (file : List ℕ) where
       x : Entered
       x = record { chain = ch; entry = e }
 
-      at : (b : Bool) → entriesOf (eventsWithout es) ≡ leftWithout file (entriesOf es)
+      at : (b : Bool) → entriesOf (eventsWithout es) ≡ leftOut (throughFile file) (entriesOf es)
           → entriesOf (if not b then entered ch e ∷ eventsWithout es else eventsWithout es)
-          ≡ (if not b then x ∷ leftWithout file (entriesOf es) else leftWithout file (entriesOf es))
+          ≡ (if not b then x ∷ leftOut (throughFile file) (entriesOf es) else leftOut (throughFile file) (entriesOf es))
       at true ih = ih
       at false ih = ap (λ (l : List Entered). x ∷ l) ih

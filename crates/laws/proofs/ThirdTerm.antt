@@ -1,27 +1,24 @@
 -- The third term, of the definition. Assumes nothing.
-use mathlib.Core.Bool.{Bool, true, false, _&&_, not}
-use mathlib.Core.List.{List, [], _∷_, map}
-use mathlib.Core.Logic.{_↔_, _⊎_, inl, inr}
-use mathlib.Core.Option.{some, none}
-use mathlib.Core.Path.{_≡_, refl, sym, ap, _∙_}
-use Prim.Native.Nat.{ℕ, _≤_, _<_}
+use mathlib.Core.Bool.{Bool, true, _&&_}
+use mathlib.Core.List.{List, [], _∷_}
+use mathlib.Core.Path.{_≡_, refl, ap, _∙_}
+use Prim.Native.Nat.{ℕ, _≤_}
 use native.Mathlib.Omega.{arith}
 use lib.Dec.{leb}
-use lib.ListN.{length, getD, length-map, List·getD-map}
+use lib.ListN.{length, length-map}
 use Rattle.definition.specs.Lists.{all}
 use Rattle.definition.specs.Limits.{mostParts, mostEntries, bodyBytes, deepest}
 use Rattle.definition.specs.Archive.{filesOf, laidOut, struckOff}
-use Rattle.definition.specs.Text.{Part, Entry, entry}
+use Rattle.definition.specs.Text.{Entry, entry}
 use Rattle.definition.specs.Including.{Entered, entriesOf}
 use Rattle.definition.specs.Image.{Sourced, storeOf, Row, rowsIn, entriesIn, imageContents, imageBodies, isImage}
 use Rattle.definition.specs.Reading.{accepted, outcome, reading, readEntries, plain, sourced, met, start}
 use Rattle.definition.specs.Writing.{entriesOfImage, sourcesOfImage}
-use Rattle.definition.specs.Query.{Position, Query, positions, malformed, pastLimit, Bounds, queryWithin}
-use Rattle.definition.specs.Matching.{Aligned, Beats}
+use Rattle.definition.specs.Query.{Query, positions, malformed, pastLimit, Bounds, queryWithin}
 use Rattle.definition.specs.Ranking.{Best, noEntry, best, bestOf}
-use Rattle.definition.specs.Lookup.{keysOf, valueOf, answerOf, refused, placeOf, lookup, getBytesBy, getBytesWithin, answerIn}
-use Rattle.definition.specs.ThirdTerm.{cameThrough, leftWithout, entryNumber, NoneThroughBeats, SameBytesWithout, Case, query, fileName, Given, ThirdTerm}
-use Rattle.laws.proofs.Lists.{not-both, and-true, and-both}
+use Rattle.definition.specs.Lookup.{keysOf, answerOf, refused, placeOf, lookup, getBytesBy, getBytesWithin, answerIn}
+use Rattle.definition.specs.ThirdTerm.{throughFile, leftOut, Case, query, fileName, Given, ThirdTerm}
+use Rattle.laws.proofs.Lists.{and-true, and-both}
 use Rattle.laws.proofs.Archive.{laidOut-says, files-struck, struck-laidOut, removed-gone, removed-other}
 use Rattle.laws.proofs.Struck.{Lacks, eventsWithout, apart, eventsOfAll-struck, entries-without}
 use Rattle.laws.proofs.Limits.{limits-fewer, used-store}
@@ -29,108 +26,8 @@ use Rattle.laws.proofs.Reading.{Reads, accepted-reads, reads-outcome, e
 use Rattle.laws.proofs.Keys.{isLegalLine, lines-legal}
 use Rattle.laws.proofs.Image.{isStorable, Sources, image-is, image-entries}
 use Rattle.laws.proofs.Origins.{image-sources, read-sources}
-use Rattle.laws.proofs.Ranking.{best-beats, best-none, beats-one, beats-best, beats-kept, none-kept}
 use Rattle.laws.proofs.Lookup.{answer-image}
-
--- ---- The answer is the value of the entry that beats the rest
-
-abbrev blank : Entry
-blank = record { parts = []; value = [] }
-
-some-none : {A : Type 0} {a : A} → some a ≡ none → ⊥
-some-none e = let z : _≡_ {A = ℕ} 0 1 = cc in omega arith
-
-pub answer-beats : (es : List Entry) (qs : List Position) (i : ℕ) → Beats (keysOf es) qs i → answerOf es (positions qs) ≡ some (getD es i blank .value)
-unfolding answerOf valueOf
-answer-beats es qs i b = rw (beats-best (keysOf es) qs i b .1) refl
-
-pub answer-none : (es : List Entry) (qs : List Position)
-    → ((j : ℕ) (row : List ℕ) → j < length (keysOf es) → Aligned (getD (keysOf es) j []) qs row → ⊥) → answerOf es (positions qs) ≡ none
-unfolding answerOf valueOf
-answer-none es qs none-aligns = at (bestOf (keysOf es) qs) refl
-  where
-    at : (b : Best) → bestOf (keysOf es) qs ≡ b → valueOf es b ≡ none
-    at noEntry e = refl
-    at (best i row) e =
-        let w = best-beats (keysOf es) qs i row e in
-        absurd (none-aligns i (w .row) (w .inside) (w .ranks .aligned))
-
--- ---- When the two answers are equal
-
-keysIn : (xs : List Entered) → keysOf (plain xs) ≡ map (λ (x : Entered). x .entry .parts) xs
-keysIn [] = refl
-keysIn (x ∷ xs) = ap (λ (l : List (List Part)). x .entry .parts ∷ l) (keysIn xs)
-
-module _ (file : List ℕ) (xs : List Entered) (qs : List Position) where
-  abbrev ys : List Entered
-  ys = leftWithout file xs
-
-  abbrev Equal : Type 0
-  Equal = answerOf (plain xs) (positions qs) ≡ answerOf (plain ys) (positions qs)
-
-  abbrev Just : Type 0
-  Just = NoneThroughBeats file xs (positions qs) ⊎ SameBytesWithout file xs (positions qs)
-
-  numbered : (zs : List Entered) (i : ℕ) → getD (plain zs) i blank ≡ entryNumber zs i .entry
-  numbered zs i = List·getD-map (λ (x : Entered). x .entry) zs i (entryNumber [] 0)
-
-  answered : (zs : List Entered) (i : ℕ) → Beats (keysOf (plain zs)) qs i → answerOf (plain zs) (positions qs) ≡ some (entryNumber zs i .entry .value)
-  answered zs i b = answer-beats (plain zs) qs i b ∙ ap (λ (e : Entry). some (e .value)) (numbered zs i)
-
-  -- nothing aligns
-  when-none : bestOf (keysOf (plain xs)) qs ≡ noEntry → Equal ↔ Just
-  when-none e =
-      let nothing-aligns = best-none (keysOf (plain xs)) qs e in
-      let kept = none-kept (λ (x : Entered). x .entry .parts) (λ x. not (cameThrough file x)) (entryNumber [] 0) xs qs (rw (← keysIn xs) nothing-aligns) in (
-        λ _. inl (λ i b. absurd (nothing-aligns i (b .row) (b .inside) (b .ranks .aligned))),
-        λ _. answer-none (plain xs) qs nothing-aligns ∙ sym (answer-none (plain ys) qs (rw (keysIn ys) kept)),
-      )
-
-  module _ (i : ℕ) (b : Beats (keysOf (plain xs)) qs i) where
-    -- an entry that did not come through the file beats the rest in both lists
-    when-apart : cameThrough file (entryNumber xs i) ≡ false → Equal ↔ Just
-    when-apart h =
-        let k = beats-kept (λ (x : Entered). x .entry .parts) (λ x. not (cameThrough file x)) (entryNumber [] 0) xs qs i (rw (← keysIn xs) b) (rw h refl) in (
-          λ _. inl (λ j w. ap (λ (n : ℕ). cameThrough file (entryNumber xs n)) (beats-one (keysOf (plain xs)) qs j i w b) ∙ h),
-          λ _. answered xs i b ∙ ap (λ (x : Entered). some (x .entry .value)) (sym (k .2)) ∙ sym (answered ys (k .0) (rw (keysIn ys) (k .1))),
-        )
-
-    when-through : cameThrough file (entryNumber xs i) ≡ true → Equal ↔ Just
-    when-through h = (to, from)
-      where
-        found : (r : Best) → bestOf (keysOf (plain ys)) qs ≡ r → Equal → Just
-        found noEntry e q =
-            absurd (some-none (sym (answered xs i b) ∙ q ∙ answer-none (plain ys) qs (best-none (keysOf (plain ys)) qs e)))
-        found (best k row) e q =
-            let w = best-beats (keysOf (plain ys)) qs k row e in
-            let s : some (entryNumber xs i .entry .value) ≡ some (entryNumber ys k .entry .value) = sym (answered xs i b) ∙ q ∙ answered ys k w in
-            inr (record { winner = i; beats = b; through = h; other = k; beatsLeft = w; sameBytes = cc })
-
-        to : Equal → Just
-        to q = found (bestOf (keysOf (plain ys)) qs) refl q
-
-        from : Just → Equal
-        from (inl f) = absurd (not-both h (f i b))
-        from (inr s) =
-            answered xs (s .winner) (s .beats) ∙ ap (λ (v : List ℕ). some v) (s .sameBytes) ∙ sym (answered ys (s .other) (s .beatsLeft))
-
-  equal-positions : Equal ↔ Just
-  equal-positions = at (bestOf (keysOf (plain xs)) qs) refl
-    where
-      side : (i : ℕ) → Beats (keysOf (plain xs)) qs i → (t : Bool) → cameThrough file (entryNumber xs i) ≡ t → Equal ↔ Just
-      side i b true h = when-through i b h
-      side i b false h = when-apart i b h
-
-      at : (r : Best) → bestOf (keysOf (plain xs)) qs ≡ r → Equal ↔ Just
-      at noEntry e = when-none e
-      at (best i row) e = side i (best-beats (keysOf (plain xs)) qs i row e) (cameThrough file (entryNumber xs i)) refl
-
-pub equal-just-when : (file : List ℕ) (xs : List Entered) (q : Query) → ((k : ℕ) → q ≡ pastLimit k → ⊥)
-    → (answerOf (plain xs) q ≡ answerOf (plain (leftWithout file xs)) q) ↔ (NoneThroughBeats file xs q ⊎ SameBytesWithout file xs q)
-unfolding answerOf
-equal-just-when file xs (positions qs) h = equal-positions file xs qs
-equal-just-when file xs malformed h = (λ _. inl (λ i b. absurd b), λ _. refl)
-equal-just-when file xs (pastLimit k) h = absurd (h k refl)
+use Rattle.laws.proofs.Striking.{striking-off}
 
 -- ---- What an accepted reading leaves, looked up
 
@@ -244,7 +141,7 @@ module _ (c : Case) (g : Given c) where
     limits = rw met-struck (limits-fewer (apart (fileName c)) start (met (c .texts) (c .archive)) (first .limits));
   }
 
-  entries-struck : readEntries (c .texts) struck ≡ leftWithout (fileName c) (readEntries (c .texts) (c .archive))
+  entries-struck : readEntries (c .texts) struck ≡ leftOut (throughFile (fileName c)) (readEntries (c .texts) (c .archive))
   entries-struck = ap entriesOf met-struck ∙ entries-without (fileName c) (met (c .texts) (c .archive))
 
   pub third-term : ThirdTerm c
@@ -257,5 +154,5 @@ module _ (c : Case) (g : Given c) where
         secondAnswers = reading-replies (c .texts) struck (c .contents′) (c .bodies′) second (c .bounds) (c .name) (c .class) (g .withinLimits);
         firstAnswer = a;
         secondAnswer = b;
-        equalJustWhen = rw (a, b, entries-struck) (equal-just-when (fileName c) (readEntries (c .texts) (c .archive)) (query c) (g .withinLimits));
+        equalJustWhen = rw (a, b, entries-struck) (striking-off Entered (throughFile (fileName c)) (readEntries (c .texts) (c .archive)) (query c));
       }

@@ -48,3 +48,16 @@ pub const QUERY_PARTS: usize = 32;
 pub const WINDOW_BYTES: usize = 128;
 
 pub const WINDOW_PARTS: usize = 8;
+
+// Of a board of packs: document 02 (ix).
+pub const MOST_PACKS: usize = 16;
+
+pub const MOST_QUERIES: usize = 32;
+
+// The words of a pack's slot: its number, then its contents.
+pub const SLOT_WORDS: usize = 1 + CONTENTS_WORDS;
+
+// The words and the bytes of the lent board.
+pub const BOARD_WORDS: usize = 2 + 2 * MOST_QUERIES + SLOT_WORDS * MOST_PACKS;
+
+pub const BOARD_BYTES: usize = 2 * QUERY_BYTES * MOST_QUERIES + BODY_BYTES * MOST_PACKS;

@@ -9,7 +9,7 @@ use native.Mathlib.Nat.{sub-zero}
 use native.Mathlib.Omega.{arith}
 use lib.ListN.{length, getD, take, drop, length-take}
 use borrow.Author.Tests.{lt-ltb, le-ltb}
-use Rattle.definition.specs.Lists.{if_then_else_, lower}
+use Rattle.definition.specs.Lists.{if_then_else_, lower, zeroes}
 use Rattle.definition.specs.Limits.{bodyBytes}
 use Rattle.definition.specs.Text.{Part}
 use Rattle.definition.specs.Image as image
@@ -25,24 +25,28 @@ use Rattle.query.specs.declared.Names.{Names}
 use Rattle.query.specs.declared.Shape.{Shape}
 use Rattle.query.specs.declared.Shape.the-variants.{Good, Malformed, Many, Long}
 use Rattle.query.proofs.Queries.{Told, query-is, counted-shell}
-use Rattle.marks.specs.Rows.{marksOf, isLive, marksIn, rowIn, bestIn, Long as RowLong, Stands, Held, winsOver}
+use Rattle.marks.specs.Rows.{marksOf, isLive, marksIn, rowIn, bestIn, Long as RowLong, Stands, Held, lowerRow, winsOver}
 use Rattle.positions.specs.Parts.{queried}
 use Rattle.marks.specs.declared.Marks.{Marks}
-use Rattle.marks.proofs.Rows.{rank-long, none-stands, stands-own, wins-better}
+use Rattle.marks.proofs.Rows.{rank-long, none-stands, stands-row, stands-own, wins-better}
 use Rattle.positions.proofs.Positions.{length-queried}
 use Rattle.image.specs.Rows.{rowAt, rowsLeft, RowIs}
 use Rattle.image.specs.declared.Row.{Row}
 use Rattle.image.proofs.Rows.{rows-turn, row-is}
 use Rattle.image_judge.proofs.Judged.{judged}
 use Rattle.lookup.specs.Replies.{replied, LiesIn}
-use Rattle.lookup.specs.Searches.{startsOf, lengthsOf, SplitIn, isEntry, searched, numbered, searchedIn, numberOr, entryFound, entryIn, entryWithin, valueIn}
+use Rattle.lookup.specs.Searches.{rowHeld, heldBy, considered, startsOf, lengthsOf, SplitIn, rowOf, Kept, Begun, Holds, isEntry, searched, numbered, searchedAfter, searchedIn, numberOr, entryFound, entryIn, entryWithin, valueIn}
 use Rattle.lookup.specs.declared.Lookup.{Lookup}
 use Rattle.lookup.specs.declared.Lookup.the-variants.{Found, Nothing, Refused}
+
+and-false : (b : Bool) → (b && false) ≡ false
+and-false true = refl
+and-false false = refl
 
 -- ---- One entry
 
 module _ (len i at : ℕ) (b : Marks) (o : Option (List ℕ)) where
-  pub passed-over : o ≡ none → bestIn len at b ≡ better i o (bestIn len at b)
+  passed-over : o ≡ none → bestIn len at b ≡ better i o (bestIn len at b)
   unfolding better
   passed-over e = rw e refl
 
@@ -54,53 +58,34 @@ module _ (len i at : ℕ) (b : Marks) (o : Option (List ℕ)) where
     decided : better i o (bestIn len at b) ≡ (if w then bestIn len i r else bestIn len at b)
     decided = rw won (wins-better len i at r b o (rowIn len b) stands held)
 
-    pub takes-over : w ≡ true → (bestIn len i r ≡ better i o (bestIn len at b)) × Held len r
-    takes-over e = (sym (decided ∙ rw e refl), stands-own len r o stands)
+    takes-over : w ≡ true → bestIn len i r ≡ better i o (bestIn len at b)
+    takes-over e = sym (decided ∙ rw e refl)
 
-    pub stays : w ≡ false → (bestIn len at b ≡ better i o (bestIn len at b)) × Held len b
-    stays e = (sym (decided ∙ rw e refl), held)
+    stays : w ≡ false → bestIn len at b ≡ better i o (bestIn len at b)
+    stays e = sym (decided ∙ rw e refl)
 
-pub none-held : (len : ℕ) (r : Marks) → r ≡ marksOf none → Held len r
-none-held len r e = rw e (stands-own len (marksOf none) none (none-stands len))
+-- what the code holds after an entry
+module _ (o : Option (List ℕ)) (ns : List ℕ) (w : Bool) (won : w ≡ winsOver (marksOf o) (rowHeld ns)) where
+  pub takes : w ≡ true → heldBy o ≡ considered o ns
+  unfolding considered
+  takes e = sym (rw (← won, e) refl)
+
+  pub keeps : w ≡ false → ns ≡ considered o ns
+  unfolding considered
+  keeps e = sym (rw (← won, e) refl)
+
+kept-is : (len : ℕ) (o : Option (List ℕ)) → Stands len (marksOf o) o → Kept len (heldBy o)
+kept-is len o s = record { row = stands-own len (marksOf o) o s; three = ap heldBy (sym (stands-row len (marksOf o) o s)) }
 
 pub queried-long : (ps : List Part) (t ns nl u cs cl : List ℕ) → RowLong (max (length ns) (length cs)) (rankOf ps (queried t ns nl u cs cl))
 queried-long ps t ns nl u cs cl = rw (length-queried t ns nl u cs cl) at (rank-long ps (queried t ns nl u cs cl))
 
+-- no row is held at first
+pub begun-none : (first : Bool) (len : ℕ) → Begun first len (zeroes 3)
+unfolding zeroes marksOf
+begun-none first len = record { kept = kept-is len none (none-stands len); unended = and-false first }
+
 -- ---- The loop
-
-and-false : (b : Bool) → (b && false) ≡ false
-and-false true = refl
-and-false false = refl
-
-module _ (contents bodies : List ℕ) (qs : List Position) (first : Bool) (next last : ℕ) where
-  abbrev keysLeft : ℕ → List (List Part)
-  keysLeft i = keysOf (entriesIn (rowsLeft contents last i) bodies)
-
-  -- going on from entry i with the best so far comes to what is looked for
-  pub record Searching (i : ℕ) (b : Best) : Type 0 where
-    pub same : searched first (keysLeft i) qs i b ≡ searched first (keysLeft next) qs next noEntry
-    pub unended : (first && isEntry b) ≡ false
-
-  pub searching-first : (len at : ℕ) (r : Marks) → r ≡ marksOf none → Searching next (bestIn len at r)
-  unfolding bestIn marksOf isEntry
-  searching-first len at r e = rw e (record { same = refl; unended = and-false first })
-
-  module _ (i : ℕ) (b b′ : Best) (s : Searching i b) (h : i < last) (e : b′ ≡ better i (rankOf (keyParts (keyAt bodies (rowAt contents i))) qs) b) where
-    turn : searched first (keysLeft i) qs i b ≡ (if first && isEntry b′ then b′ else searched first (keysLeft (i + 1)) qs (i + 1) b′)
-    unfolding searched entriesIn
-    turn = rw (rows-turn contents last i h, ← add-one i, e) refl
-
-    pub searching-more : (first && isEntry b′) ≡ false → Searching (i + 1) b′
-    searching-more f = record { same = sym (sym (s .same) ∙ turn ∙ rw f refl); unended = f }
-
-    searching-stops : (first && isEntry b′) ≡ true → b′ ≡ searched first (keysLeft next) qs next noEntry
-    searching-stops f = sym (sym (s .same) ∙ turn ∙ rw f refl)
-
-  searching-ends : (i : ℕ) (b : Best) → Searching i b → last ≤ i → b ≡ searched first (keysLeft next) qs next noEntry
-  unfolding searched rowsFrom entriesIn
-  searching-ends i b s h =
-      let e : last - i ≡ 0 = omega arith in
-      sym (sym (s .same) ∙ rw e refl)
 
 -- an entry as the code tells it
 live-entry : (len at : ℕ) (r : Marks) → isEntry (bestIn len at r) ≡ isLive r
@@ -111,34 +96,112 @@ live-entry len at r = by (isLive r)
     by true = refl
     by false = refl
 
-number-is : (last len at : ℕ) (r : Marks) → (if isLive r then at else last) ≡ numberOr last (bestIn len at r)
+live-number : (last len at : ℕ) (r : Marks) → isLive r ≡ true → at ≡ numberOr last (bestIn len at r)
 unfolding bestIn numberOr
-number-is last len at r = by (isLive r)
+live-number last len at r e = rw e refl
+
+-- a row that wins is there
+won-live : (r top : Marks) → winsOver r top ≡ true → isLive r ≡ true
+unfolding winsOver
+won-live r top e = by (isLive r) e
   where
-    by : (b : Bool) → (if b then at else last) ≡ numberOr last (if b then best at (marksIn len r) else noEntry)
+    by : (b : Bool) → (b && not (isLive top && lowerRow r top)) ≡ true → b ≡ true
+    by true f = refl
+    by false f = f
+
+-- the row that is held
+row-held : (len at : ℕ) (r : Marks) → rowIn len r ≡ rowOf (bestIn len at r)
+unfolding bestIn rowIn rowOf
+row-held len at r = by (isLive r)
+  where
+    by : (b : Bool) → (if b then some (marksIn len r) else none) ≡ rowOf (if b then best at (marksIn len r) else noEntry)
     by true = refl
     by false = refl
 
-module _ (contents bodies : List ℕ) (qs : List Position) (first : Bool) (next last : ℕ) (x len at : ℕ) (r : Marks) (told : x ≡ (if isLive r then at else last)) where
-  pub stops-at : (i : ℕ) (b : Best) → Searching contents bodies qs first next last i b → i < last
-      → bestIn len at r ≡ better i (rankOf (keyParts (keyAt bodies (rowAt contents i))) qs) b
-      → (w : Bool) → w ≡ (first && isLive r) → w ≡ true → x ≡ numberOr last (searchedIn first next last contents bodies qs)
-  stops-at i b s h e w f g =
-      told ∙ number-is last len at r
-      ∙ ap (numberOr last) (searching-stops contents bodies qs first next last i b (bestIn len at r) s h e (rw (live-entry len at r) (sym f ∙ g)))
+-- what a search gives and leaves
+abbrev Searched : ℕ → ℕ → Best → ℕ → List ℕ → Type 0
+Searched last len b entry ns = (entry ≡ numberOr last b) × (ns ≡ heldBy (rowOf b)) × Holds len entry ns b
 
-  pub ends-at : (i : ℕ) → Searching contents bodies qs first next last i (bestIn len at r) → last ≤ i → x ≡ numberOr last (searchedIn first next last contents bodies qs)
-  ends-at i s h = told ∙ number-is last len at r ∙ ap (numberOr last) (searching-ends contents bodies qs first next last i (bestIn len at r) s h)
+searched-is : (last len : ℕ) (b : Best) (entry : ℕ) (ns : List ℕ) → entry ≡ numberOr last (bestIn len entry (rowHeld ns)) → bestIn len entry (rowHeld ns) ≡ b → Kept len ns
+    → Searched last len b entry ns
+searched-is last len b entry ns n z k =
+    (n ∙ ap (numberOr last) z, k .three ∙ ap heldBy (row-held len entry (rowHeld ns) ∙ ap rowOf z), record { is = z; kept = k })
 
--- the search goes on: past an entry that has no row, and past one that does not end it
-module _ (contents bodies : List ℕ) (qs : List Position) (first : Bool) (next last i len at : ℕ) (r : Marks) (b : Best)
-    (s : Searching contents bodies qs first next last i b) (h : i < last) where
-  pub passes : b ≡ better i (rankOf (keyParts (keyAt bodies (rowAt contents i))) qs) b → Searching contents bodies qs first next last (i + 1) b
-  passes e = searching-more contents bodies qs first next last i b b s h e (s .unended)
+module _ (contents bodies : List ℕ) (qs : List Position) (first : Bool) (next last len : ℕ) (top : List ℕ) where
+  abbrev keysLeft : ℕ → List (List Part)
+  keysLeft i = keysOf (entriesIn (rowsLeft contents last i) bodies)
 
-  pub goes-on : bestIn len at r ≡ better i (rankOf (keyParts (keyAt bodies (rowAt contents i))) qs) b → (w : Bool) → w ≡ (first && isLive r) → w ≡ false
-      → Searching contents bodies qs first next last (i + 1) (bestIn len at r)
-  goes-on e w f g = searching-more contents bodies qs first next last i b (bestIn len at r) s h e (rw (live-entry len at r) (sym f ∙ g))
+  abbrev wanted : Best
+  wanted = searched first (keysLeft next) qs next (bestIn len last (rowHeld top))
+
+  -- going on from entry i, with the best so far, comes to what is looked for
+  pub record Searching (i found : ℕ) (ns : List ℕ) : Type 0 where
+    pub same : searched first (keysLeft i) qs i (bestIn len found (rowHeld ns)) ≡ wanted
+    pub number : found ≡ numberOr last (bestIn len found (rowHeld ns))
+    pub begun : Begun first len ns
+
+  pub searching-first : Begun first len top → Searching next last top
+  unfolding bestIn numberOr
+  searching-first b = record { same = refl; number = by (isLive (rowHeld top)); begun = b }
+    where
+      by : (b : Bool) → last ≡ numberOr last (if b then best last (marksIn len (rowHeld top)) else noEntry)
+      by true = refl
+      by false = refl
+
+  module _ (i found : ℕ) (ns : List ℕ) (s : Searching i found ns) where
+    abbrev rank : Option (List ℕ)
+    rank = rankOf (keyParts (keyAt bodies (rowAt contents i))) qs
+
+    module _ (h : i < last) where
+      -- the best after entry i, by its number and its row
+      module _ (at : ℕ) (ns′ : List ℕ) (e : bestIn len at (rowHeld ns′) ≡ better i rank (bestIn len found (rowHeld ns))) (n : at ≡ numberOr last (bestIn len at (rowHeld ns′))) where
+        turn : searched first (keysLeft i) qs i (bestIn len found (rowHeld ns))
+            ≡ (if first && isEntry (bestIn len at (rowHeld ns′)) then bestIn len at (rowHeld ns′) else searched first (keysLeft (i + 1)) qs (i + 1) (bestIn len at (rowHeld ns′)))
+        unfolding searched entriesIn
+        turn = rw (rows-turn contents last i h, ← add-one i, e) refl
+
+        searching-more : Begun first len ns′ → Searching (i + 1) at ns′
+        searching-more b = record { same = sym (sym (s .same) ∙ turn ∙ rw (live-entry len at (rowHeld ns′), b .unended) refl); number = n; begun = b }
+
+        searching-stops : (first && isLive (rowHeld ns′)) ≡ true → Kept len ns′ → Searched last len wanted at ns′
+        searching-stops f k = searched-is last len wanted at ns′ n (sym (sym (s .same) ∙ turn ∙ rw (live-entry len at (rowHeld ns′), f) refl)) k
+
+      -- past an entry that has no row
+      pub passes : rank ≡ none → Searching (i + 1) found ns
+      passes e = searching-more found ns (passed-over len i found (rowHeld ns) rank e) (s .number) (s .begun)
+
+      -- an entry whose row is held against the best so far
+      module _ (long : RowLong len rank) (w : Bool) (won : w ≡ winsOver (marksOf rank) (rowHeld ns)) (ns′ : List ℕ) (is : ns′ ≡ considered rank ns) where
+        pub loses : w ≡ false → Searching (i + 1) found ns′
+        loses f =
+            let e : ns′ ≡ ns = is ∙ sym (keeps rank ns w won f) in
+            rw e (searching-more found ns (stays len i found (rowHeld ns) rank (s .begun .kept .row) (marksOf rank) refl long w won f) (s .number) (s .begun))
+
+        module _ (f : w ≡ true) where
+          abbrev taken : ns′ ≡ heldBy rank
+          taken = is ∙ sym (takes rank ns w won f)
+
+          live : isLive (marksOf rank) ≡ true
+          live = won-live (marksOf rank) (rowHeld ns) (sym won ∙ f)
+
+          over : bestIn len i (marksOf rank) ≡ better i rank (bestIn len found (rowHeld ns))
+          over = takes-over len i found (rowHeld ns) rank (s .begun .kept .row) (marksOf rank) refl long w won f
+
+          kept : Kept len (heldBy rank)
+          kept = kept-is len rank (record { is = refl; long = long })
+
+          pub goes-on : first ≡ false → Searching (i + 1) i ns′
+          goes-on g =
+              rw taken (searching-more i (heldBy rank) over (live-number last len i (marksOf rank) live) (record { kept = kept; unended = rw g refl }))
+
+          pub stops : first ≡ true → Searched last len wanted i ns′
+          stops g = rw taken (searching-stops i (heldBy rank) over (live-number last len i (marksOf rank) live) (rw g live) kept)
+
+    pub searching-ends : last ≤ i → Searched last len wanted found ns
+    unfolding searched rowsFrom entriesIn
+    searching-ends h =
+        let e : last - i ≡ 0 = omega arith in
+        searched-is last len wanted found ns (s .number) (sym (sym (s .same) ∙ rw e refl)) (s .begun .kept)
 
 -- ---- What is found stands below `last`
 
@@ -192,7 +255,7 @@ unfolding searched bestFrom
 searched-best [] qs i b = refl
 searched-best (k ∷ ks) qs i b = searched-best ks qs (suc i) (better i (rankOf k qs) b)
 
-keys-long : (rows : List image.Row) (bodies : List ℕ) → length (keysOf (entriesIn rows bodies)) ≡ length rows
+pub keys-long : (rows : List image.Row) (bodies : List ℕ) → length (keysOf (entriesIn rows bodies)) ≡ length rows
 unfolding entriesIn
 keys-long [] bodies = refl
 keys-long (r ∷ rows) bodies = ap suc (keys-long rows bodies)
@@ -206,13 +269,12 @@ module _ (contents bodies : List ℕ) where
       let b = best-beats keys qs i row e in
       omega (arith, b .inside, keys-long (rowsIn contents) bodies, count-rows contents)
 
-  searched-all : (qs : List Position) → searched false (keysOf (entriesIn (rowsLeft contents (countOf contents) 0) bodies)) qs 0 noEntry ≡ bestOf keys qs
-  unfolding bestOf
-  searched-all qs = searched-best (keysOf (entriesIn (rowsLeft contents (countOf contents) 0) bodies)) qs 0 noEntry ∙ rw (sub-zero (countOf contents)) refl
+  pub searched-all : (qs : List Position) (b : Best) → searchedAfter b false 0 (countOf contents) contents bodies qs ≡ bestFrom keys qs 0 b
+  searched-all qs b = searched-best (keysOf (entriesIn (rowsLeft contents (countOf contents) 0) bodies)) qs 0 b ∙ rw (sub-zero (countOf contents)) refl
 
   value-is : (qs : List Position) → valueIn contents (numbered (searchedIn false 0 (countOf contents) contents bodies qs)) ≡ lookup (rowsIn contents) bodies (positions qs)
-  unfolding lookup valueIn
-  value-is qs = rw (searched-all qs) (at (bestOf keys qs) refl)
+  unfolding lookup valueIn bestOf
+  value-is qs = rw (searched-all qs noEntry) (at (bestOf keys qs) refl)
     where
       at : (b : Best) → bestOf keys qs ≡ b → valueIn contents (numbered b) ≡ placeOf (rowsIn contents) b
       at noEntry e = unfold numbered placeOf in refl

@@ -1,9 +1,11 @@
 -- What a search over the entries of an image finds: a lookup and a step of a walk are one.
 use mathlib.Core.Bool.{Bool, true, false, _&&_, not}
 use mathlib.Core.List.{List, [], _∷_}
+use mathlib.Core.Option.{Option, some, none}
+use mathlib.Core.Path.{_≡_}
 use Prim.Native.Nat.{ℕ, suc, _≤_, min}
 use lib.Dec.{ltb}
-use lib.ListN.{length, take}
+use lib.ListN.{length, getD, take}
 use Rattle.definition.specs.Lists.{if_then_else_}
 use Rattle.definition.specs.Text.{Part}
 use Rattle.definition.specs.Image.{countOf, keyEnd, entriesIn, isImage}
@@ -13,6 +15,8 @@ use Rattle.definition.specs.Lookup.{keysOf, Reply, given, noValue, refused, Pla
 use Rattle.image.specs.Rows.{rowAt, rowsLeft}
 use Rattle.query.specs.Splits.{Inside}
 use Rattle.query.specs.declared.Split.{Split}
+use Rattle.marks.specs.Rows.{marksOf, isLive, rowIn, bestIn, Held, winsOver}
+use Rattle.marks.specs.declared.Marks.{Marks}
 
 -- ---- A query's parts, held by value
 
@@ -27,11 +31,28 @@ pub record SplitIn (text : List ℕ) (s : Split) : Type 0 where
   pub starts-held : s .count ≤ length (s .starts)
   pub lengths-held : s .count ≤ length (s .lengths)
 
+-- ---- One entry
+
+-- the best row so far, as three lent numbers hold it
+abbrev pub rowHeld : List ℕ → Marks
+rowHeld ns = record { high = getD ns 0 0; middle = getD ns 1 0; low = getD ns 2 0 }
+
+abbrev pub heldBy : Option (List ℕ) → List ℕ
+heldBy row = marksOf row .high ∷ marksOf row .middle ∷ marksOf row .low ∷ []
+
+-- the numbers after an entry with that row, if it has one
+unfoldable pub considered : Option (List ℕ) → List ℕ → List ℕ
+considered row ns = if winsOver (marksOf row) (rowHeld ns) then heldBy row else ns
+
 -- ---- A search
 
 unfoldable pub isEntry : Best → Bool
 isEntry noEntry = false
 isEntry (best i row) = true
+
+unfoldable pub rowOf : Best → Option (List ℕ)
+rowOf noEntry = none
+rowOf (best i row) = some row
 
 -- going on from entry i with the best so far; where the first is asked for, no further than an entry that aligns
 unfoldable pub searched : Bool → List (List Part) → List Position → ℕ → Best → Best
@@ -45,14 +66,32 @@ unfoldable pub numbered : Best → Reply ℕ
 numbered noEntry = noValue
 numbered (best i row) = given i
 
--- of the entries from `next` on and below `last`
+-- of the entries from `next` on and below `last`, after those passed before
+abbrev pub searchedAfter : Best → Bool → ℕ → ℕ → List ℕ → List ℕ → List Position → Best
+searchedAfter passed first next last contents bodies qs = searched first (keysOf (entriesIn (rowsLeft contents last next) bodies)) qs next passed
+
 abbrev pub searchedIn : Bool → ℕ → ℕ → List ℕ → List ℕ → List Position → Best
-searchedIn first next last contents bodies qs = searched first (keysOf (entriesIn (rowsLeft contents last next) bodies)) qs next noEntry
+searchedIn = searchedAfter noEntry
 
 -- its number, and `last` for none; and the answer that this stands for
 unfoldable pub numberOr : ℕ → Best → ℕ
 numberOr last noEntry = last
 numberOr last (best i row) = i
+
+-- three numbers hold a row of a mark for each position, or none
+pub record Kept (len : ℕ) (ns : List ℕ) : Type 0 where
+  pub row : Held len (rowHeld ns)
+  pub three : ns ≡ heldBy (rowIn len (rowHeld ns))
+
+-- before a search; none where the first entry that aligns is asked for
+pub record Begun (first : Bool) (len : ℕ) (ns : List ℕ) : Type 0 where
+  pub kept : Kept len ns
+  pub unended : (first && isLive (rowHeld ns)) ≡ false
+
+-- and after it: the best so far, by the number of its entry and its row
+pub record Holds (len entry : ℕ) (ns : List ℕ) (b : Best) : Type 0 where
+  pub is : bestIn len entry (rowHeld ns) ≡ b
+  pub kept : Kept len ns
 
 unfoldable pub entryFound : ℕ → ℕ → Reply ℕ
 entryFound last i = if ltb i last then given i else noValue

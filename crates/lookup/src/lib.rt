@@ -1,27 +1,25 @@
 // Lookups: `match_entry` and `Database::get_bytes` of the Rust.
 ghost use mathlib.Core.Path.{_≡_};
-ghost use mathlib.Core.Bool.{true, _&&_};
+ghost use mathlib.Core.Bool.{true};
 ghost use Prim.Native.Nat.{_≤_, min, max};
 ghost use lib.ListN.{length};
-ghost use Rattle.definition.specs.Lists.{if_then_else_};
 ghost use Rattle.definition.specs.Limits.{bodyBytes};
 ghost use Rattle.definition.specs.Image.{countOf, keyParts, isKey, isImage};
 ghost use Rattle.definition.specs.Query.{shell, window};
-ghost use Rattle.definition.specs.Ranking.{rankOf, better};
+ghost use Rattle.definition.specs.Ranking.{rankOf};
 ghost use Rattle.definition.specs.Lookup.{getBytesWithin, getBytes};
 ghost use Rattle.image.specs.Rows.{rowStart};
 ghost use Rattle.query.specs.Splits.{Inside};
-ghost use Rattle.marks.specs.Rows.{isLive, bestIn, Held};
+ghost use Rattle.marks.specs.Rows.{marksOf, bestIn, winsOver};
 ghost use Rattle.positions.specs.Parts.{queried};
 ghost use Rattle.lookup.specs.Replies.{replied, entryReplied};
-ghost use Rattle.lookup.specs.Searches.{startsOf, lengthsOf, SplitIn, searchedIn, numberOr, entryFound, entryWithin, valueIn};
+ghost use Rattle.lookup.specs.Searches.{rowHeld, heldBy, considered, startsOf, lengthsOf, SplitIn, rowOf, Begun, Holds, searchedAfter, searchedIn, numberOr, entryFound, entryWithin, valueIn};
 use image::row_at;
 use image_judge::is_image;
 use key_end::may_match;
 use limits::WINDOW_BYTES;
 use limits::WINDOW_PARTS;
 use marks::Marks;
-use marks::no_row;
 use marks::wins;
 use matcher::match_key;
 use positions::last_part;
@@ -46,13 +44,18 @@ pub enum Entry {
     Refused(u8),
 }
 
-// The entry that beats those passed so far, if its row is there.
-struct Best {
-    marks: Marks,
-    entry: usize,
+// The best row so far, as it is lent from one search to the next: the three numbers of a row of marks.
+fn row_of(held: &[u32; 3]) -> Marks
+    ensures { λ r. ⌜ r ≡ rowHeld (now (held .entry)) ⌝ }
+{
+    Marks {
+        high: held[0],
+        middle: held[1],
+        low: held[2],
+    }
 }
 
-// Entry `entry` with that key after those passed so far.
+// Does an entry with that key beat those passed so far? Then its row is held.
 fn consider(
     key: &[u8],
     name: &[u8],
@@ -61,11 +64,10 @@ fn consider(
     class: &[u8],
     class_starts: &[u16],
     class_lengths: &[u16],
-    entry: usize,
-    best: Best,
-) -> Best
-    requires { ⌜ (isKey (now key) ≡ true) × (length (now key) ≤ bodyBytes) × Inside (now name) (now starts) (now lengths) × Inside (now class) (now «class_starts») (now «class_lengths») × Held (max (length (now starts)) (length (now «class_starts»))) (best .marks) ⌝ }
-    ensures { λ r. ⌜ (bestIn (max (length (now (starts .entry))) (length (now («class_starts» .entry)))) (r .entry) (r .marks) ≡ better entry (rankOf (keyParts (now (key .entry))) (queried (now (name .entry)) (now (starts .entry)) (now (lengths .entry)) (now (class .entry)) (now («class_starts» .entry)) (now («class_lengths» .entry)))) (bestIn (max (length (now (starts .entry))) (length (now («class_starts» .entry)))) (best .entry) (best .marks))) × Held (max (length (now (starts .entry))) (length (now («class_starts» .entry)))) (r .marks) ⌝ }
+    held: &mut [u32; 3],
+) -> bool
+    requires { ⌜ (isKey (now key) ≡ true) × (length (now key) ≤ bodyBytes) × Inside (now name) (now starts) (now lengths) × Inside (now class) (now «class_starts») (now «class_lengths») ⌝ }
+    ensures { λ r. ⌜ (r ≡ winsOver (marksOf (rankOf (keyParts (now (key .entry))) (queried (now (name .entry)) (now (starts .entry)) (now (lengths .entry)) (now (class .entry)) (now («class_starts» .entry)) (now («class_lengths» .entry))))) (rowHeld (now (held .entry)))) × (now (held .exit) ≡ considered (rankOf (keyParts (now (key .entry))) (queried (now (name .entry)) (now (starts .entry)) (now (lengths .entry)) (now (class .entry)) (now («class_starts» .entry)) (now («class_lengths» .entry)))) (now (held .entry))) ⌝ }
 {
     let marks = match_key(
         key,
@@ -76,37 +78,17 @@ fn consider(
         class_starts,
         class_lengths,
     );
-    let other = best.marks;
-    if wins(marks, other) {
-        return Best { marks, entry };
-    }
-    best
-}
-
-// Does a search end here? It does at the first entry that aligns, where that is asked for.
-fn ends(first: bool, best: Best) -> bool
-    ensures { λ r. ⌜ r ≡ (first && isLive (best .marks)) ⌝ }
-{
-    let marks = best.marks;
-    if first {
-        return 0 < marks.low;
+    let best = row_of(held);
+    if wins(marks, best) {
+        *held = [marks.high, marks.middle, marks.low];
+        return true;
     }
     false
 }
 
-fn entry_of(best: Best, last: usize) -> usize
-    ensures { λ r. ⌜ r ≡ (if isLive (best .marks) then best .entry else last) ⌝ }
-{
-    let marks = best.marks;
-    if 0 < marks.low {
-        return best.entry;
-    }
-    last
-}
-
-// Of the entries from `next` on and below `last`, the one that beats the rest, or the first that aligns: its number, and `last` for none. The
-// one search for the shell's queries and the dictionary window's.
-fn search(
+// Of the entries from `next` on and below `last`, after those whose best row is held: the one that beats all of these, or the first that aligns. Its
+// number, and `last` for none; its row is then held. The one search for the shell's queries, the dictionary window's, and the packs of a board.
+pub fn search(
     contents: &[u16],
     bodies: &[u8],
     name: &[u8],
@@ -118,18 +100,15 @@ fn search(
     next: usize,
     last: usize,
     first: bool,
+    held: &mut [u32; 3],
 ) -> usize
-    requires { ⌜ (isImage (now contents) (now bodies) ≡ true) × Inside (now name) (now starts) (now lengths) × Inside (now class) (now «class_starts») (now «class_lengths») × (last ≤ countOf (now contents)) ⌝ }
-    ensures { λ r. ⌜ r ≡ numberOr last (searchedIn first next last (now (contents .entry)) (now (bodies .entry)) (queried (now (name .entry)) (now (starts .entry)) (now (lengths .entry)) (now (class .entry)) (now («class_starts» .entry)) (now («class_lengths» .entry)))) ⌝ }
+    requires { ⌜ (isImage (now contents) (now bodies) ≡ true) × Inside (now name) (now starts) (now lengths) × Inside (now class) (now «class_starts») (now «class_lengths») × (last ≤ countOf (now contents)) × Begun first (max (length (now starts)) (length (now «class_starts»))) (now held) ⌝ }
+    ensures { λ r. ⌜ (r ≡ numberOr last (searchedAfter (bestIn (max (length (now (starts .entry))) (length (now («class_starts» .entry)))) last (rowHeld (now (held .entry)))) first next last (now (contents .entry)) (now (bodies .entry)) (queried (now (name .entry)) (now (starts .entry)) (now (lengths .entry)) (now (class .entry)) (now («class_starts» .entry)) (now («class_lengths» .entry))))) × (now (held .exit) ≡ heldBy (rowOf (searchedAfter (bestIn (max (length (now (starts .entry))) (length (now («class_starts» .entry)))) last (rowHeld (now (held .entry)))) first next last (now (contents .entry)) (now (bodies .entry)) (queried (now (name .entry)) (now (starts .entry)) (now (lengths .entry)) (now (class .entry)) (now («class_starts» .entry)) (now («class_lengths» .entry)))))) × Holds (max (length (now (starts .entry))) (length (now («class_starts» .entry)))) r (now (held .exit)) (searchedAfter (bestIn (max (length (now (starts .entry))) (length (now («class_starts» .entry)))) last (rowHeld (now (held .entry)))) first next last (now (contents .entry)) (now (bodies .entry)) (queried (now (name .entry)) (now (starts .entry)) (now (lengths .entry)) (now (class .entry)) (now («class_starts» .entry)) (now («class_lengths» .entry)))) ⌝ }
 {
     let len = longer(starts.len(), class_starts.len());
     let n = last_part(name, starts, lengths, len);
     let c = last_part(class, class_starts, class_lengths, len);
-    let none = no_row();
-    let mut best = Best {
-        marks: none,
-        entry: 0,
-    };
+    let mut found = last;
     let mut i = next;
     while i < last {
         let row = row_at(contents, i);
@@ -138,7 +117,7 @@ fn search(
         let key = &bodies[start..end];
         // Few keys end as the query does. For the others nothing is copied.
         if may_match(key, n, c) {
-            best = consider(
+            if consider(
                 key,
                 name,
                 starts,
@@ -146,16 +125,17 @@ fn search(
                 class,
                 class_starts,
                 class_lengths,
-                i,
-                best,
-            );
-            if ends(first, best) {
-                return entry_of(best, last);
+                held,
+            ) {
+                found = i;
+                if first {
+                    return i;
+                }
             }
         }
         i += 1;
     }
-    entry_of(best, last)
+    found
 }
 
 // The same for queries of the shell, whose parts are held by value.
@@ -179,6 +159,7 @@ fn match_entry(
     let lengths = names.lengths;
     let class_starts = classes.starts;
     let class_lengths = classes.lengths;
+    let mut held = [0; 3];
     search(
         contents,
         bodies,
@@ -191,6 +172,7 @@ fn match_entry(
         next,
         last,
         first,
+        &mut held,
     )
 }
 
@@ -262,6 +244,7 @@ pub fn window_get_bytes(contents: &[u16], bodies: &[u8], name: &[u8], class: &[u
             let i = n.count;
             let j = c.count;
             let last = contents[0] as usize;
+            let mut held = [0; 3];
             let entry = search(
                 contents,
                 bodies,
@@ -274,6 +257,7 @@ pub fn window_get_bytes(contents: &[u16], bodies: &[u8], name: &[u8], class: &[u
                 0,
                 last,
                 false,
+                &mut held,
             );
             value_of(contents, entry, last)
         }

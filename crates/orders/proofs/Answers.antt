@@ -15,7 +15,7 @@ use Rattle.definition.specs.Lookup.{keysOf, answerOf}
 use Rattle.definition.specs.Orders.{Rearranged, blank, WinnerStays, SameAnswers}
 use Rattle.laws.proofs.Lists.{not-both, Order, below, equal, above, order, lower-asym, not-lower-equal}
 use Rattle.laws.proofs.Ranking.{best-beats, best-none}
-use Rattle.laws.proofs.ThirdTerm.{answer-beats, answer-none}
+use Rattle.laws.proofs.Striking.{answer-beats, answer-none}
 use Rattle.orders.proofs.Rows.{equal-rows}
 
 pub keys-long : (es : List Entry) → length (keysOf es) ≡ length es

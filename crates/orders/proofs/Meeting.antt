@@ -17,7 +17,7 @@ use Rattle.definition.specs.Lookup.{keysOf, answerOf}
 use Rattle.definition.specs.Orders.{blank, valuesUnder, numbersWith, pair, pairsFrom, EitherFirst, lastOf, Decides, OneKeyDecides}
 use Rattle.laws.proofs.Lists.{not-both, filter-append, lower-irrefl, not-lower-equal}
 use Rattle.laws.proofs.Ranking.{best-beats, best-none}
-use Rattle.laws.proofs.ThirdTerm.{answer-beats, answer-none}
+use Rattle.laws.proofs.Striking.{answer-beats, answer-none}
 use Rattle.orders.proofs.Rows.{equal-rows}
 use Rattle.orders.proofs.Answers.{keys-long, key-number, none-above}
 use Rattle.orders.proofs.Agreeing.{key-eq, key-refl, hasKey, under, filter-none, under-reordered}

@@ -18,4 +18,6 @@ refusalOf k =
     if eqb k 10 then ascii "refused 10: the name or the class has more than 32 parts" else
     if eqb k 11 then ascii "refused 11: the buffer is shorter than the text" else
     if eqb k 12 then ascii "refused 12: the text makes no entry or more than one" else
+    if eqb k 13 then ascii "refused 13: the board keeps 16 packs, or watches 32 queries" else
+    if eqb k 14 then ascii "refused 14: the pack's number is 0, taken, or not there" else
     ascii "refused"

@@ -5,8 +5,8 @@ ghost use Rattle.printing.specs.Putting.{Appends};
 ghost use Rattle.refusals.specs.Refusals.{refusalOf};
 use printing::put;
 
-// Puts the words of a refusal at `at`. 1, 3, 8, 11 and 12 do not come up: the buffers are long enough and hold what was read, the
-// archive is laid out, and nothing is added.
+// Puts the words of a refusal at `at`. 1, 3, 8 and 11 to 14 do not come up: the buffers are long enough and hold what was read, the
+// archive is laid out, nothing is added, and there is no board.
 pub fn put_reason(number: u8, out: &mut [u8], at: usize) -> usize
     requires { ⌜ at + 60 ≤ length (now out) ⌝ }
     ensures { λ r. ⌜ Appends (refusalOf number) (now (out .entry)) at (now (out .exit)) r ⌝ }
@@ -45,6 +45,16 @@ pub fn put_reason(number: u8, out: &mut [u8], at: usize) -> usize
         11 => put(b"refused 11: the buffer is shorter than the text", out, at),
         12 => put(
             b"refused 12: the text makes no entry or more than one",
+            out,
+            at,
+        ),
+        13 => put(
+            b"refused 13: the board keeps 16 packs, or watches 32 queries",
+            out,
+            at,
+        ),
+        14 => put(
+            b"refused 14: the pack's number is 0, taken, or not there",
             out,
             at,
         ),

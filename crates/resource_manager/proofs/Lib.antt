@@ -3,3 +3,5 @@ pub mod Fitting
 pub mod Agreeing
 pub mod Ordering
 pub mod Carrying
+pub mod Packs
+pub mod Following

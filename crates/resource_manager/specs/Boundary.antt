@@ -9,8 +9,10 @@ use Rattle.definition.specs.Reading.{Outcome}
 use Rattle.definition.specs.ThirdTerm.{Case, withFile, withoutFile, lookup, Given, ThirdTerm}
 use Rattle.definition.specs.Writing.{Filled}
 use Rattle.definition.specs.Adding.{Addition}
+use Rattle.definition.specs.Board.{Done}
 use Rattle.compare.specs.Comparing.{Left, bothRead, comparing}
 use Rattle.codes.specs.Codes.{readCode, placeCode, Numbers, numbers, comparisonNumbers, writeCode, addCode}
+use Rattle.board_codes.specs.Codes.{callCode}
 
 -- a flag is no if it is 0, else yes
 abbrev pub yes : ℕ → Bool
@@ -47,6 +49,11 @@ fillCode f = filling (writeCode (f .answer)) (f .buffer)
 
 abbrev pub addCrossed : Addition → Crossing
 addCrossed a = crossing (addCode (a .answer)) (a .contents) (a .bodies)
+
+-- ---- A board: its words and bytes stand where an image's contents and bodies do
+
+abbrev pub boardCrossed : Done → Crossing
+boardCrossed d = crossing (callCode (d .answer)) (d .board .words) (d .board .bytes)
 
 -- ---- The comparing call
 

@@ -1,4 +1,5 @@
 // The calls for C, Rust and the tests to link. A slice passes as a pointer and an element count.
+mod boards;
 mod comparing;
 mod walking;
 mod window;

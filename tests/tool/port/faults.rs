@@ -4,7 +4,7 @@
 use crate::both::{Calls, Read, PORTS};
 use crate::tests::{comparison_with_the_rust, whole_comparison};
 use crate::{
-    comparing_faults, lookup_faults, migrating_faults, path_faults, start_up_faults, walking_faults, window_faults,
+    board_faults, comparing_faults, lookup_faults, migrating_faults, path_faults, start_up_faults, walking_faults, window_faults,
     writing_faults,
 };
 use model::limits::{BODIES_BYTES, CONTENTS_WORDS, TEXT_BYTES};
@@ -80,6 +80,9 @@ pub fn one(label: &str, with: &str, room: &str) -> Result<String, String> {
         return result.map(|()| "not seen".to_string());
     }
     if let Some(result) = migrating_faults::one(label) {
+        return result.map(|()| "not seen".to_string());
+    }
+    if let Some(result) = board_faults::one(label) {
         return result.map(|()| "not seen".to_string());
     }
     if let Some(result) = path_faults::one(label, with, room) {

@@ -45,6 +45,11 @@ impl Fenced {
         unsafe { std::slice::from_raw_parts_mut(self.start.cast(), self.length / 2) }
     }
 
+    pub fn numbers(&mut self) -> &mut [u64] {
+        // SAFETY: as above.
+        unsafe { std::slice::from_raw_parts_mut(self.start.cast(), self.length / 8) }
+    }
+
     /// A copy of the bytes that stands at one of the fences, or none if there is no room.
     pub fn copy(&mut self, bytes: &[u8], at_end: bool) -> Option<&[u8]> {
         let start = if at_end { self.length.checked_sub(bytes.len())? } else { 0 };

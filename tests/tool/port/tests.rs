@@ -7,9 +7,9 @@ use crate::faults;
 use crate::fenced::zero_bytes;
 use crate::run::Run;
 use crate::{
-    comparing, comparing_faults, comparing_tests, lookup_faults, lookup_tests, migrating_faults, migrating_tests, path_faults,
-    start_up_faults, start_up_tests, walking, walking_faults, walking_tests, window_faults, window_tests, writing_faults,
-    writing_tests,
+    board_faults, board_tests, boards, comparing, comparing_faults, comparing_tests, lookup_faults, lookup_tests,
+    migrating_faults, migrating_tests, path_faults, start_up_faults, start_up_tests, walking, walking_faults, walking_tests,
+    window_faults, window_tests, writing_faults, writing_tests,
 };
 use cases::archives;
 use cases::draw::Draw;
@@ -101,7 +101,8 @@ pub fn names() -> Vec<&'static str> {
     let writing = writing_tests::names().chain(["faults of the writing call"]);
     let walking = walking_tests::names().chain(["faults of walks and additions"]);
     let migrating = migrating_tests::names().chain(["faults of migrations"]);
-    let images = writing.chain(walking).chain(migrating);
+    let boards = board_tests::names().chain(["faults of boards"]);
+    let images = writing.chain(walking).chain(migrating).chain(boards);
     readings.chain(start_ups).chain(lookups).chain(window).chain(comparing).chain(images).collect()
 }
 
@@ -132,6 +133,12 @@ pub fn test(name: &str, room: &str) -> Result<String, String> {
     }
     if name == "faults of migrations" {
         return migrating_faults::all_seen(room);
+    }
+    if name == "faults of boards" {
+        return board_faults::all_seen(room);
+    }
+    if let Some(result) = board_tests::test(name, boards::PORTS) {
+        return result;
     }
     if let Some(result) = lookup_tests::test(name, asking::PORTS, room) {
         return result;

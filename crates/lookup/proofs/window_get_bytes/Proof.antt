@@ -12,9 +12,10 @@ use Rattle.definition.specs.Lists.{zeroes}
 use Rattle.definition.specs.Limits.{windowBytes, windowParts}
 use Rattle.definition.specs.Image.{isImage}
 use Rattle.definition.specs.Query.{window}
+use Rattle.marks.specs.Rows.{bestIn}
 use Rattle.query.proofs.Queries.{Told, told, both-inside, counted-within}
 use Rattle.image_judge.proofs.Judged.{Judged, judged}
-use Rattle.lookup.proofs.Looking.{no-bytes, bytes-long, bytes-malformed, bytes-many, bytes-good}
+use Rattle.lookup.proofs.Looking.{begun-none, no-bytes, bytes-long, bytes-malformed, bytes-many, bytes-good}
 use Rattle.lookup.proofs.window_get_bytes.Statement.{statement}
 use Rattle.lookup.proofs.window_get_bytes.Tie as tie
 
@@ -133,15 +134,16 @@ slice-aggregate-search-4 c =
     sym (length-take-le _ _ (class-kept both-here .1))
 
 search-requires : tie.Need-search-requires
+unfolding zeroes
 search-requires c κs =
-    let both-here = c .before .before .before .before .before .before .before in
-    let enum-told4-here = c .before .before .before .before .before in
+    let both-here = c .before .before .before .before .before .before .before .before in
+    let enum-told4-here = c .before .before .before .before .before .before in
     let i = both-inside window _ _ (name-told both-here) (class-told both-here) (omega arith) (sym (enum-told4-here .enum-told4 .given .1) ∙ both-here .both .ensures) in
-    (image-in both-here, i .0, i .1, omega arith)
+    (image-in both-here, i .0, i .1, omega arith, begun-none _ _)
 
 value-of-requires : tie.Need-value-of-requires
 value-of-requires c κs =
-    let both-here = c .before .before .before .before .before .before .before .before in
+    let both-here = c .before .before .before .before .before .before .before .before .before in
     held both-here .rows-within
 
 returns-2 : tie.Need-returns-2
@@ -160,13 +162,14 @@ returns-4 c =
     bytes-many window _ _ _ _ (image-in both-here) (name-told both-here) (class-told both-here) _ (both-here .both .ensures) (c .enum-told3 .given .1)
 
 returns-5 : tie.Need-returns-5
+unfolding bestIn
 returns-5 c =
-    let both-here = c .before .before .before .before .before .before .before .before .before in
-    let enum-told4-here = c .before .before .before .before .before .before .before in
+    let both-here = c .before .before .before .before .before .before .before .before .before .before in
+    let enum-told4-here = c .before .before .before .before .before .before .before .before in
     let search-here = c .before in
     c .value-of .ensures
     ∙ bytes-good window _ _ _ _ (image-in both-here) (name-told both-here) (class-told both-here) _ (both-here .both .ensures) (enum-told4-here .enum-told4 .given .1)
-    (search-here .search .result) _ refl (search-here .search .ensures)
+    (search-here .search .result) _ refl (search-here .search .ensures .0)
 
 pub window-get-bytes-spec : {M : Type 1} → statement M
 window-get-bytes-spec =

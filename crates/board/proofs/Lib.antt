@@ -1,0 +1,3 @@
+-- Laws of a board's calls.
+pub mod Calling
+pub mod Writing

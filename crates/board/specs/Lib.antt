@@ -1,0 +1,2 @@
+-- What the contracts of a board's calls cite beside the definition.
+pub mod Replies

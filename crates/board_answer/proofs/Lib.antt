@@ -1,0 +1,2 @@
+-- Laws of a board's answers.
+pub mod Answering

@@ -1,0 +1,2 @@
+-- Laws of all watched answers as numbers.
+pub mod Answers

@@ -1,0 +1,2 @@
+-- All watched answers as numbers.
+pub mod Numbers

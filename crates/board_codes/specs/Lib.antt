@@ -1,0 +1,2 @@
+-- A board's answers as numbers.
+pub mod Codes

@@ -1,0 +1,2 @@
+-- Laws of the judging of a board.
+pub mod Judging

@@ -1,0 +1,2 @@
+-- Laws of a board's layout.
+pub mod Parts

@@ -1,0 +1,3 @@
+-- What the contracts of a search over a board cite beside the definition.
+pub mod Slots
+pub mod Spots

@@ -1,0 +1,2 @@
+-- Laws of copies and moves.
+pub mod Moving
