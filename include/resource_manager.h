@@ -59,10 +59,15 @@ extern "C" {
 #define RESOURCE_MANAGER_PACKS 16           /* the most that a board keeps */
 #define RESOURCE_MANAGER_QUERIES 32         /* the most that it watches */
 
-/* Includes nest this deep. A deeper one adds nothing, and is no refusal. */
-#define RESOURCE_MANAGER_DEPTH 100
+/*
+ * The depth of a reading: a main text, or a text of a start-up, is at depth 0, a file that it includes at depth 1, and so
+ * on; at depth d the texts at depths 0 to d are read. A deeper include adds nothing, and is no refusal. The greatest that a
+ * caller may give, which is x11rb's and which start-ups have where none is given; and what all other calls have then.
+ */
+#define RESOURCE_MANAGER_GREATEST_DEPTH 100
+#define RESOURCE_MANAGER_DEFAULT_DEPTH 20
 
-/* The low 16 bits of every answer. 1 to 14 are refusals, and then all higher bits are 0. */
+/* The low 16 bits of every answer. 1 to 15 are refusals, and then all higher bits are 0. */
 enum resource_manager_status {
     RESOURCE_MANAGER_OK = 0,
     RESOURCE_MANAGER_SHORT_BUFFERS = 1,      /* the buffers of an image, or of a board, are too short */
@@ -79,6 +84,7 @@ enum resource_manager_status {
     RESOURCE_MANAGER_NOT_ONE_ENTRY = 12,     /* the text of an addition makes no entry or more than one */
     RESOURCE_MANAGER_FULL_BOARD = 13,        /* a seventeenth pack, or a thirty-third query */
     RESOURCE_MANAGER_BAD_PACK_NUMBER = 14,   /* 0; one that is there already, or that is not there to leave */
+    RESOURCE_MANAGER_TOO_DEEP = 15,          /* a depth over the greatest */
     RESOURCE_MANAGER_NOT_A_NUMBER = 65534,   /* get_value: the value is no 64-bit decimal number */
     RESOURCE_MANAGER_NONE = 65535            /* no such value; the end of a walk; of a comparing call: no such file;
                                                 of a board: no query of that number */
@@ -91,7 +97,8 @@ static inline enum resource_manager_status resource_manager_status_of(uint64_t a
 }
 
 /*
- * Reads a main text, and the files of a shelf that it includes, into a database image.
+ * Reads a main text, and the files of a shelf that it includes, at depth RESOURCE_MANAGER_DEFAULT_DEPTH, into a database
+ * image.
  *
  * The shelf is an archive of files: the number of files (0 to 64) in two bytes, low byte first; for each file the
  * lengths of its name and of its body, in two such bytes each; then for each file its name and its body, and nothing
@@ -109,6 +116,14 @@ static inline enum resource_manager_status resource_manager_status_of(uint64_t a
 uint64_t resource_manager_read(const uint8_t *text, size_t text_count, const uint8_t *shelf, size_t shelf_count,
                                uint16_t *contents, size_t contents_count, uint8_t *bodies, size_t bodies_count);
 
+/*
+ * As resource_manager_read, at a depth of the caller's. At 0 no file is opened. A depth over
+ * RESOURCE_MANAGER_GREATEST_DEPTH is refused by 15, after 1, 2 and 3 and before 4 to 7, and changes neither buffer.
+ */
+uint64_t resource_manager_read_depth(const uint8_t *text, size_t text_count, const uint8_t *shelf, size_t shelf_count,
+                                     uint64_t depth, uint16_t *contents, size_t contents_count, uint8_t *bodies,
+                                     size_t bodies_count);
+
 /* The entries of an accepted reading. */
 static inline size_t resource_manager_entries_of(uint64_t answer)
 {
@@ -123,7 +138,7 @@ static inline size_t resource_manager_opens_of(uint64_t answer)
 
 /*
  * Reads what a start-up uses of five lent texts, as x11rb's Database::new_from_default does: two texts at most, one
- * after the other, into one image.
+ * after the other, at depth RESOURCE_MANAGER_GREATEST_DEPTH, into one image.
  *
  * The first is the property if its format is 8 and it is not empty; else .Xresources if it could be read, even if it
  * is empty; else .Xdefaults. The second is the text that XENVIRONMENT names if XENVIRONMENT is set, else the host's
@@ -147,6 +162,17 @@ uint64_t resource_manager_read_default(uint8_t property_format, const uint8_t *p
                                        const uint8_t *host, size_t host_count, const uint8_t *shelf,
                                        size_t shelf_count, uint16_t *contents, size_t contents_count, uint8_t *bodies,
                                        size_t bodies_count);
+
+/* The same at a depth of the caller's, with 15 as for resource_manager_read_depth. */
+uint64_t resource_manager_read_default_depth(uint8_t property_format, const uint8_t *property, size_t property_count,
+                                             uint8_t xresources_read, const uint8_t *xresources,
+                                             size_t xresources_count, uint8_t xdefaults_read, const uint8_t *xdefaults,
+                                             size_t xdefaults_count, uint8_t xenvironment_set,
+                                             uint8_t xenvironment_read, const uint8_t *xenvironment,
+                                             size_t xenvironment_count, uint8_t host_read, const uint8_t *host,
+                                             size_t host_count, const uint8_t *shelf, size_t shelf_count,
+                                             uint64_t depth, uint16_t *contents, size_t contents_count,
+                                             uint8_t *bodies, size_t bodies_count);
 
 /*
  * Carries an old image over into new buffers, without reading again: old contents of RESOURCE_MANAGER_OLD_CONTENTS_WORDS or
@@ -434,7 +460,8 @@ static inline uint32_t resource_manager_changes_of(uint64_t answer)
 
 /*
  * What one file of a shelf changes: reads the text with the shelf, and again with file number `file`, from 0, struck
- * off, and looks the query up in both images as resource_manager_get_bytes does.
+ * off, both at depth RESOURCE_MANAGER_DEFAULT_DEPTH, and looks the query up in both images as resource_manager_get_bytes
+ * does.
  *
  * OK: both answers, the first in *with_it with its place in bodies, the second in *without with its place in
  * bodies_without. NONE: the shelf has no such file. Refused: 1 for a buffer that is too short, 2 to 7 as the first
@@ -451,6 +478,14 @@ uint64_t resource_manager_compare_without(const uint8_t *text, size_t text_count
                                           uint8_t *bodies, size_t bodies_count, uint16_t *contents_without,
                                           size_t contents_without_count, uint8_t *bodies_without,
                                           size_t bodies_without_count, uint64_t *with_it, uint64_t *without);
+
+/* The same at a depth of the caller's, which is that of both readings, with 15 as the first reading is refused by it. */
+uint64_t resource_manager_compare_without_depth(
+    const uint8_t *text, size_t text_count, const uint8_t *shelf, size_t shelf_count, uint64_t depth, size_t file,
+    const uint8_t *name, size_t name_count, const uint8_t *class_name, size_t class_count, uint8_t *struck,
+    size_t struck_count, uint16_t *contents, size_t contents_count, uint8_t *bodies, size_t bodies_count,
+    uint16_t *contents_without, size_t contents_without_count, uint8_t *bodies_without, size_t bodies_without_count,
+    uint64_t *with_it, uint64_t *without);
 
 /*
  * What one file of a shelf changes for a start-up: as resource_manager_compare_without, with both readings as

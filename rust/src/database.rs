@@ -60,7 +60,8 @@ impl Database {
         Self::new_from_data_with_archive(data, Archive::new())
     }
 
-    /// Reads a text, and the files of an archive where the text includes them.
+    /// Reads a text, and the files of an archive where the text includes them, at depth
+    /// [`DEFAULT_DEPTH`](crate::limits::DEFAULT_DEPTH).
     ///
     /// The archive is an [`Archive`], or bytes that are laid out as one.
     ///
@@ -76,6 +77,26 @@ impl Database {
     /// ```
     pub fn new_from_data_with_archive(data: &[u8], archive: impl AsRef<[u8]>) -> Result<Self, Error> {
         Self::read(|contents, bodies| ffi::read(data, archive.as_ref(), contents, bodies))
+    }
+
+    /// The same at another depth: x11rb's is [`GREATEST_DEPTH`](crate::limits::GREATEST_DEPTH), and at 0 no include finds a file.
+    ///
+    /// ```
+    /// use resource_manager::limits::GREATEST_DEPTH;
+    /// use resource_manager::{Archive, Database, Error};
+    ///
+    /// // A file that includes itself is read as often as the depth allows.
+    /// let archive = Archive::from_files([("p", "#include \"p\"\n*margin: 2")])?;
+    /// let opens = |depth| Database::new_from_data_at_depth(b"#include \"p\"", &archive, depth).map(|database| database.opens());
+    /// assert_eq!(opens(0), Ok(0));
+    /// assert_eq!(opens(3), Ok(3));
+    /// assert_eq!(opens(GREATEST_DEPTH), Ok(100));
+    /// assert_eq!(opens(GREATEST_DEPTH + 1), Err(Error::TooDeep));
+    /// assert_eq!(Database::new_from_data_with_archive(b"#include \"p\"", &archive)?.opens(), 20);
+    /// # Ok::<(), Box<dyn std::error::Error>>(())
+    /// ```
+    pub fn new_from_data_at_depth(data: &[u8], archive: impl AsRef<[u8]>, depth: u64) -> Result<Self, Error> {
+        Self::read(|contents, bodies| ffi::read_depth(data, archive.as_ref(), depth, contents, bodies))
     }
 
     /// The database that a reading call leaves in the buffers that it is given.
@@ -437,6 +458,19 @@ impl Database {
         resource_class: &str,
     ) -> Result<Option<Comparison>, Error> {
         let call = |question: Question, room: Room| ffi::compare_without(data, question, room);
+        Self::compare(call, archive, file, resource_name, resource_class)
+    }
+
+    /// The same at another depth, which is that of both readings.
+    pub fn compare_without_at_depth(
+        data: &[u8],
+        archive: &Archive,
+        depth: u64,
+        file: &str,
+        resource_name: &str,
+        resource_class: &str,
+    ) -> Result<Option<Comparison>, Error> {
+        let call = |question: Question, room: Room| ffi::compare_without_depth(data, depth, question, room);
         Self::compare(call, archive, file, resource_name, resource_class)
     }
 

@@ -37,9 +37,11 @@ pub enum Error {
     FullBoard = 13,
     /// The pack's number is 0, is that of a pack on the board as it arrives, or of none as it leaves.
     BadPackNumber = 14,
+    /// The depth is over [`GREATEST_DEPTH`](limits::GREATEST_DEPTH).
+    TooDeep = 15,
 }
 
-const ALL: [Error; 14] = [
+const ALL: [Error; 15] = [
     Error::ShortBuffers,
     Error::LongText,
     Error::BadArchive,
@@ -54,10 +56,11 @@ const ALL: [Error; 14] = [
     Error::NotOneEntry,
     Error::FullBoard,
     Error::BadPackNumber,
+    Error::TooDeep,
 ];
 
 impl Error {
-    /// The refusal's number, 1 to 14.
+    /// The refusal's number, 1 to 15.
     pub fn number(self) -> u8 {
         self as u8
     }
@@ -90,6 +93,7 @@ impl fmt::Display for Error {
             Error::NotOneEntry => write!(f, "a text to be added that makes no entry or more than one"),
             Error::FullBoard => write!(f, "a board that has {} packs, or {} queries, already", limits::PACKS, limits::QUERIES),
             Error::BadPackNumber => write!(f, "a pack's number that is 0, taken or not there"),
+            Error::TooDeep => write!(f, "a depth of more than {}", limits::GREATEST_DEPTH),
         }?;
         write!(f, " (refused by {})", self.number())
     }
@@ -149,8 +153,8 @@ mod tests {
     }
 
     #[test]
-    #[should_panic(expected = "gave 15, which is no answer")]
+    #[should_panic(expected = "gave 16, which is no answer")]
     fn no_other_number_is_a_refusal() {
-        Error::of_answer(15);
+        Error::of_answer(16);
     }
 }

@@ -72,6 +72,18 @@ extern "C" {
         bodies_count: usize,
     ) -> u64;
 
+    fn resource_manager_read_depth(
+        text: *const u8,
+        text_count: usize,
+        shelf: *const u8,
+        shelf_count: usize,
+        depth: u64,
+        contents: *mut u16,
+        contents_count: usize,
+        bodies: *mut u8,
+        bodies_count: usize,
+    ) -> u64;
+
     fn resource_manager_get_bytes(
         contents: *const u16,
         contents_count: usize,
@@ -307,6 +319,31 @@ extern "C" {
         without: *mut u64,
     ) -> u64;
 
+    fn resource_manager_compare_without_depth(
+        text: *const u8,
+        text_count: usize,
+        shelf: *const u8,
+        shelf_count: usize,
+        depth: u64,
+        file: usize,
+        name: *const u8,
+        name_count: usize,
+        class: *const u8,
+        class_count: usize,
+        struck: *mut u8,
+        struck_count: usize,
+        contents: *mut u16,
+        contents_count: usize,
+        bodies: *mut u8,
+        bodies_count: usize,
+        contents_without: *mut u16,
+        contents_without_count: usize,
+        bodies_without: *mut u8,
+        bodies_without_count: usize,
+        with_it: *mut u64,
+        without: *mut u64,
+    ) -> u64;
+
     fn resource_manager_read_default(
         property_format: u8,
         property: *const u8,
@@ -326,6 +363,32 @@ extern "C" {
         host_count: usize,
         shelf: *const u8,
         shelf_count: usize,
+        contents: *mut u16,
+        contents_count: usize,
+        bodies: *mut u8,
+        bodies_count: usize,
+    ) -> u64;
+
+    fn resource_manager_read_default_depth(
+        property_format: u8,
+        property: *const u8,
+        property_count: usize,
+        xresources_read: u8,
+        xresources: *const u8,
+        xresources_count: usize,
+        xdefaults_read: u8,
+        xdefaults: *const u8,
+        xdefaults_count: usize,
+        xenvironment_set: u8,
+        xenvironment_read: u8,
+        xenvironment: *const u8,
+        xenvironment_count: usize,
+        host_read: u8,
+        host: *const u8,
+        host_count: usize,
+        shelf: *const u8,
+        shelf_count: usize,
+        depth: u64,
         contents: *mut u16,
         contents_count: usize,
         bodies: *mut u8,
@@ -422,6 +485,24 @@ pub(crate) fn read(text: &[u8], archive: &[u8], contents: &mut [u16], bodies: &m
             text.len(),
             archive.as_ptr(),
             archive.len(),
+            contents.as_mut_ptr(),
+            contents.len(),
+            bodies.as_mut_ptr(),
+            bodies.len(),
+        )
+    }
+}
+
+/// The same at a depth.
+pub(crate) fn read_depth(text: &[u8], archive: &[u8], depth: u64, contents: &mut [u16], bodies: &mut [u8]) -> u64 {
+    // SAFETY: as for `read`.
+    unsafe {
+        resource_manager_read_depth(
+            text.as_ptr(),
+            text.len(),
+            archive.as_ptr(),
+            archive.len(),
+            depth,
             contents.as_mut_ptr(),
             contents.len(),
             bodies.as_mut_ptr(),
@@ -722,6 +803,43 @@ pub(crate) fn compare_without(text: &[u8], Question { archive, file, name, class
     }
 }
 
+/// The same at a depth.
+pub(crate) fn compare_without_depth(
+    text: &[u8],
+    depth: u64,
+    Question { archive, file, name, class }: Question,
+    room: Room,
+) -> u64 {
+    let Room { struck, first, second, with_it, without } = room;
+    // SAFETY: as for `compare_without`.
+    unsafe {
+        resource_manager_compare_without_depth(
+            text.as_ptr(),
+            text.len(),
+            archive.as_ptr(),
+            archive.len(),
+            depth,
+            file,
+            name.as_ptr(),
+            name.len(),
+            class.as_ptr(),
+            class.len(),
+            struck.as_mut_ptr(),
+            struck.len(),
+            first.contents.as_mut_ptr(),
+            first.contents.len(),
+            first.bodies.as_mut_ptr(),
+            first.bodies.len(),
+            second.contents.as_mut_ptr(),
+            second.contents.len(),
+            second.bodies.as_mut_ptr(),
+            second.bodies.len(),
+            with_it,
+            without,
+        )
+    }
+}
+
 /// As `read`, of the texts that a start-up uses.
 pub(crate) fn read_default(start_up: &StartUp, archive: &[u8], contents: &mut [u16], bodies: &mut [u8]) -> u64 {
     let StartUp { property, xresources, xdefaults, xenvironment_set, xenvironment, host } = start_up;
@@ -746,6 +864,39 @@ pub(crate) fn read_default(start_up: &StartUp, archive: &[u8], contents: &mut [u
             lent(host).len(),
             archive.as_ptr(),
             archive.len(),
+            contents.as_mut_ptr(),
+            contents.len(),
+            bodies.as_mut_ptr(),
+            bodies.len(),
+        )
+    }
+}
+
+/// The same at a depth.
+pub(crate) fn read_default_depth(start_up: &StartUp, archive: &[u8], depth: u64, contents: &mut [u16], bodies: &mut [u8]) -> u64 {
+    let StartUp { property, xresources, xdefaults, xenvironment_set, xenvironment, host } = start_up;
+    // SAFETY: as for `read`.
+    unsafe {
+        resource_manager_read_default_depth(
+            property.format,
+            property.value.as_ptr(),
+            property.value.len(),
+            is_read(xresources),
+            lent(xresources).as_ptr(),
+            lent(xresources).len(),
+            is_read(xdefaults),
+            lent(xdefaults).as_ptr(),
+            lent(xdefaults).len(),
+            u8::from(*xenvironment_set),
+            is_read(xenvironment),
+            lent(xenvironment).as_ptr(),
+            lent(xenvironment).len(),
+            is_read(host),
+            lent(host).as_ptr(),
+            lent(host).len(),
+            archive.as_ptr(),
+            archive.len(),
+            depth,
             contents.as_mut_ptr(),
             contents.len(),
             bodies.as_mut_ptr(),

@@ -27,7 +27,8 @@
 //!
 //! What x11rb has no limits for has [`limits`] here, and what is past them is refused by an [`Error`]. A reading returns
 //! it. A lookup panics with it, or returns it from the `try_get_` methods: it never passes for "no value". No included file
-//! is opened: what a text includes is in an [`Archive`]. [`Database::new_from_default`] opens the files of the default
+//! is opened: what a text includes is in an [`Archive`]. Includes are followed up to depth 20, and to x11rb's 100 by
+//! [`Database::new_from_data_at_depth`] and in start-ups. [`Database::new_from_default`] opens the files of the default
 //! places, as x11rb does, and [`StartUp::texts`] says which of these texts count.
 //!
 //! What x11rb has not: [`Database::aligned`] lists every entry that aligns with a query, and a [`Walk`] does so while

@@ -12,8 +12,12 @@ pub const ARCHIVE_FILES: usize = 64;
 /// Bytes of a file's name ([`BadArchive`](crate::Error::BadArchive)).
 pub const FILE_NAME_BYTES: usize = 96;
 
-/// How deep includes nest. A deeper one adds nothing, and is no refusal.
-pub const DEPTH: usize = 100;
+/// The greatest depth of a reading ([`TooDeep`](crate::Error::TooDeep)), which is x11rb's. A text is at depth 0, and a file that it includes at
+/// depth 1; at depth d the texts at depths 0 to d are read. A deeper include adds nothing, and is no refusal.
+pub const GREATEST_DEPTH: u64 = 100;
+
+/// The depth of a reading that is given none, but for a start-up, which has the greatest.
+pub const DEFAULT_DEPTH: u64 = 20;
 
 /// How many times a reading reads an included file ([`ManyOpens`](crate::Error::ManyOpens)).
 pub const OPENS: usize = 4_096;

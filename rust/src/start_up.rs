@@ -192,9 +192,15 @@ impl Database {
         Self::new_from_start_up(&StartUp::from_environment(reply, hostname), archive)
     }
 
-    /// Reads what a start-up has found, and the files of an archive where a text includes them. No file is opened.
+    /// Reads what a start-up has found, and the files of an archive where a text includes them, at x11rb's depth,
+    /// [`GREATEST_DEPTH`](crate::limits::GREATEST_DEPTH). No file is opened.
     pub fn new_from_start_up(start_up: &StartUp, archive: impl AsRef<[u8]>) -> Result<Self, Error> {
         Self::read(|contents, bodies| ffi::read_default(start_up, archive.as_ref(), contents, bodies))
+    }
+
+    /// The same at another depth.
+    pub fn new_from_start_up_at_depth(start_up: &StartUp, archive: impl AsRef<[u8]>, depth: u64) -> Result<Self, Error> {
+        Self::read(|contents, bodies| ffi::read_default_depth(start_up, archive.as_ref(), depth, contents, bodies))
     }
 
     /// Reads the property `RESOURCE_MANAGER`; none if its format is not 8 or it is empty. An include finds nothing; for a

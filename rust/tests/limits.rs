@@ -1,7 +1,7 @@
 //! Readings and lookups at each limit: what is within it is accepted, and one more is refused.
 
 use resource_manager::limits::*;
-use resource_manager::{Archive, Database, Error, NotANumber, ValueError};
+use resource_manager::{Archive, Database, Error, NotANumber, StartUp, ValueError};
 use std::panic::{catch_unwind, UnwindSafe};
 
 /// Entries and opens, or the refusal.
@@ -32,8 +32,29 @@ fn opens_of_a_reading() {
 
 #[test]
 fn depth_of_includes() {
-    let files = [("p", "#include \"p\"\na:1")];
-    assert_eq!(read("#include \"p\"", &files), Ok((DEPTH, DEPTH)));
+    let archive = Archive::from_files([("p", "#include \"p\"\na:1")]).expect("an archive");
+    let text = b"#include \"p\"";
+    let counts = |database: Database| (database.entries().len() as u64, database.opens() as u64);
+    let at = |depth| Database::new_from_data_at_depth(text, &archive, depth).map(counts);
+    let plain = Database::new_from_data_with_archive(text, &archive).map(counts);
+    assert_eq!(plain, Ok((DEFAULT_DEPTH, DEFAULT_DEPTH)));
+    for depth in [0, 1, DEFAULT_DEPTH, GREATEST_DEPTH] {
+        assert_eq!(at(depth), Ok((depth, depth)));
+    }
+    for depth in [GREATEST_DEPTH + 1, 1 << 32, u64::MAX] {
+        assert_eq!(at(depth), Err(Error::TooDeep));
+    }
+    let start_up = StartUp { xresources: Some(text.to_vec()), host: Some(text.to_vec()), ..StartUp::default() };
+    let started = Database::new_from_start_up(&start_up, &archive).map(counts);
+    assert_eq!(started, Ok((2 * GREATEST_DEPTH, 2 * GREATEST_DEPTH)));
+    let started_at = |depth| Database::new_from_start_up_at_depth(&start_up, &archive, depth).map(counts);
+    assert_eq!(started_at(3), Ok((6, 6)));
+    assert_eq!(started_at(GREATEST_DEPTH + 1), Err(Error::TooDeep));
+    let compared =
+        |depth| Database::compare_without_at_depth(text, &archive, depth, "p", "a", "").map(|both| both.expect("a file"));
+    assert_eq!(compared(0).map(|both| both.with_file), Ok(None));
+    assert_eq!(compared(1).map(|both| (both.with_file, both.without_file)), Ok((Some(b"1".to_vec()), None)));
+    assert_eq!(compared(GREATEST_DEPTH + 1), Err(Error::TooDeep));
 }
 
 #[test]

@@ -202,6 +202,16 @@ static uint64_t start_up(void)
         shelf_count, lent_contents(), contents_count, lent_bodies(), bodies_count);
 }
 
+static uint64_t start_up_depth(uint64_t depth)
+{
+    return resource_manager_read_default_depth(
+        texts[PROPERTY].flag, texts[PROPERTY].start, texts[PROPERTY].count, texts[XRESOURCES].flag,
+        texts[XRESOURCES].start, texts[XRESOURCES].count, texts[XDEFAULTS].flag, texts[XDEFAULTS].start,
+        texts[XDEFAULTS].count, xenvironment_set, texts[XENVIRONMENT].flag, texts[XENVIRONMENT].start,
+        texts[XENVIRONMENT].count, texts[HOST].flag, texts[HOST].start, texts[HOST].count, shelf_end - shelf_count,
+        shelf_count, depth, lent_contents(), contents_count, lent_bodies(), bodies_count);
+}
+
 /* Lends the text alone to a start-up, or with the second text after it. */
 static void lend_one(void)
 {
@@ -223,6 +233,23 @@ static uint64_t read_it(void)
     }
     return resource_manager_read(text_end - text_count, text_count, shelf_end - shelf_count, shelf_count,
                                  lent_contents(), contents_count, lent_bodies(), bodies_count);
+}
+
+/* The depth of a reading that is given none. */
+static size_t no_depth(void)
+{
+    return lent_as == MAIN ? RESOURCE_MANAGER_DEFAULT_DEPTH : RESOURCE_MANAGER_GREATEST_DEPTH;
+}
+
+/* The same at a depth. */
+static uint64_t read_depth(uint64_t depth)
+{
+    if (lent_as != MAIN) {
+        lend_one();
+        return start_up_depth(depth);
+    }
+    return resource_manager_read_depth(text_end - text_count, text_count, shelf_end - shelf_count, shelf_count, depth,
+                                       lent_contents(), contents_count, lent_bodies(), bodies_count);
 }
 
 typedef uint64_t lookup(const uint16_t *, size_t, const uint8_t *, size_t, const uint8_t *, size_t, const uint8_t *,
@@ -367,6 +394,19 @@ static uint64_t compare_lent(size_t file, const char *name)
         (uint16_t *)(void *)contents_without_end - words, words, bodies_without_end - bytes, bytes, &with_it, &without);
 }
 
+/* The same at a depth, of a main text. */
+static uint64_t compare_depth(uint64_t depth, size_t file, const char *name)
+{
+    size_t words = RESOURCE_MANAGER_CONTENTS_WORDS, bytes = RESOURCE_MANAGER_BODIES_BYTES;
+    uint8_t *lent_name = name_end - strlen(name);
+    memcpy(lent_name, name, strlen(name));
+    with_it = without = 77;
+    return resource_manager_compare_without_depth(
+        text_end - text_count, text_count, shelf_end - shelf_count, shelf_count, depth, file, lent_name, strlen(name),
+        class_end, 0, struck_end - shelf_count, shelf_count, lent_contents(), contents_count, lent_bodies(), bodies_count,
+        (uint16_t *)(void *)contents_without_end - words, words, bodies_without_end - bytes, bytes, &with_it, &without);
+}
+
 static uint64_t compare(size_t file, const char *name)
 {
     if (lent_as != MAIN) {
@@ -474,7 +514,22 @@ static void depth(void)
     struct file file = {"p", "#include \"p\"\na:1"};
     set_text("", 0, "#include \"p\"");
     set_shelf(&file, 1);
-    expect("the deepest include", read_it(), accepted(RESOURCE_MANAGER_DEPTH, RESOURCE_MANAGER_DEPTH));
+    expect("the deepest include", read_depth(RESOURCE_MANAGER_GREATEST_DEPTH),
+           accepted(RESOURCE_MANAGER_GREATEST_DEPTH, RESOURCE_MANAGER_GREATEST_DEPTH));
+    expect("at depth 3", read_depth(3), accepted(3, 3));
+    expect("at depth 0 nothing is opened", read_depth(0), accepted(0, 0));
+    expect("where none is given", read_it(), accepted(no_depth(), no_depth()));
+    memset(lent_contents(), 7, 2 * contents_count);
+    memset(lent_bodies(), 7, bodies_count);
+    expect("a depth more", read_depth(RESOURCE_MANAGER_GREATEST_DEPTH + 1), RESOURCE_MANAGER_TOO_DEEP);
+    expect("the greatest number", read_depth(UINT64_MAX), RESOURCE_MANAGER_TOO_DEEP);
+    expect("its contents are as they were", lent_contents()[0] == 0x0707 && lent_contents()[contents_count - 1] == 0x0707, 1);
+    expect("and its bodies", lent_bodies()[0] == 7 && lent_bodies()[bodies_count - 1] == 7, 1);
+    set_text("", 0, parts(RESOURCE_MANAGER_ENTRY_PARTS + 1, ":"));
+    expect("a depth more before a part more", read_depth(RESOURCE_MANAGER_GREATEST_DEPTH + 1), RESOURCE_MANAGER_TOO_DEEP);
+    shelf_count = 0;
+    expect("a shelf of no bytes before a depth more", read_depth(RESOURCE_MANAGER_GREATEST_DEPTH + 1),
+           RESOURCE_MANAGER_BAD_SHELF);
 }
 
 /* The path of an include is on the stack too. */
@@ -483,7 +538,8 @@ static void dots(void)
     struct file file = {"d/p", "#include \"../d/./p\"\na:1"};
     set_text("", 0, "#include \"./x/../d/p\"");
     set_shelf(&file, 1);
-    expect("the deepest include by dots", read_it(), accepted(RESOURCE_MANAGER_DEPTH, RESOURCE_MANAGER_DEPTH));
+    expect("the deepest include by dots", read_depth(RESOURCE_MANAGER_GREATEST_DEPTH),
+           accepted(RESOURCE_MANAGER_GREATEST_DEPTH, RESOURCE_MANAGER_GREATEST_DEPTH));
     set_text("", 0, "#include \"../d/p\"");
     expect("an include above the root", read_it(), accepted(0, 0));
 }
@@ -707,6 +763,31 @@ static void refused_comparisons(void)
     short_bodies = 0;
     set_text("a:\n", RESOURCE_MANAGER_ENTRIES + 1, "");
     refused_comparison("a refused reading", RESOURCE_MANAGER_MANY_ENTRIES, 0, "a");
+}
+
+/* A file that the second reading lacks is missed just where the first, at the same depth, opens it. */
+static void depth_of_comparisons(void)
+{
+    const struct file files[] = {{"p", "#include \"q\"\nb:"}, {"q", "a:2"}};
+    size_t last = 1;
+    set_shelf(files, 2);
+    set_text("a:\n", 1, "#include \"p\"");
+    expect("depth 1 of two", compare_depth(1, last, "a"), RESOURCE_MANAGER_OK);
+    expect("the empty value with it", resource_manager_length_of(with_it), 0);
+    expect("and without it", without, with_it);
+    expect("depth 2 of two", compare_depth(2, last, "a"), RESOURCE_MANAGER_OK);
+    expect("the value with it", resource_manager_length_of(with_it), 1);
+    expect("the empty value without it", resource_manager_length_of(without), 0);
+    expect("depth 0", compare_depth(0, 0, "b"), RESOURCE_MANAGER_OK);
+    expect("no value with it", with_it, RESOURCE_MANAGER_NONE);
+    expect("nor without it", without, RESOURCE_MANAGER_NONE);
+    expect("the greatest depth", compare_depth(RESOURCE_MANAGER_GREATEST_DEPTH, last, "a"), RESOURCE_MANAGER_OK);
+    expect("a depth more", compare_depth(RESOURCE_MANAGER_GREATEST_DEPTH + 1, last, "a"), RESOURCE_MANAGER_TOO_DEEP);
+    expect("the first answer", with_it, 77);
+    expect("the second answer", without, 77);
+    expect("a depth more before a file too few", compare_depth(UINT64_MAX, 2, "a"), RESOURCE_MANAGER_TOO_DEEP);
+    shelf_count = 0;
+    expect("a shelf of no bytes before a depth more", compare_depth(UINT64_MAX, last, "a"), RESOURCE_MANAGER_BAD_SHELF);
 }
 
 /* ---- Writing out */
@@ -1267,7 +1348,7 @@ static void of_each(void)
     set_shelf(&deep, 1);
     set_text("", 0, "#include \"p\"");
     set_second("", 0, "#include \"p\"");
-    expect_both("the deepest include of each", accepted(2 * RESOURCE_MANAGER_DEPTH, 2 * RESOURCE_MANAGER_DEPTH));
+    expect_both("the deepest include of each", accepted(2 * RESOURCE_MANAGER_GREATEST_DEPTH, 2 * RESOURCE_MANAGER_GREATEST_DEPTH));
     set_second("", 0, parts(RESOURCE_MANAGER_ENTRY_PARTS + 1, ":"));
     expect_both("a part more in the second text", RESOURCE_MANAGER_MANY_ENTRY_PARTS);
     set_text("a:\n", RESOURCE_MANAGER_ENTRIES + 1, "");
@@ -1531,6 +1612,7 @@ static void *all(void *unused)
     numbers();
     booleans();
     shows();
+    depth_of_comparisons();
     writings();
     walks_and_additions();
     boards();

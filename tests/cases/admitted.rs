@@ -3,7 +3,7 @@
 
 use crate::chains::names_own_file;
 use model::archive::judge;
-use model::limits::{Refusal, TEXT_BYTES};
+use model::limits::{Refusal, GREATEST_DEPTH, TEXT_BYTES};
 use model::line::{Binding, Part};
 use model::lookup::{Bounds, SHELL};
 use model::matching::{mark, positions, Position};
@@ -31,7 +31,10 @@ pub fn admitted_reading(source: &Source) -> Result<Reading, LeftOut> {
     if archive.has_file_as_folder() {
         return Err("archives with a file that is also a folder".to_string());
     }
-    let reading = read(&texts, &archive).map_err(refused)?;
+    if source.depth > GREATEST_DEPTH {
+        return Err(refused(Refusal::TooDeep));
+    }
+    let reading = read(&texts, &archive, source.depth).map_err(refused)?;
     match reading.outside {
         Some(why) => Err(why.to_string()),
         None => Ok(reading),

@@ -39,7 +39,7 @@ impl Image {
     /// The image that the model reads from a source; none if the reading is refused.
     pub fn read(source: &Source) -> Option<Self> {
         let (mut contents, mut bodies) = records::buffers();
-        image::read(&mut contents, &mut bodies, &source.texts(), &source.archive).ok()?;
+        image::read(&mut contents, &mut bodies, &source.texts(), &source.archive, source.depth).ok()?;
         Some(Self { contents, bodies })
     }
 

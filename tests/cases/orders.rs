@@ -6,7 +6,7 @@ use crate::readings::{Extent, Seen};
 use crate::texts::{self, aligned_key};
 use crate::words::{keys, queries};
 use model::archive::judge;
-use model::limits::ENTRIES;
+use model::limits::{ENTRIES, GREATEST_DEPTH};
 use model::line::{take_line, write_key, Line};
 use model::reading::{read, Entry};
 use records::{archive_of, Query, Source};
@@ -49,9 +49,15 @@ fn of_packs(first: Source, second: Source) -> Rearranged {
     Rearranged { first, second, is_alike }
 }
 
+/// Two main texts of include lines, at the greatest depth and at a small one.
+fn see_packs(see: See, first: &Source, second: &Source, queries: &[Query]) -> Seen {
+    let small = second.texts()[0].len() as u64 % 3;
+    [GREATEST_DEPTH, small].iter().try_for_each(|depth| see(&of_packs(first.at(*depth), second.at(*depth)), queries))
+}
+
 /// The entries of a source with their chains; none if a reading is refused.
 fn entries(source: &Source) -> Option<Vec<Entry>> {
-    Some(read(&source.texts(), &judge(&source.archive)?).ok()?.entries)
+    Some(read(&source.texts(), &judge(&source.archive)?, source.depth).ok()?.entries)
 }
 
 /// For every key, the values under it in their order.
@@ -221,8 +227,7 @@ fn packs(extent: Extent, see: See) -> Seen {
         let order = some_order(draw, lines.len());
         let first = joined(&lines, &(0..lines.len()).collect::<Vec<_>>());
         let all = [query, texts::query(draw)];
-        let pair = of_packs(Source::with(&first, &files), Source::text(joined(&lines, &order), archive_of(&files)));
-        see(&pair, &all)
+        see_packs(&mut *see, &Source::with(&first, &files), &Source::text(joined(&lines, &order), archive_of(&files)), &all)
     })
 }
 
@@ -249,6 +254,6 @@ fn random_archives(extent: Extent, see: See) -> Seen {
         let order = some_order(draw, lines.len());
         let first = Source::text(joined(&lines, &(0..lines.len()).collect::<Vec<_>>()), source.archive.clone());
         let all = [query, texts::query(draw)];
-        see(&of_packs(first, Source::text(joined(&lines, &order), source.archive)), &all)
+        see_packs(&mut *see, &first, &Source::text(joined(&lines, &order), source.archive), &all)
     })
 }

@@ -2,7 +2,8 @@
 
 use crate::archive;
 use crate::limits::{
-    Refusal, ARCHIVE_FILES, BODIES_BYTES, CONTENTS_WORDS, ENTRIES, KEY_PARTS, OLD_ROW_WORDS, ROW_WORDS, TEXT_BYTES, UNKNOWN_FILE,
+    Refusal, ARCHIVE_FILES, BODIES_BYTES, CONTENTS_WORDS, ENTRIES, GREATEST_DEPTH, KEY_PARTS, OLD_ROW_WORDS, ROW_WORDS, TEXT_BYTES,
+    UNKNOWN_FILE,
 };
 use crate::line::{ends_in_a_name, read_key, write_key, Part};
 use crate::reading::{self, Entry};
@@ -14,8 +15,8 @@ pub struct Accepted {
     pub opens: usize,
 }
 
-/// The reading call, of texts one after another. Refusals 1 to 3 change nothing; 4 to 7 leave the image of no entries.
-pub fn read(contents: &mut [u16], bodies: &mut [u8], texts: &[&[u8]], archive: &[u8]) -> Result<Accepted, Refusal> {
+/// The reading call, of texts one after another. Refusals 1 to 3 and 15 change nothing; 4 to 7 leave the image of no entries.
+pub fn read(contents: &mut [u16], bodies: &mut [u8], texts: &[&[u8]], archive: &[u8], depth: u64) -> Result<Accepted, Refusal> {
     if are_short(contents, bodies) {
         return Err(Refusal::ShortBuffers);
     }
@@ -23,8 +24,11 @@ pub fn read(contents: &mut [u16], bodies: &mut [u8], texts: &[&[u8]], archive: &
         return Err(Refusal::LongText);
     }
     let archive = archive::judge(archive).ok_or(Refusal::BadArchive)?;
+    if depth > GREATEST_DEPTH {
+        return Err(Refusal::TooDeep);
+    }
     clear(contents, bodies);
-    let reading = reading::read(texts, &archive)?;
+    let reading = reading::read(texts, &archive, depth)?;
     for (number, entry) in reading.entries.iter().enumerate() {
         append(contents, bodies, number, &write_key(&entry.key), &entry.value, origin(entry, &archive));
     }

@@ -1,4 +1,4 @@
-//! The settings core as document 01 and requests (i), (iii), (iv), (v), (vi), (viii) and (ix) of document 02 lay it down, written for
+//! The settings core as document 01 and requests (i), (iii) to (vi) and (viii) to (x) of document 02 lay it down, written for
 //! reading and not for speed.
 //!
 //! It is a second reference beside the Rust: it has the limits, the refusals and the image, which

@@ -15,7 +15,10 @@ pub const ARCHIVE_BYTES: usize = 65_536;
 pub const ARCHIVE_FILES: usize = 64;
 pub const FILE_NAME_BYTES: usize = 96;
 
-pub const DEPTH: usize = 100;
+/// The greatest depth that a caller may give, and the one where it gives none.
+pub const GREATEST_DEPTH: u64 = 100;
+pub const DEFAULT_DEPTH: u64 = 20;
+
 pub const OPENS: usize = 4096;
 pub const ENTRIES: usize = 512;
 pub const KEY_PARTS: usize = 16;
@@ -53,6 +56,7 @@ pub enum Refusal {
     NotOneEntry,
     FullBoard,
     BadPackNumber,
+    TooDeep,
 }
 
 impl Refusal {

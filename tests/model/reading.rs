@@ -2,7 +2,7 @@
 //! includes, and the opens; or the first of refusals 4 to 7 in text order. A main text is a list of one.
 
 use crate::archive::{folder, Archive};
-use crate::limits::{Refusal, BODIES_BYTES, DEPTH, ENTRIES, KEY_PARTS, OPENS};
+use crate::limits::{Refusal, BODIES_BYTES, ENTRIES, KEY_PARTS, OPENS};
 use crate::line::{take_line, write_key, Line, Part};
 use crate::paths::{follow, join, target, Outside};
 use std::collections::BTreeSet;
@@ -32,15 +32,16 @@ pub struct Reading {
     pub outside: Option<Outside>,
 }
 
-/// Each text is read at depth 0 with the empty folder, and ends at its own end.
-pub fn read(texts: &[&[u8]], archive: &Archive) -> Result<Reading, Refusal> {
-    let mut reader = Reader { archive, store: 0, chain: Vec::new(), ways: Vec::new(), reading: Reading::default() };
+/// Each text is at depth 0 with the empty folder, and ends at its own end. The texts at depths 0 to `depth` are read.
+pub fn read(texts: &[&[u8]], archive: &Archive, depth: u64) -> Result<Reading, Refusal> {
+    let mut reader = Reader { archive, depth, store: 0, chain: Vec::new(), ways: Vec::new(), reading: Reading::default() };
     texts.iter().try_for_each(|text| reader.read_text(text, b""))?;
     Ok(reader.reading)
 }
 
 struct Reader<'a> {
     archive: &'a Archive,
+    depth: u64,
     /// Bytes of keys and values so far.
     store: usize,
     /// The files being read, outermost first: as many as the depth.
@@ -74,7 +75,7 @@ impl Reader<'_> {
         }
         let way = join(way, name);
         let Some(file) = target(from, name).and_then(|path| archive.find(&path)) else { return Ok(()) };
-        if self.chain.len() == DEPTH {
+        if self.chain.len() as u64 == self.depth {
             return Ok(());
         }
         if self.reading.opens == OPENS {

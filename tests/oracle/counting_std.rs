@@ -9,17 +9,17 @@ pub use std::*;
 
 use std::cell::Cell;
 
-/// Texts at depths over this are read from disk and thrown away: they are no opens.
-const LAST_DEPTH: usize = 100;
-
 thread_local! {
     static DEPTH: Cell<usize> = const { Cell::new(0) };
+    /// Texts at depths over this are read from disk and thrown away: they are no opens. The Rust's own, unless it was altered.
+    static LAST_DEPTH: Cell<usize> = const { Cell::new(100) };
     static OPENS: Cell<usize> = const { Cell::new(0) };
     static OWN_TEXTS: Cell<usize> = const { Cell::new(0) };
 }
 
-/// Runs `work` and counts its opens: files read at depth 1 to 100.
-pub fn count_opens<T>(work: impl FnOnce() -> T) -> (T, usize) {
+/// Runs `work` and counts its opens: files read at depth 1 to `last`.
+pub fn count_opens<T>(last: u8, work: impl FnOnce() -> T) -> (T, usize) {
+    LAST_DEPTH.set(last.into());
     OPENS.set(0);
     OWN_TEXTS.set(0);
     let result = work();
@@ -37,9 +37,9 @@ pub mod fs {
         let found = std::fs::read(path);
         if found.is_ok() {
             let depth = crate::DEPTH.get();
-            assert!(depth <= crate::LAST_DEPTH + 1, "a file was read at depth {depth}");
+            assert!(depth <= crate::LAST_DEPTH.get() + 1, "a file was read at depth {depth}");
             let counter = if depth == 0 { &crate::OWN_TEXTS } else { &crate::OPENS };
-            if depth <= crate::LAST_DEPTH {
+            if depth <= crate::LAST_DEPTH.get() {
                 counter.set(counter.get() + 1);
             }
         }

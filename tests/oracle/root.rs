@@ -5,6 +5,7 @@
 extern crate alloc;
 extern crate counting_std as std;
 
+pub mod altered;
 pub mod resource_manager;
 
 pub use std::count_opens;

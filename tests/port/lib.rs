@@ -22,6 +22,66 @@ extern "C" {
         bodies: *mut u8,
         bodies_length: usize,
     ) -> u64;
+    fn resource_manager_read_depth(
+        text: *const u8,
+        text_length: usize,
+        shelf: *const u8,
+        shelf_length: usize,
+        depth: u64,
+        contents: *mut u16,
+        contents_length: usize,
+        bodies: *mut u8,
+        bodies_length: usize,
+    ) -> u64;
+    fn resource_manager_read_default_depth(
+        property_format: u8,
+        property: *const u8,
+        property_length: usize,
+        xresources_read: u8,
+        xresources: *const u8,
+        xresources_length: usize,
+        xdefaults_read: u8,
+        xdefaults: *const u8,
+        xdefaults_length: usize,
+        xenvironment_set: u8,
+        xenvironment_read: u8,
+        xenvironment: *const u8,
+        xenvironment_length: usize,
+        host_read: u8,
+        host: *const u8,
+        host_length: usize,
+        shelf: *const u8,
+        shelf_length: usize,
+        depth: u64,
+        contents: *mut u16,
+        contents_length: usize,
+        bodies: *mut u8,
+        bodies_length: usize,
+    ) -> u64;
+    fn resource_manager_compare_without_depth(
+        text: *const u8,
+        text_length: usize,
+        shelf: *const u8,
+        shelf_length: usize,
+        depth: u64,
+        file: usize,
+        name: *const u8,
+        name_length: usize,
+        class: *const u8,
+        class_length: usize,
+        struck: *mut u8,
+        struck_length: usize,
+        contents: *mut u16,
+        contents_length: usize,
+        bodies: *mut u8,
+        bodies_length: usize,
+        contents_without: *mut u16,
+        contents_without_length: usize,
+        bodies_without: *mut u8,
+        bodies_without_length: usize,
+        with_it: *mut u64,
+        without: *mut u64,
+    ) -> u64;
 
     fn resource_manager_read_default(
         property_format: u8,
@@ -323,8 +383,10 @@ extern "C" {
     ) -> u64;
 }
 
-/// Reads a main text with a shelf into a database image: entries and opens, or the number of the
-/// refusal.
+/// The depth of x11rb, which `read` and `read_word` give.
+pub const RUSTS_DEPTH: u64 = 100;
+
+/// Reads a main text with a shelf into a database image, at the Rust's depth: entries and opens, or the number of the refusal.
 pub fn read(text: &[u8], shelf: &[u8], contents: &mut [u16], bodies: &mut [u8]) -> Result<(usize, usize), u16> {
     let word = read_word(text, shelf, contents, bodies);
     let bits = |from: u32| (word >> from) as u16;
@@ -337,8 +399,31 @@ pub fn read(text: &[u8], shelf: &[u8], contents: &mut [u16], bodies: &mut [u8]) 
 /// As `read`, with the word that the call returns: 0 or the refusal's number in bits 0 to 15, entries
 /// in bits 16 to 31, opens in bits 32 to 47.
 pub fn read_word(text: &[u8], shelf: &[u8], contents: &mut [u16], bodies: &mut [u8]) -> u64 {
+    read_depth_word(text, shelf, RUSTS_DEPTH, contents, bodies)
+}
+
+/// The same at a depth.
+pub fn read_depth_word(text: &[u8], shelf: &[u8], depth: u64, contents: &mut [u16], bodies: &mut [u8]) -> u64 {
     // SAFETY: each pointer and count are those of a slice that is borrowed for the call, the last two
     // for writing. The call is proved to stay within them and to keep nothing.
+    unsafe {
+        resource_manager_read_depth(
+            text.as_ptr(),
+            text.len(),
+            shelf.as_ptr(),
+            shelf.len(),
+            depth,
+            contents.as_mut_ptr(),
+            contents.len(),
+            bodies.as_mut_ptr(),
+            bodies.len(),
+        )
+    }
+}
+
+/// The same by the call that is given no depth.
+pub fn read_plain_word(text: &[u8], shelf: &[u8], contents: &mut [u16], bodies: &mut [u8]) -> u64 {
+    // SAFETY: as for `read_depth_word`.
     unsafe {
         resource_manager_read(
             text.as_ptr(),
@@ -372,7 +457,7 @@ pub struct StartUp<'a> {
     pub host: Text<'a>,
 }
 
-/// As `read_word`, of the texts that a start-up uses.
+/// As `read_word`, of the texts that a start-up uses, by the call that is given no depth.
 pub fn read_default_word(start_up: &StartUp, shelf: &[u8], contents: &mut [u16], bodies: &mut [u8]) -> u64 {
     let StartUp { format, property, xresources, xdefaults, xenvironment_set, xenvironment, host } = *start_up;
     // SAFETY: as for `read_word`.
@@ -396,6 +481,39 @@ pub fn read_default_word(start_up: &StartUp, shelf: &[u8], contents: &mut [u16],
             host.bytes.len(),
             shelf.as_ptr(),
             shelf.len(),
+            contents.as_mut_ptr(),
+            contents.len(),
+            bodies.as_mut_ptr(),
+            bodies.len(),
+        )
+    }
+}
+
+/// The same at a depth.
+pub fn read_default_depth_word(start_up: &StartUp, shelf: &[u8], depth: u64, contents: &mut [u16], bodies: &mut [u8]) -> u64 {
+    let StartUp { format, property, xresources, xdefaults, xenvironment_set, xenvironment, host } = *start_up;
+    // SAFETY: as for `read_word`.
+    unsafe {
+        resource_manager_read_default_depth(
+            format,
+            property.as_ptr(),
+            property.len(),
+            xresources.read,
+            xresources.bytes.as_ptr(),
+            xresources.bytes.len(),
+            xdefaults.read,
+            xdefaults.bytes.as_ptr(),
+            xdefaults.bytes.len(),
+            xenvironment_set,
+            xenvironment.read,
+            xenvironment.bytes.as_ptr(),
+            xenvironment.bytes.len(),
+            host.read,
+            host.bytes.as_ptr(),
+            host.bytes.len(),
+            shelf.as_ptr(),
+            shelf.len(),
+            depth,
             contents.as_mut_ptr(),
             contents.len(),
             bodies.as_mut_ptr(),
@@ -679,10 +797,41 @@ pub struct Lent<'a> {
     pub without: &'a mut u64,
 }
 
-/// Reads a main text with a shelf and again with one of its files struck off, and looks a query up in
+/// Reads a main text with a shelf at a depth and again with one of its files struck off, and looks a query up in
 /// both images: 0 with the words of both lookups; or, with these as they were, 65535 if the shelf has no
 /// such file, or the refusal's number.
-pub fn compare_without_word(text: &[u8], shelf: &[u8], file: usize, name: &[u8], class: &[u8], lent: Lent) -> u64 {
+pub fn compare_without_word(text: &[u8], shelf: &[u8], depth: u64, file: usize, name: &[u8], class: &[u8], lent: Lent) -> u64 {
+    // SAFETY: as for the other calls; all that `lent` has is borrowed for writing.
+    unsafe {
+        resource_manager_compare_without_depth(
+            text.as_ptr(),
+            text.len(),
+            shelf.as_ptr(),
+            shelf.len(),
+            depth,
+            file,
+            name.as_ptr(),
+            name.len(),
+            class.as_ptr(),
+            class.len(),
+            lent.struck.as_mut_ptr(),
+            lent.struck.len(),
+            lent.contents.as_mut_ptr(),
+            lent.contents.len(),
+            lent.bodies.as_mut_ptr(),
+            lent.bodies.len(),
+            lent.contents_without.as_mut_ptr(),
+            lent.contents_without.len(),
+            lent.bodies_without.as_mut_ptr(),
+            lent.bodies_without.len(),
+            lent.with_it,
+            lent.without,
+        )
+    }
+}
+
+/// The same by the call that is given no depth.
+pub fn compare_plain_without_word(text: &[u8], shelf: &[u8], file: usize, name: &[u8], class: &[u8], lent: Lent) -> u64 {
     // SAFETY: as for the other calls; all that `lent` has is borrowed for writing.
     unsafe {
         resource_manager_compare_without(

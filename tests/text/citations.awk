@@ -18,8 +18,8 @@ BEGIN {
     for (i in words)
         citing[words[i]] = 1
     # files of examples, which are cited with the line that is meant
-    split("Examples Manual Numbers NameBytes Starts Walks Orderings Boards bounds/Bounds bounds/Lookups bounds/Walks bounds/Boards listing/Examples " \
-        "arguments/Examples answers_listed/Examples", words, " ")
+    split("Examples Manual Numbers NameBytes Starts Depths Walks Orderings Boards bounds/Bounds bounds/Lookups bounds/Walks bounds/Boards " \
+        "listing/Examples arguments/Examples answers_listed/Examples", words, " ")
     for (i in words)
         examples[words[i]] = 1
     # what the names of a suite's tests are quoted in

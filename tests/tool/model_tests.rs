@@ -16,7 +16,10 @@ use cases::walks;
 use cases::words::{keys, queries};
 use model::archive::{judge, lay_out, strike, File};
 use model::image::{self, Accepted};
-use model::limits::{Refusal, BOARD_BYTES, BOARD_WORDS, BODIES_BYTES, CONTENTS_WORDS, OLD_CONTENTS_WORDS, ROW_WORDS, TEXT_BYTES};
+use model::limits::{
+    Refusal, BOARD_BYTES, BOARD_WORDS, BODIES_BYTES, CONTENTS_WORDS, DEFAULT_DEPTH, GREATEST_DEPTH, OLD_CONTENTS_WORDS, ROW_WORDS,
+    TEXT_BYTES,
+};
 use model::line::{read_key, write_key, Part};
 use model::lookup::{get_bool, get_bytes, get_value, show, Bounds, Number, SHELL, WINDOW};
 use model::matching::{all_rows, beats_the_rest, highest_row, positions, winner};
@@ -32,7 +35,7 @@ use std::process::ExitCode;
 
 type Test = fn() -> Result<String, String>;
 
-const TESTS: [(&str, Test); 23] = [
+const TESTS: [(&str, Test); 24] = [
     ("examples", examples),
     ("booleans", booleans),
     ("limits", limits),
@@ -41,6 +44,7 @@ const TESTS: [(&str, Test); 23] = [
     ("slips", dotted::each_slip_shows),
     ("start-ups", start_ups),
     ("chain-limits", chain_limits),
+    ("depths", depths),
     ("combinations", combinations),
     ("short-buffers", short_buffers),
     ("lookup-order", lookup_order),
@@ -106,7 +110,8 @@ impl Lent {
     }
 
     fn read(&mut self, source: &Source) -> Result<Accepted, u8> {
-        image::read(&mut self.contents, &mut self.bodies, &source.texts(), &source.archive).map_err(|refusal| refusal.number())
+        image::read(&mut self.contents, &mut self.bodies, &source.texts(), &source.archive, source.depth)
+            .map_err(|refusal| refusal.number())
     }
 
     fn is_untouched(&self) -> bool {
@@ -239,6 +244,38 @@ fn chain_limits() -> Result<String, String> {
     at(&at_limits())
 }
 
+/// The sentences of document 02 (x): what a depth reads, with 15 for one over 100, after 3 and before 4 to 7, which changes nothing.
+fn depths() -> Result<String, String> {
+    let files: [(&[u8], &[u8]); 2] = [(b"p", b"#include \"q\"\np:"), (b"q", b"#include \"p\"\nq:")];
+    let source = Source::with(b"#include \"p\"\nm:", &files);
+    // The files include each other, and each has an entry behind its include.
+    for depth in [0, 1, 2, 3, DEFAULT_DEPTH, 99, GREATEST_DEPTH] {
+        let mut lent = Lent::new();
+        let accepted = lent.read(&source.at(depth)).map(|accepted| (accepted.entries as u64, accepted.opens as u64));
+        same("entries and opens", accepted, Ok((depth + 1, depth)))?;
+        let keys: Vec<u8> = records::listed(&lent.contents, &lent.bodies).into_iter().map(|(key, _)| key[1]).collect();
+        let expected: Vec<u8> = (0..=depth).rev().map(|at| if at == 0 { b'm' } else { b"qp"[(at % 2) as usize] }).collect();
+        same("keys", keys, expected)?;
+    }
+    let wide = Source::plain(&[&b"a.".repeat(16)[..], b"a:"].concat());
+    let bad = Source { archive: vec![], ..source.clone() };
+    for depth in [GREATEST_DEPTH + 1, 256, 1 << 32, u64::MAX] {
+        for (source, number) in [(&source, 15), (&wide, 15), (&bad, 3)] {
+            let mut lent = Lent::new();
+            same("a depth over 100", lent.read(&source.at(depth)), Err(number))?;
+            same("buffers", lent.is_untouched(), true)?;
+        }
+    }
+    // Striking off is at one depth for both readings.
+    for depth in [0, 1, 2, 7] {
+        let (mut first, mut second) = (Lent::new(), Lent::new());
+        let opens = |accepted: Accepted| accepted.opens as u64;
+        same("with q", first.read(&source.at(depth)).map(opens), Ok(depth))?;
+        same("without q", second.read(&source.at(depth).struck(1)).map(opens), Ok(depth.min(1)))?;
+    }
+    Ok("7 depths, and 4 over 100".to_string())
+}
+
 /// The sentences of document 02 (iii): what a name looks for from a folder, and that the file of that name is the one that is
 /// found, with that name on its chain of includes.
 fn dotted_names() -> Result<String, String> {
@@ -248,7 +285,8 @@ fn dotted_names() -> Result<String, String> {
         same(&label, target(&path.folder, &path.name), path.target.clone())?;
         let source = path.source();
         let archive = judge(&source.archive).ok_or("no archive")?;
-        let reading = reading::read(&source.texts(), &archive).map_err(|refusal| format!("refused {}", refusal.number()))?;
+        let reading =
+            reading::read(&source.texts(), &archive, source.depth).map_err(|refusal| format!("refused {}", refusal.number()))?;
         let found: Vec<&reading::Entry> = reading.entries.iter().filter(|entry| write_key(&entry.key) == b".p").collect();
         same(&label, found.iter().map(|entry| entry.value.clone()).collect(), Vec::from_iter(path.target.clone()))?;
         let last = found.first().and_then(|entry| entry.chain.last()).map(|name| name.to_vec());
@@ -312,7 +350,7 @@ fn the_way_counts() -> Result<(), String> {
     let read = |text: &[u8], files: &[(&[u8], &[u8])]| {
         let source = Source::with(text, files);
         let archive = judge(&source.archive).expect("a good archive");
-        reading::read(&source.texts(), &archive).expect("a reading within limits")
+        reading::read(&source.texts(), &archive, source.depth).expect("a reading within limits")
     };
     let include = |name: &[u8]| [b"#include \"", name, b"\"\n"].concat();
     let way = |times: usize| [b"./".repeat(times), b"d/p".to_vec()].concat();
@@ -745,7 +783,8 @@ fn origins() -> Result<String, String> {
     ];
     for (texts, expected) in cases {
         let mut lent = Lent::new();
-        image::read(&mut lent.contents, &mut lent.bodies, texts, &archive).map_err(|refusal| format!("{refusal:?}"))?;
+        image::read(&mut lent.contents, &mut lent.bodies, texts, &archive, DEFAULT_DEPTH)
+            .map_err(|refusal| format!("{refusal:?}"))?;
         let found: Vec<u16> = (0..usize::from(lent.contents[0])).map(|number| lent.contents[5 + ROW_WORDS * number]).collect();
         same("origins", &found[..], expected)?;
         same("zero behind", lent.is_zero_after(expected.len()), true)?;

@@ -2,12 +2,15 @@
 //!
 //!     port_beside compare FAMILY SEED TIMES ROOM    compares one family of readings
 //!     port_beside families                          lists the families
+//!     port_beside compare-depths FAMILY SEED TIMES ROOM   compares one family with includes at depths other than the Rust's
+//!     port_beside nested                            lists these families
 //!     port_beside ask FAMILY SEED TIMES ROOM        compares one family of lookups
 //!     port_beside ask-window FAMILY SEED TIMES ROOM the same by the dictionary window's lookups
 //!     port_beside inquiries                         lists the families of lookups
 //!     port_beside strike FAMILY SEED TIMES ROOM     tries the third term on one family of archives
 //!     port_beside compare-without FAMILY SEED TIMES ROOM   the same by the comparing call
 //!     port_beside strikes                           lists the families of archives
+//!     port_beside strike-depths FAMILY SEED TIMES ROOM    the third term at other depths, by main texts' comparing call too
 //!     port_beside write FAMILY SEED TIMES ROOM      compares the writing of one family of images
 //!     port_beside migrate FAMILY SEED TIMES ROOM    compares the carrying over of one family of images, with rows of three words
 //!     port_beside writings                          lists the families of images
@@ -41,6 +44,8 @@ mod comparing;
 mod comparing_faults;
 #[path = "port/comparing_tests.rs"]
 mod comparing_tests;
+#[path = "port/depth_tests.rs"]
+mod depth_tests;
 mod ending;
 #[path = "port/faults.rs"]
 mod faults;
@@ -125,12 +130,15 @@ fn main() -> ExitCode {
     let result = match words[..] {
         ["compare", family, seed, times, room] => compare(family, seed, times, room),
         ["families"] => Ok(names(&families())),
+        ["compare-depths", family, seed, times, room] => compare_depths(family, seed, times, room),
+        ["nested"] => Ok(NESTED.join("\n")),
         ["ask", family, seed, times, room] => ask(asking::PORTS, family, seed, times, room),
         ["ask-window", family, seed, times, room] => ask(asking::WINDOWS, family, seed, times, room),
         ["inquiries"] => Ok(names(&lookups::FAMILIES)),
         ["strike", family, seed, times, _] => strike(family, seed, times),
         ["compare-without", family, seed, times, _] => compare_without(family, seed, times),
         ["strikes"] => Ok(names(&strikes())),
+        ["strike-depths", family, seed, times, _] => strike_depths(family, seed, times),
         ["write", family, seed, times, _] => write(family, seed, times),
         ["migrate", family, seed, times, _] => migrate(family, seed, times),
         ["writings"] => Ok(names(&images::FAMILIES)),
@@ -189,6 +197,55 @@ fn compare(name: &str, seed: &str, times: &str, room: &str) -> Result<String, St
         every_combination(&met)?;
     }
     run.counts.report()
+}
+
+/// Depths other than the Rust's: the least, around 20 and 100, and those over 100 whose low bits are not.
+const DEPTHS: [u64; 17] = [0, 1, 20, 2, 101, 3, 20, 19, 21, 99, 5, 102, 256, 65_536 + 20, (1 << 32) + 3, 1 << 63, u64::MAX];
+
+/// The families that have includes.
+const NESTED: [&str; 12] = [
+    "include-lines",
+    "dotted-by-name",
+    "dotted-ways",
+    "limits",
+    "near-limits",
+    "archives",
+    "realistic",
+    "damaged-archives",
+    "chains-by-name",
+    "chain-limits",
+    "chains",
+    "chains-near-limits",
+];
+
+/// Each reading at one of the depths in turn.
+fn compare_depths(name: &str, seed: &str, times: &str, room: &str) -> Result<String, String> {
+    let family = find(&families(), name)?;
+    let mut run = Run::new(both::PORTS, room);
+    let mut turn = 0;
+    family(extent(seed, times)?, &mut |source| {
+        turn += 1;
+        run.see(&source.at(DEPTHS[turn % DEPTHS.len()])).map(drop)
+    })?;
+    run.counts.report()
+}
+
+/// The third term at small depths and at 20, by two readings and, of a main text, by the comparing call.
+fn strike_depths(family: &str, seed: &str, times: &str) -> Result<String, String> {
+    let family = find(&strikes(), family)?;
+    let mut third = Third::new(both::PORTS, port::get_bytes_word, |answers| answers);
+    let mut comparing = Comparing::new(comparing::PORTS);
+    let mut turn = 0;
+    family(extent(seed, times)?, &mut |source, which, queries| {
+        turn += 1;
+        let source = source.at([1, 2, 20, 3, 0, 20, 4][turn % 7]);
+        third.see(&source, which, queries)?;
+        match source.start {
+            Start::Text(_) => comparing.see(&source, which, queries),
+            Start::Chain(_) => Ok(()),
+        }
+    })?;
+    third.counts.report()
 }
 
 fn ask(lookups: Lookups, family: &str, seed: &str, times: &str, room: &str) -> Result<String, String> {

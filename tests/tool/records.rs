@@ -3,7 +3,7 @@
 
 use model::archive::{lay_out, strike, File};
 use model::image;
-use model::limits::{Refusal, BODIES_BYTES, CONTENTS_WORDS};
+use model::limits::{Refusal, BODIES_BYTES, CONTENTS_WORDS, GREATEST_DEPTH};
 use model::line::write_key;
 use model::lookup::{get_bool, get_bytes, get_string, get_value, Number};
 use model::startup::StartUp;
@@ -14,6 +14,8 @@ pub struct Source {
     pub start: Start,
     /// Laid out as bytes.
     pub archive: Vec<u8>,
+    /// The greatest, which is the Rust's, unless it is said.
+    pub depth: u64,
 }
 
 /// Where the texts of a reading come from.
@@ -27,11 +29,16 @@ pub enum Start {
 
 impl Source {
     pub fn text(text: Vec<u8>, archive: Vec<u8>) -> Self {
-        Self { start: Start::Text(text), archive }
+        Self { start: Start::Text(text), archive, depth: GREATEST_DEPTH }
     }
 
     pub fn chain(start_up: StartUp, archive: Vec<u8>) -> Self {
-        Self { start: Start::Chain(start_up), archive }
+        Self { start: Start::Chain(start_up), archive, depth: GREATEST_DEPTH }
+    }
+
+    /// The same at another depth.
+    pub fn at(&self, depth: u64) -> Self {
+        Self { depth, ..self.clone() }
     }
 
     /// A main text with an archive of no files.
@@ -62,7 +69,7 @@ impl Source {
 
     /// The same with a file of its archive struck off.
     pub fn struck(&self, which: usize) -> Self {
-        Self { start: self.start.clone(), archive: strike(&self.archive, which) }
+        Self { archive: strike(&self.archive, which), ..self.clone() }
     }
 }
 
@@ -188,7 +195,7 @@ pub fn parse_line(line: &str) -> Result<(Case, Answer), String> {
         CHAIN => (Kind::Read, Start::Chain(take_chain(&mut next)?)),
         word => (kind_of(word)?, Start::Text(unhex(next()?)?)),
     };
-    let source = Source { start, archive: unhex(next()?)? };
+    let source = Source { start, archive: unhex(next()?)?, depth: GREATEST_DEPTH };
     let query = match kind {
         Kind::Read => Query::new(b"", b""),
         _ => Query { name: unhex(next()?)?, class: unhex(next()?)? },
@@ -278,7 +285,7 @@ pub fn listed(contents: &[u16], bodies: &[u8]) -> Vec<(Vec<u8>, Vec<u8>)> {
 /// What the model answers to a case, or its refusal.
 pub fn model_answer(case: &Case) -> Result<Answer, Refusal> {
     let (mut contents, mut bodies) = buffers();
-    let accepted = image::read(&mut contents, &mut bodies, &case.source.texts(), &case.source.archive)?;
+    let accepted = image::read(&mut contents, &mut bodies, &case.source.texts(), &case.source.archive, case.source.depth)?;
     let (name, class) = (&case.query.name[..], &case.query.class[..]);
     Ok(match case.kind {
         Kind::Read => Answer::Read { opens: accepted.opens, entries: listed(&contents, &bodies) },

@@ -7,7 +7,7 @@ use Prim.Native.Nat.{ℕ, zero, suc, _+_, _-_, _≤_, _<_}
 use native.Mathlib.Omega.{arith}
 use lib.ListN.{length, take, drop, drop-of-length-le}
 use lib.Seq.{drop-drop}
-use Rattle.definition.specs.Limits.{deepest}
+use Rattle.definition.specs.Limits.{defaultDepth}
 use Rattle.definition.specs.Archive.{archiveOf, filesOf, filesFrom, lengthsOf, bodiesOf, bodyOf, pathOf}
 use Rattle.definition.specs.Text.{skipped, include, entry, linesOf}
 use Rattle.definition.specs.Text as text
@@ -46,8 +46,8 @@ events-entered inc f (entry e ∷ ls) = ap (λ (es : List text.Entry). e ∷ es)
 pub added-entered : (t : List ℕ) → entriesAdded t ≡ enteredBy (linesOf t)
 unfolding entriesAdded events eventsOfAll archiveOf filesOf filesFrom lengthsOf bodiesOf
 added-entered t =
-    ap (λ es. plain (entriesOf es)) (append-nil (events deepest [] t))
-    ∙ events-entered (including deepest [] [] []) (includes-none deepest []) (linesOf t)
+    ap (λ es. plain (entriesOf es)) (append-nil (events defaultDepth [] t))
+    ∙ events-entered (including defaultDepth [] [] []) (includes-none defaultDepth []) (linesOf t)
 
 -- ---- The loop over lines
 

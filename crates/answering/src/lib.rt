@@ -11,11 +11,14 @@ use answers::answer;
 use answers_listed::LISTED_BYTES;
 use answers_listed::list_entries;
 use answers_without::answer_twice;
+use argument_words::depth_of;
 use command_line::argument;
 use database_text::write_database;
 use io::write_all;
 use libc::STDERR_FILENO;
 use libc::STDOUT_FILENO;
+use limits::DEFAULT_DEPTH;
+use limits::GREATEST_DEPTH;
 use limits::WRITTEN_BYTES;
 use plans::Plan;
 use plans::given;
@@ -33,11 +36,26 @@ fn class_argument(i: usize, buffer: &mut [u8]) -> usize
     argument(i, buffer)
 }
 
+// The depth of the reading: the one that is asked for; else that of a call that is given none, which for a chain is the greatest.
+pub fn depth_asked(plan: Plan) -> u64 {
+    let i = given(plan, options::DEPTH);
+    if i != 0 {
+        let mut word = io::buffer();
+        let n = argument(i, &mut word);
+        return depth_of(&word[..n]);
+    }
+    if plan.chain {
+        return GREATEST_DEPTH;
+    }
+    DEFAULT_DEPTH
+}
+
 // What is told of the query; with the file that an argument names and without it, if there is one.
 fn report_on(
     without: usize,
     texts: &[&[u8]],
     archive: &[u8],
+    depth: u64,
     name: &[u8],
     class: &[u8],
     out: &mut [u8],
@@ -46,11 +64,11 @@ fn report_on(
     ensures { λ r. ⌜ Counts (r .size) (now (out .exit)) ⌝ }
 {
     if without == 0 {
-        return answer(texts, archive, name, class, out);
+        return answer(texts, archive, depth, name, class, out);
     }
     let mut file = io::buffer();
     let n = argument(without, &mut file);
-    answer_twice(texts, archive, &file[..n], name, class, out)
+    answer_twice(texts, archive, depth, &file[..n], name, class, out)
 }
 
 // Writes a report, and answers its status, which is 2 if an answer cannot be written.
@@ -66,25 +84,32 @@ fn tell(report: Report, bytes: &[u8]) -> u8 {
     2
 }
 
-fn answer_query(without: usize, texts: &[&[u8]], archive: &[u8], name: &[u8], class: &[u8]) -> u8
+fn answer_query(
+    without: usize,
+    texts: &[&[u8]],
+    archive: &[u8],
+    depth: u64,
+    name: &[u8],
+    class: &[u8],
+) -> u8
     requires { ⌜ laidOut (now archive) ≡ true ⌝ }
 {
     let mut out = [0; REPORT_BYTES];
-    let report = report_on(without, texts, archive, name, class, &mut out);
+    let report = report_on(without, texts, archive, depth, name, class, &mut out);
     let size = report.size;
     tell(report, &out[..size])
 }
 
-fn write_out(texts: &[&[u8]], archive: &[u8]) -> u8 {
+fn write_out(texts: &[&[u8]], archive: &[u8], depth: u64) -> u8 {
     let mut out = [0; WRITTEN_BYTES];
-    let report = write_database(texts, archive, &mut out);
+    let report = write_database(texts, archive, depth, &mut out);
     let size = report.size;
     tell(report, &out[..size])
 }
 
-fn list_out(texts: &[&[u8]], archive: &[u8], name: &[u8], class: &[u8]) -> u8 {
+fn list_out(texts: &[&[u8]], archive: &[u8], depth: u64, name: &[u8], class: &[u8]) -> u8 {
     let mut out = [0; LISTED_BYTES];
-    let report = list_entries(texts, archive, name, class, &mut out);
+    let report = list_entries(texts, archive, depth, name, class, &mut out);
     let size = report.size;
     tell(report, &out[..size])
 }
@@ -93,20 +118,22 @@ fn list_out(texts: &[&[u8]], archive: &[u8], name: &[u8], class: &[u8]) -> u8 {
 pub fn answer_plan(plan: Plan, texts: &[&[u8]], archive: &[u8]) -> u8
     requires { ⌜ laidOut (now archive) ≡ true ⌝ }
 {
+    let depth = depth_asked(plan);
     if plan.write {
-        return write_out(texts, archive);
+        return write_out(texts, archive, depth);
     }
     let mut name = io::buffer();
     let n = argument(given(plan, options::NAME), &mut name);
     let mut class = io::buffer();
     let m = class_argument(given(plan, options::CLASS), &mut class);
     if plan.list {
-        return list_out(texts, archive, &name[..n], &class[..m]);
+        return list_out(texts, archive, depth, &name[..n], &class[..m]);
     }
     answer_query(
         given(plan, options::WITHOUT),
         texts,
         archive,
+        depth,
         &name[..n],
         &class[..m],
     )

@@ -37,22 +37,22 @@ inside-refused b (Found p n) k e = absurd (let z : _≡_ {A = ℕ} 0 1 = cc in o
 inside-refused b Nothing k e = tt
 inside-refused b (Refused j) k e = tt
 
-module _ (texts : List (List ℕ)) (archive contents bodies : List ℕ) (r : Reads texts archive contents bodies) where
+module _ (depth : ℕ) (texts : List (List ℕ)) (archive contents bodies : List ℕ) (r : Reads depth texts archive contents bodies) where
   abbrev es : List Entry
-  es = plain (readEntries texts archive)
+  es = plain (readEntries depth texts archive)
 
   abbrev c : List ℕ
-  c = reading texts archive contents bodies .contents
+  c = reading depth texts archive contents bodies .contents
 
   abbrev b : List ℕ
-  b = reading texts archive contents bodies .bodies
+  b = reading depth texts archive contents bodies .bodies
 
   module _ (name class : List ℕ) (x : Lookup) (h : replied x ≡ getBytes c b name class) where
     bytes-are : answerIn b (replied x) ≡ answerOf es (queryOf name class)
-    bytes-are = ap (answerIn b) h ∙ reading-answers texts archive contents bodies r shell name class
+    bytes-are = ap (answerIn b) h ∙ reading-answers depth texts archive contents bodies r shell name class
 
     apart : ((k : ℕ) → queryOf name class ≡ pastLimit k → ⊥) → (k : ℕ) → replied x ≡ refused k → ⊥
-    apart g k e = reading-replies texts archive contents bodies r shell name class g k (sym h ∙ e)
+    apart g k e = reading-replies depth texts archive contents bodies r shell name class g k (sym h ∙ e)
 
     shown-is : shownOf b x ≡ ofQuery es (queryOf name class)
     unfolding ofQuery answerOf
@@ -62,34 +62,34 @@ module _ (texts : List (List ℕ)) (archive contents bodies : List ℕ) (r : Rea
         at (positions qs) e =
             shown-bytes b x (answerOf es (positions qs)) (bytes-are ∙ ap (answerOf es) e) (apart (λ k f. let z : _≡_ {A = ℕ} 0 1 = cc in omega arith))
         at malformed e = shown-bytes b x none (bytes-are ∙ ap (answerOf es) e) (apart (λ k f. let z : _≡_ {A = ℕ} 0 1 = cc in omega arith))
-        at (pastLimit k) e = shown-refused b x k (h ∙ sym (past shell c b name class (reading-image texts archive contents bodies r) k e))
+        at (pastLimit k) e = shown-refused b x k (h ∙ sym (past shell c b name class (reading-image depth texts archive contents bodies r) k e))
 
-module _ (texts : List (List ℕ)) (archive name class contents bodies c b : List ℕ) where
-  refused-shown : (x : Lookup) (k : ℕ) → reading texts archive contents bodies .answer ≡ refusedReading k → replied x ≡ refused k
-      → (shownOf b x ≡ answerShown texts archive name class contents bodies) × LiesIn x (length b)
+module _ (depth : ℕ) (texts : List (List ℕ)) (archive name class contents bodies c b : List ℕ) where
+  refused-shown : (x : Lookup) (k : ℕ) → reading depth texts archive contents bodies .answer ≡ refusedReading k → replied x ≡ refused k
+      → (shownOf b x ≡ answerShown depth texts archive name class contents bodies) × LiesIn x (length b)
   unfolding answerShown ofReading
   refused-shown x k e h = (shown-refused b x k h ∙ rw e refl, inside-refused b x k h)
 
-  accepted-shown : (x : Lookup) (n o : ℕ) → reading texts archive contents bodies .answer ≡ accepted n o → c ≡ reading texts archive contents bodies .contents
-      → b ≡ reading texts archive contents bodies .bodies → replied x ≡ getBytes c b name class
-      → (shownOf b x ≡ answerShown texts archive name class contents bodies) × LiesIn x (length b)
+  accepted-shown : (x : Lookup) (n o : ℕ) → reading depth texts archive contents bodies .answer ≡ accepted n o → c ≡ reading depth texts archive contents bodies .contents
+      → b ≡ reading depth texts archive contents bodies .bodies → replied x ≡ getBytes c b name class
+      → (shownOf b x ≡ answerShown depth texts archive name class contents bodies) × LiesIn x (length b)
   unfolding answerShown ofReading
   accepted-shown x n o e ec eb h =
-      let reads : Reads texts archive contents bodies = accepted-reads texts archive contents bodies (rw e refl) in
-      let h′ : replied x ≡ getBytes (reading texts archive contents bodies .contents) (reading texts archive contents bodies .bodies) name class =
-      h ∙ ap (λ (y : List ℕ). getBytes y b name class) ec ∙ ap (λ (y : List ℕ). getBytes (reading texts archive contents bodies .contents) y name class) eb in
-      (ap (λ (y : List ℕ). shownOf y x) eb ∙ shown-is texts archive contents bodies reads name class x h′ ∙ rw e refl, bytes-within shell c b name class x h)
+      let reads : Reads depth texts archive contents bodies = accepted-reads depth texts archive contents bodies (rw e refl) in
+      let h′ : replied x ≡ getBytes (reading depth texts archive contents bodies .contents) (reading depth texts archive contents bodies .bodies) name class =
+      h ∙ ap (λ (y : List ℕ). getBytes y b name class) ec ∙ ap (λ (y : List ℕ). getBytes (reading depth texts archive contents bodies .contents) y name class) eb in
+      (ap (λ (y : List ℕ). shownOf y x) eb ∙ shown-is depth texts archive contents bodies reads name class x h′ ∙ rw e refl, bytes-within shell c b name class x h)
 
   -- what was looked up shows what the definition answers, and lies in the bodies
-  pub looked : (x : Lookup) → LooksUp texts archive name class contents bodies c b x → (shownOf b x ≡ answerShown texts archive name class contents bodies) × LiesIn x (length b)
+  pub looked : (x : Lookup) → LooksUp depth texts archive name class contents bodies c b x → (shownOf b x ≡ answerShown depth texts archive name class contents bodies) × LiesIn x (length b)
   unfolding afterReading
-  looked x l = at (reading texts archive contents bodies .answer) refl
+  looked x l = at (reading depth texts archive contents bodies .answer) refl
     where
-      at : (a : Answer) → reading texts archive contents bodies .answer ≡ a → (shownOf b x ≡ answerShown texts archive name class contents bodies) × LiesIn x (length b)
+      at : (a : Answer) → reading depth texts archive contents bodies .answer ≡ a → (shownOf b x ≡ answerShown depth texts archive name class contents bodies) × LiesIn x (length b)
       at (accepted n o) e = accepted-shown x n o e (l .contents-left) (l .bodies-left) (l .answers ∙ ap (λ (a : Answer). afterReading a (getBytes c b name class)) e)
       at (refusedReading k) e = refused-shown x k e (l .answers ∙ ap (λ (a : Answer). afterReading a (getBytes c b name class)) e)
 
-  pub refused-looks : (k : ℕ) → outcome (refusedReading k) c b ≡ reading texts archive contents bodies → LooksUp texts archive name class contents bodies c b (Refused k)
+  pub refused-looks : (k : ℕ) → outcome (refusedReading k) c b ≡ reading depth texts archive contents bodies → LooksUp depth texts archive name class contents bodies c b (Refused k)
   unfolding afterReading
   refused-looks k e = record {
     answers = ap (λ (o : Outcome). afterReading (o .answer) (getBytes c b name class)) e;
@@ -97,8 +97,8 @@ module _ (texts : List (List ℕ)) (archive name class contents bodies c b : Lis
     bodies-left = ap (λ (o : Outcome). o .bodies) e;
   }
 
-  pub accepted-looks : (n o : ℕ) (x : Lookup) → outcome (accepted n o) c b ≡ reading texts archive contents bodies → replied x ≡ getBytes c b name class
-      → LooksUp texts archive name class contents bodies c b x
+  pub accepted-looks : (n o : ℕ) (x : Lookup) → outcome (accepted n o) c b ≡ reading depth texts archive contents bodies → replied x ≡ getBytes c b name class
+      → LooksUp depth texts archive name class contents bodies c b x
   unfolding afterReading
   accepted-looks n o x e h = record {
     answers = h ∙ ap (λ (p : Outcome). afterReading (p .answer) (getBytes c b name class)) e;

@@ -12,8 +12,8 @@ use Rattle.reports.proofs.Telling.{reports-of}
 use Rattle.answers.specs.Answering.{LooksUp, answerTold}
 use Rattle.answers.proofs.Showing.{looked}
 
-pub answer-told : (texts : List (List ℕ)) (archive name class : List ℕ) {c b out out′ : List ℕ} {x : Lookup} {r : Report}
-    → LooksUp texts archive name class (zeroes contentsWords) (zeroes bodyBytes) c b x → Reports (told (shownOf b x)) out out′ r
-    → Reports (answerTold texts archive name class) out out′ r
+pub answer-told : (depth : ℕ) (texts : List (List ℕ)) (archive name class : List ℕ) {c b out out′ : List ℕ} {x : Lookup} {r : Report}
+    → LooksUp depth texts archive name class (zeroes contentsWords) (zeroes bodyBytes) c b x → Reports (told (shownOf b x)) out out′ r
+    → Reports (answerTold depth texts archive name class) out out′ r
 unfolding answerTold
-answer-told texts archive name class {c} {b} {x = x} l p = reports-of (ap told (looked texts archive name class (zeroes contentsWords) (zeroes bodyBytes) c b x l .0)) p
+answer-told depth texts archive name class {c} {b} {x = x} l p = reports-of (ap told (looked depth texts archive name class (zeroes contentsWords) (zeroes bodyBytes) c b x l .0)) p

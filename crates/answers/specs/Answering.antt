@@ -22,10 +22,10 @@ afterReading (accepted entries opens) r = r
 afterReading (refused k) r = refusedLookup k
 
 -- the answer, and both buffers, which are the reading's
-pub record LooksUp (texts : List (List ℕ)) (archive name class contents bodies contents′ bodies′ : List ℕ) (r : Lookup) : Type 0 where
-  pub answers : replied r ≡ afterReading (reading texts archive contents bodies .answer) (getBytes contents′ bodies′ name class)
-  pub contents-left : contents′ ≡ reading texts archive contents bodies .contents
-  pub bodies-left : bodies′ ≡ reading texts archive contents bodies .bodies
+pub record LooksUp (depth : ℕ) (texts : List (List ℕ)) (archive name class contents bodies contents′ bodies′ : List ℕ) (r : Lookup) : Type 0 where
+  pub answers : replied r ≡ afterReading (reading depth texts archive contents bodies .answer) (getBytes contents′ bodies′ name class)
+  pub contents-left : contents′ ≡ reading depth texts archive contents bodies .contents
+  pub bodies-left : bodies′ ≡ reading depth texts archive contents bodies .bodies
 
 -- ---- What the definition answers
 
@@ -42,13 +42,13 @@ unfoldable pub ofReading : Answer → Shown → Shown
 ofReading (accepted entries opens) shows = shows
 ofReading (refused k) shows = refusedBy k
 
--- of texts, an archive, a query's name and class, and the buffers lent to the reading
-unfoldable pub answerShown : List (List ℕ) → List ℕ → List ℕ → List ℕ → List ℕ → List ℕ → Shown
-answerShown texts archive name class contents bodies =
-    ofReading (reading texts archive contents bodies .answer) (ofQuery (plain (readEntries texts archive)) (queryOf name class))
+-- of a depth, texts, an archive, a query's name and class, and the buffers lent to the reading
+unfoldable pub answerShown : ℕ → List (List ℕ) → List ℕ → List ℕ → List ℕ → List ℕ → List ℕ → Shown
+answerShown depth texts archive name class contents bodies =
+    ofReading (reading depth texts archive contents bodies .answer) (ofQuery (plain (readEntries depth texts archive)) (queryOf name class))
 
 -- ---- What is told
 
--- of texts, an archive, and a query's name and class
-unfoldable pub answerTold : List (List ℕ) → List ℕ → List ℕ → List ℕ → Told
-answerTold texts archive name class = told (answerShown texts archive name class (zeroes contentsWords) (zeroes bodyBytes))
+-- of a depth, texts, an archive, and a query's name and class
+unfoldable pub answerTold : ℕ → List (List ℕ) → List ℕ → List ℕ → List ℕ → Told
+answerTold depth texts archive name class = told (answerShown depth texts archive name class (zeroes contentsWords) (zeroes bodyBytes))

@@ -13,18 +13,19 @@ use reader::read_texts;
 use reports::Report;
 use reports::tell;
 
-// Reads the texts with the archive, and looks the query up in what was read.
+// Reads the texts with the archive at that depth, and looks the query up in what was read.
 fn look_up(
     texts: &[&[u8]],
     archive: &[u8],
+    depth: u64,
     name: &[u8],
     class: &[u8],
     contents: &mut [u16],
     bodies: &mut [u8],
 ) -> Lookup
-    ensures { λ r. ⌜ LooksUp (map now (now (texts .entry))) (now (archive .entry)) (now (name .entry)) (now (class .entry)) (now (contents .entry)) (now (bodies .entry)) (now (contents .exit)) (now (bodies .exit)) r ⌝ }
+    ensures { λ r. ⌜ LooksUp depth (map now (now (texts .entry))) (now (archive .entry)) (now (name .entry)) (now (class .entry)) (now (contents .entry)) (now (bodies .entry)) (now (contents .exit)) (now (bodies .exit)) r ⌝ }
 {
-    let answer = read_texts(texts, archive, contents, bodies);
+    let answer = read_texts(texts, archive, depth, contents, bodies);
     match answer {
         Answer::Refused(number) => Lookup::Refused(number),
         Answer::Accepted(_, _) => get_bytes(contents, bodies, name, class),
@@ -32,12 +33,27 @@ fn look_up(
 }
 
 // The value that a name and a class get from texts and their files, none, or a refusal.
-pub fn answer(texts: &[&[u8]], archive: &[u8], name: &[u8], class: &[u8], out: &mut [u8]) -> Report
+pub fn answer(
+    texts: &[&[u8]],
+    archive: &[u8],
+    depth: u64,
+    name: &[u8],
+    class: &[u8],
+    out: &mut [u8],
+) -> Report
     requires { ⌜ reportBytes ≤ length (now out) ⌝ }
-    ensures { λ r. ⌜ Reports (answerTold (map now (now (texts .entry))) (now (archive .entry)) (now (name .entry)) (now (class .entry))) (now (out .entry)) (now (out .exit)) r ⌝ }
+    ensures { λ r. ⌜ Reports (answerTold depth (map now (now (texts .entry))) (now (archive .entry)) (now (name .entry)) (now (class .entry))) (now (out .entry)) (now (out .exit)) r ⌝ }
 {
     let mut contents = [0; CONTENTS_WORDS];
     let mut bodies = [0; BODY_BYTES];
-    let found = look_up(texts, archive, name, class, &mut contents, &mut bodies);
+    let found = look_up(
+        texts,
+        archive,
+        depth,
+        name,
+        class,
+        &mut contents,
+        &mut bodies,
+    );
     tell(found, &bodies, out)
 }

@@ -102,22 +102,22 @@ module _ (contents bodies archive name class : List ℕ) where
 
 -- ---- What was read
 
-module _ (texts : List (List ℕ)) (archive name class : List ℕ) where
+module _ (depth : ℕ) (texts : List (List ℕ)) (archive name class : List ℕ) where
   abbrev read : Outcome
-  read = reading texts archive (zeroes contentsWords) (zeroes bodyBytes)
+  read = reading depth texts archive (zeroes contentsWords) (zeroes bodyBytes)
 
   module _ {c b : List ℕ} (n o : ℕ) (e : outcome (accepted n o) c b ≡ read) where
-    holds : (laidOut archive ≡ true) × (sourcesOfImage c b ≡ sourced (filesOf archive) (readEntries texts archive))
-    holds = read-sourced texts archive (zeroes contentsWords) (zeroes bodyBytes) c b n o e
+    holds : (laidOut archive ≡ true) × (sourcesOfImage c b ≡ sourced (filesOf archive) (readEntries depth texts archive))
+    holds = read-sourced depth texts archive (zeroes contentsWords) (zeroes bodyBytes) c b n o e
 
     pub read-image : (isImage c b ≡ true) × (laidOut archive ≡ true)
-    read-image = (read-holds texts archive (zeroes contentsWords) (zeroes bodyBytes) c b n o e .0, holds .0)
+    read-image = (read-holds depth texts archive (zeroes contentsWords) (zeroes bodyBytes) c b n o e .0, holds .0)
 
-    pub list-told : {out out′ : List ℕ} {r : Report} → Reports (queryTold (filesOf archive) (queryOf name class) (sourcesOfImage c b)) out out′ r → Reports (listTold texts archive name class) out out′ r
+    pub list-told : {out out′ : List ℕ} {r : Report} → Reports (queryTold (filesOf archive) (queryOf name class) (sourcesOfImage c b)) out out′ r → Reports (listTold depth texts archive name class) out out′ r
     unfolding listTold readTold
     list-told p = reports-of (ap (queryTold (filesOf archive) (queryOf name class)) (holds .1) ∙ rw (← e) refl) p
 
   pub refused-told : {c b : List ℕ} (k : ℕ) → outcome (refused k) c b ≡ read → {out out′ : List ℕ} {r : Report} → Reports (refusalTold k) out out′ r
-      → Reports (listTold texts archive name class) out out′ r
+      → Reports (listTold depth texts archive name class) out out′ r
   unfolding listTold readTold
-  refused-told k e p = reports-of (ap (λ (x : Outcome). readTold (x .answer) (queryTold (filesOf archive) (queryOf name class) (sourced (filesOf archive) (readEntries texts archive)))) e) p
+  refused-told k e p = reports-of (ap (λ (x : Outcome). readTold (x .answer) (queryTold (filesOf archive) (queryOf name class) (sourced (filesOf archive) (readEntries depth texts archive)))) e) p

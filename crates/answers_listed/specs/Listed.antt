@@ -31,7 +31,7 @@ unfoldable pub readTold : Answer → Told → Told
 readTold (accepted n opens) t = t
 readTold (refused k) t = refusalTold k
 
--- of texts, an archive, and a query's name and class
-unfoldable pub listTold : List (List ℕ) → List ℕ → List ℕ → List ℕ → Told
-listTold texts archive name class =
-    readTold (reading texts archive (zeroes contentsWords) (zeroes bodyBytes) .answer) (queryTold (filesOf archive) (queryOf name class) (sourced (filesOf archive) (readEntries texts archive)))
+-- of a depth, texts, an archive, and a query's name and class
+unfoldable pub listTold : ℕ → List (List ℕ) → List ℕ → List ℕ → List ℕ → Told
+listTold depth texts archive name class =
+    readTold (reading depth texts archive (zeroes contentsWords) (zeroes bodyBytes) .answer) (queryTold (filesOf archive) (queryOf name class) (sourced (filesOf archive) (readEntries depth texts archive)))

@@ -64,16 +64,17 @@ fn list_image(
 pub fn list_entries(
     texts: &[&[u8]],
     archive: &[u8],
+    depth: u64,
     name: &[u8],
     class: &[u8],
     out: &mut [u8],
 ) -> Report
     requires { ⌜ listedBytes ≤ length (now out) ⌝ }
-    ensures { λ r. ⌜ Reports (listTold (map now (now (texts .entry))) (now (archive .entry)) (now (name .entry)) (now (class .entry))) (now (out .entry)) (now (out .exit)) r ⌝ }
+    ensures { λ r. ⌜ Reports (listTold depth (map now (now (texts .entry))) (now (archive .entry)) (now (name .entry)) (now (class .entry))) (now (out .entry)) (now (out .exit)) r ⌝ }
 {
     let mut contents = [0; CONTENTS_WORDS];
     let mut bodies = [0; BODY_BYTES];
-    let answer = read_texts(texts, archive, &mut contents, &mut bodies);
+    let answer = read_texts(texts, archive, depth, &mut contents, &mut bodies);
     match answer {
         Answer::Accepted(_, _) => list_image(&contents, &bodies, archive, name, class, out),
         Answer::Refused(number) => refuse(number, out),

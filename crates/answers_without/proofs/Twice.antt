@@ -29,20 +29,20 @@ both-inside c struck s c₁ b₁ c₂ b₂ x y second e =
       rw (ap (λ (l : Left). l .bodies′) (m .made)) (bytes-within (c .bounds) (withoutFile c .contents) (withoutFile c .bodies) (c .name) (c .class) y (m .second-looked)),
     )
 
-module _ (texts : List (List ℕ)) (archive : List ℕ) (number : ℕ) (file name class : List ℕ) where
+module _ (depth : ℕ) (texts : List (List ℕ)) (archive : List ℕ) (number : ℕ) (file name class : List ℕ) where
   abbrev left : Left
-  left = comparing (asked texts archive number name class (zeroes contentsWords) (zeroes bodyBytes) (zeroes contentsWords) (zeroes bodyBytes)) (zeroes archiveBytes)
+  left = comparing (asked depth texts archive number name class (zeroes contentsWords) (zeroes bodyBytes) (zeroes contentsWords) (zeroes bodyBytes)) (zeroes archiveBytes)
 
   module _ {s c₁ b₁ c₂ b₂ out out′ : List ℕ} {r : Report} where
     pub both-told : (x y : Lookup) (second : reader.Answer) → leaving (comparison.Both x y second) s c₁ b₁ c₂ b₂ ≡ left
-        → Reports (bothTold file (shownOf b₁ x) (shownOf b₂ y)) out out′ r → Reports (twiceTold texts archive number file name class) out out′ r
+        → Reports (bothTold file (shownOf b₁ x) (shownOf b₂ y)) out out′ r → Reports (twiceTold depth texts archive number file name class) out out′ r
     unfolding twiceTold comparedTold
     both-told x y second e p = reports-of (ap (λ (l : Left). comparedTold file l (l .answer)) e) p
 
-    pub none-told : leaving comparison.NoFile s c₁ b₁ c₂ b₂ ≡ left → Reports (notAmong file) out out′ r → Reports (twiceTold texts archive number file name class) out out′ r
+    pub none-told : leaving comparison.NoFile s c₁ b₁ c₂ b₂ ≡ left → Reports (notAmong file) out out′ r → Reports (twiceTold depth texts archive number file name class) out out′ r
     unfolding twiceTold comparedTold
     none-told e p = reports-of (ap (λ (l : Left). comparedTold file l (l .answer)) e) p
 
-    pub refused-told : (k : ℕ) → leaving (comparison.Refused k) s c₁ b₁ c₂ b₂ ≡ left → Reports (refused k) out out′ r → Reports (twiceTold texts archive number file name class) out out′ r
+    pub refused-told : (k : ℕ) → leaving (comparison.Refused k) s c₁ b₁ c₂ b₂ ≡ left → Reports (refused k) out out′ r → Reports (twiceTold depth texts archive number file name class) out out′ r
     unfolding twiceTold comparedTold
     refused-told k e p = reports-of (ap (λ (l : Left). comparedTold file l (l .answer)) e) p

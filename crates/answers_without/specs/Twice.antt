@@ -14,8 +14,8 @@ comparedTold file l (both a b second) = bothTold file (shownIn (l .bodies) a) (s
 comparedTold file l noFile = notAmong file
 comparedTold file l (refusedCall k) = refused k
 
--- of texts, an archive, the number of a file on it, the name it was asked for by, and a query's name and class
-unfoldable pub twiceTold : List (List ℕ) → List ℕ → ℕ → List ℕ → List ℕ → List ℕ → Told
-twiceTold texts archive number file name class =
-    let l = comparing (asked texts archive number name class (zeroes contentsWords) (zeroes bodyBytes) (zeroes contentsWords) (zeroes bodyBytes)) (zeroes archiveBytes) in
+-- of a depth, texts, an archive, the number of a file on it, the name it was asked for by, and a query's name and class
+unfoldable pub twiceTold : ℕ → List (List ℕ) → List ℕ → ℕ → List ℕ → List ℕ → List ℕ → Told
+twiceTold depth texts archive number file name class =
+    let l = comparing (asked depth texts archive number name class (zeroes contentsWords) (zeroes bodyBytes) (zeroes contentsWords) (zeroes bodyBytes)) (zeroes archiveBytes) in
     comparedTold file l (l .answer)

@@ -22,6 +22,7 @@ use reports::tell_both;
 fn compare_file(
     texts: &[&[u8]],
     archive: &[u8],
+    depth: u64,
     number: usize,
     file: &[u8],
     name: &[u8],
@@ -29,7 +30,7 @@ fn compare_file(
     out: &mut [u8],
 ) -> Report
     requires { ⌜ (length (now file) ≤ argumentBytes) × (reportBytes ≤ length (now out)) ⌝ }
-    ensures { λ r. ⌜ Reports (twiceTold (map now (now (texts .entry))) (now (archive .entry)) number (now (file .entry)) (now (name .entry)) (now (class .entry))) (now (out .entry)) (now (out .exit)) r ⌝ }
+    ensures { λ r. ⌜ Reports (twiceTold depth (map now (now (texts .entry))) (now (archive .entry)) number (now (file .entry)) (now (name .entry)) (now (class .entry))) (now (out .entry)) (now (out .exit)) r ⌝ }
 {
     let mut struck = [0; ARCHIVE_BYTES];
     let mut contents = [0; CONTENTS_WORDS];
@@ -39,6 +40,7 @@ fn compare_file(
     let compared = compare_without(
         texts,
         archive,
+        depth,
         number,
         name,
         class,
@@ -59,14 +61,15 @@ fn compare_file(
 pub fn answer_twice(
     texts: &[&[u8]],
     archive: &[u8],
+    depth: u64,
     file: &[u8],
     name: &[u8],
     class: &[u8],
     out: &mut [u8],
 ) -> Report
     requires { ⌜ (laidOut (now archive) ≡ true) × (length (now file) ≤ argumentBytes) × (reportBytes ≤ length (now out)) ⌝ }
-    ensures { λ r. ⌜ Reports (twiceTold (map now (now (texts .entry))) (now (archive .entry)) (fileNumber (now (file .entry)) (filesOf (now (archive .entry)))) (now (file .entry)) (now (name .entry)) (now (class .entry))) (now (out .entry)) (now (out .exit)) r ⌝ }
+    ensures { λ r. ⌜ Reports (twiceTold depth (map now (now (texts .entry))) (now (archive .entry)) (fileNumber (now (file .entry)) (filesOf (now (archive .entry)))) (now (file .entry)) (now (name .entry)) (now (class .entry))) (now (out .entry)) (now (out .exit)) r ⌝ }
 {
     let number = number_of(archive, file);
-    compare_file(texts, archive, number, file, name, class, out)
+    compare_file(texts, archive, depth, number, file, name, class, out)
 }

@@ -1,8 +1,10 @@
-// What is told of an argument of getres from its bytes alone: a descriptor, a format, whether it is an option.
+// What is told of an argument of getres from its bytes alone: a descriptor, a format, a depth, whether it is an option.
 ghost use mathlib.Core.Path.{_≡_};
 ghost use Rattle.definition.specs.Lists.{same};
-ghost use Rattle.argument_words.specs.Words.{descriptor, formatOf, isOption};
+ghost use Rattle.argument_words.specs.Words.{descriptor, formatOf, depthOf, isOption};
 use check::same;
+use integers::Natural;
+use integers::parse_natural;
 
 // A descriptor from 3 to 9, or 0: those below are taken, and more than a digit is not needed.
 pub fn descriptor(argument: &[u8]) -> u8
@@ -41,6 +43,20 @@ pub fn format_of(argument: &[u8]) -> u8
         return 32;
     }
     0
+}
+
+// What is no depth.
+pub const NO_DEPTH: u64 = 18446744073709551615;
+
+// A number up to 2^63, of which the reading refuses those over 100; or `NO_DEPTH` for anything else.
+pub fn depth_of(argument: &[u8]) -> u64
+    ensures { λ r. ⌜ r ≡ depthOf (now (argument .entry)) ⌝ }
+{
+    let number = parse_natural(argument);
+    match number {
+        Natural::Is(depth) => depth,
+        Natural::Nothing => NO_DEPTH,
+    }
 }
 
 // An argument that begins with `-` and has more is an option.

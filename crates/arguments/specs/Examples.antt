@@ -5,14 +5,15 @@ use mathlib.Core.Path.{_≡_, refl}
 use Prim.Native.Nat.{ℕ}
 use Rattle.definition.specs.Lists.{ascii}
 use Rattle.definition.specs.Evaluation.{definition}
-use Rattle.argument_words.specs.Words.{descriptor, formatOf, isOption}
-use Rattle.options.specs.Options.{anything, operand, takes, chainOption, optionOf}
+use Rattle.integers.specs.Readings.{magnitude}
+use Rattle.argument_words.specs.Words.{descriptor, formatOf, depthIn, depthOf, isOption}
+use Rattle.options.specs.Options.{depth, anything, operand, takes, chainOption, optionOf}
 use Rattle.plans.specs.Plans.{plan, once, givenFor, misunderstood, inChain, placed, uncompared, unasked, settled, hasOperands, isWhole}
 use Rattle.arguments.specs.Planning.{planOf, planFrom, withArgument, withFlag, withOption, withValue, withOperand}
 
--- text, name, class, --without, --status-fd; a chain's are none
+-- text, name, class, --without, --status-fd; no depth is given, and a chain's are none
 plainly : ℕ → ℕ → ℕ → ℕ → ℕ → List ℕ
-plainly t n c w s = t ∷ n ∷ c ∷ w ∷ s ∷ 0 ∷ 0 ∷ 0 ∷ 0 ∷ 0 ∷ 0 ∷ []
+plainly t n c w s = t ∷ n ∷ c ∷ w ∷ s ∷ 0 ∷ 0 ∷ 0 ∷ 0 ∷ 0 ∷ 0 ∷ 0 ∷ []
 
 planned :
     (planOf (ascii "text" ∷ ascii "a.b" ∷ ascii "A.B" ∷ []) ≡ plan (plainly 1 2 3 0 0) 0 anything false false false false false false)
@@ -29,15 +30,28 @@ planned = (refl, refl, refl, refl, refl, refl, refl, refl, refl)
 
 -- with a chain: format, property, .Xresources, .Xdefaults, XENVIRONMENT's, the host's
 chained :
-    (planOf (ascii "--default" ∷ ascii "n" ∷ ascii "c" ∷ []) ≡ plan (0 ∷ 2 ∷ 3 ∷ 0 ∷ 0 ∷ 0 ∷ 0 ∷ 0 ∷ 0 ∷ 0 ∷ 0 ∷ []) 0 anything false false false false false true)
-    × (planOf (ascii "n" ∷ ascii "--xresources" ∷ ascii "x" ∷ ascii "--host" ∷ ascii "h" ∷ []) ≡ plan (0 ∷ 1 ∷ 0 ∷ 0 ∷ 0 ∷ 0 ∷ 0 ∷ 3 ∷ 0 ∷ 0 ∷ 5 ∷ []) 0 anything false false false false false true)
-    × (planOf (ascii "--property" ∷ ascii "p" ∷ ascii "--property-format" ∷ ascii "16" ∷ []) ≡ plan (0 ∷ 0 ∷ 0 ∷ 0 ∷ 0 ∷ 4 ∷ 2 ∷ 0 ∷ 0 ∷ 0 ∷ 0 ∷ []) 0 anything false false false false false true)
-    × (planOf (ascii "--xdefaults" ∷ ascii "d" ∷ ascii "--xenvironment" ∷ ascii "e" ∷ ascii "n" ∷ []) ≡ plan (0 ∷ 5 ∷ 0 ∷ 0 ∷ 0 ∷ 0 ∷ 0 ∷ 0 ∷ 2 ∷ 4 ∷ 0 ∷ []) 0 anything false false false false false true)
-    × (planOf (ascii "t" ∷ ascii "n" ∷ ascii "c" ∷ ascii "--default" ∷ []) ≡ plan (0 ∷ 1 ∷ 2 ∷ 0 ∷ 0 ∷ 0 ∷ 0 ∷ 0 ∷ 0 ∷ 0 ∷ 0 ∷ []) 3 anything false false false false false true)
-    × (planOf (ascii "--property-format" ∷ ascii "7" ∷ ascii "n" ∷ []) ≡ plan (0 ∷ 3 ∷ 0 ∷ 0 ∷ 0 ∷ 0 ∷ 0 ∷ 0 ∷ 0 ∷ 0 ∷ 0 ∷ []) 2 anything false false false false false true)
-    × (planOf (ascii "--missing" ∷ ascii "--default" ∷ ascii "n" ∷ []) ≡ plan (0 ∷ 3 ∷ 0 ∷ 0 ∷ 0 ∷ 0 ∷ 0 ∷ 0 ∷ 0 ∷ 0 ∷ 0 ∷ []) 0 anything false true false false false true)
+    (planOf (ascii "--default" ∷ ascii "n" ∷ ascii "c" ∷ []) ≡ plan (0 ∷ 2 ∷ 3 ∷ 0 ∷ 0 ∷ 0 ∷ 0 ∷ 0 ∷ 0 ∷ 0 ∷ 0 ∷ 0 ∷ []) 0 anything false false false false false true)
+    × (planOf (ascii "n" ∷ ascii "--xresources" ∷ ascii "x" ∷ ascii "--host" ∷ ascii "h" ∷ []) ≡ plan (0 ∷ 1 ∷ 0 ∷ 0 ∷ 0 ∷ 0 ∷ 0 ∷ 0 ∷ 3 ∷ 0 ∷ 0 ∷ 5 ∷ []) 0 anything false false false false false true)
+    × (planOf (ascii "--property" ∷ ascii "p" ∷ ascii "--property-format" ∷ ascii "16" ∷ []) ≡ plan (0 ∷ 0 ∷ 0 ∷ 0 ∷ 0 ∷ 0 ∷ 4 ∷ 2 ∷ 0 ∷ 0 ∷ 0 ∷ 0 ∷ []) 0 anything false false false false false true)
+    × (planOf (ascii "--xdefaults" ∷ ascii "d" ∷ ascii "--xenvironment" ∷ ascii "e" ∷ ascii "n" ∷ []) ≡ plan (0 ∷ 5 ∷ 0 ∷ 0 ∷ 0 ∷ 0 ∷ 0 ∷ 0 ∷ 0 ∷ 2 ∷ 4 ∷ 0 ∷ []) 0 anything false false false false false true)
+    × (planOf (ascii "t" ∷ ascii "n" ∷ ascii "c" ∷ ascii "--default" ∷ []) ≡ plan (0 ∷ 1 ∷ 2 ∷ 0 ∷ 0 ∷ 0 ∷ 0 ∷ 0 ∷ 0 ∷ 0 ∷ 0 ∷ 0 ∷ []) 3 anything false false false false false true)
+    × (planOf (ascii "--property-format" ∷ ascii "7" ∷ ascii "n" ∷ []) ≡ plan (0 ∷ 3 ∷ 0 ∷ 0 ∷ 0 ∷ 0 ∷ 0 ∷ 0 ∷ 0 ∷ 0 ∷ 0 ∷ 0 ∷ []) 2 anything false false false false false true)
+    × (planOf (ascii "--missing" ∷ ascii "--default" ∷ ascii "n" ∷ []) ≡ plan (0 ∷ 3 ∷ 0 ∷ 0 ∷ 0 ∷ 0 ∷ 0 ∷ 0 ∷ 0 ∷ 0 ∷ 0 ∷ 0 ∷ []) 0 anything false true false false false true)
 unfolding definition planOf planFrom withArgument isOption optionOf chainOption withFlag withOption withValue takes once formatOf givenFor withOperand misunderstood placed settled inChain
 chained = (refl, refl, refl, refl, refl, refl, refl)
+
+-- a depth, of a text or of a chain; what is no number is not understood, and what is over 100 is for the reading to refuse
+deep :
+    (planOf (ascii "--depth" ∷ ascii "3" ∷ ascii "t" ∷ ascii "n" ∷ []) ≡ plan (3 ∷ 4 ∷ 0 ∷ 0 ∷ 0 ∷ 2 ∷ 0 ∷ 0 ∷ 0 ∷ 0 ∷ 0 ∷ 0 ∷ []) 0 anything false false false false false false)
+    × (planOf (ascii "--default" ∷ ascii "n" ∷ ascii "--depth" ∷ ascii "0" ∷ []) ≡ plan (0 ∷ 2 ∷ 0 ∷ 0 ∷ 0 ∷ 4 ∷ 0 ∷ 0 ∷ 0 ∷ 0 ∷ 0 ∷ 0 ∷ []) 0 anything false false false false false true)
+    × (planOf (ascii "--depth" ∷ ascii "101" ∷ []) ≡ plan (0 ∷ 0 ∷ 0 ∷ 0 ∷ 0 ∷ 2 ∷ 0 ∷ 0 ∷ 0 ∷ 0 ∷ 0 ∷ 0 ∷ []) 0 anything false false false false false false)
+    × (planOf (ascii "--depth" ∷ ascii "" ∷ ascii "t" ∷ []) ≡ plan (plainly 3 0 0 0 0) 2 anything false false false false false false)
+    × (planOf (ascii "--depth" ∷ ascii "-1" ∷ ascii "t" ∷ []) ≡ plan (plainly 3 0 0 0 0) 2 anything false false false false false false)
+    × (planOf (ascii "--depth" ∷ ascii "2x" ∷ ascii "t" ∷ []) ≡ plan (plainly 3 0 0 0 0) 2 anything false false false false false false)
+    × (planOf (ascii "--depth" ∷ ascii "1" ∷ ascii "--depth" ∷ ascii "2" ∷ []) ≡ plan (0 ∷ 0 ∷ 0 ∷ 0 ∷ 0 ∷ 2 ∷ 0 ∷ 0 ∷ 0 ∷ 0 ∷ 0 ∷ 0 ∷ []) 4 anything false false false false false false)
+    × (planOf (ascii "t" ∷ ascii "n" ∷ ascii "--depth" ∷ []) ≡ plan (plainly 1 2 0 0 0) 0 depth false false false false false false)
+unfolding definition planOf planFrom withArgument isOption optionOf chainOption withFlag withOption withValue takes once depthOf depthIn magnitude givenFor withOperand misunderstood placed settled inChain plainly
+deep = (refl, refl, refl, refl, refl, refl, refl, refl)
 
 -- a database written out: no query is asked of it
 writes :

@@ -6,6 +6,7 @@ use mathlib.Core.Path.{_≡_, refl}
 use Prim.Native.Nat.{ℕ, zero, suc, _+_, _*_, _/_, _%_}
 use lib.ListN.{replicate}
 use Rattle.definition.specs.Lists.{ascii}
+use Rattle.definition.specs.Limits.{greatestDepth, defaultDepth}
 use Rattle.definition.specs.Archive.{File, archiveOf, laidOut, pathOf}
 use Rattle.definition.specs.Reading.{Answer, accepted, refused, outcome, reading, judge, start, met, within, past}
 use Rattle.definition.specs.StartUp.{StartUp, starting}
@@ -20,7 +21,7 @@ numberOf (accepted n o) = 0
 numberOf (refused k) = k
 
 read : List ℕ → List ℕ → ℕ
-read t s = numberOf (reading (t ∷ []) s contents bodies .answer)
+read t s = numberOf (reading defaultDepth (t ∷ []) s contents bodies .answer)
 
 -- `p` that includes itself twice, and `p` of 20,000 bytes
 twice : List ℕ
@@ -30,8 +31,8 @@ large : List ℕ
 large = archiveOf (record { name = ascii "p"; body = ascii "a:" ++ replicate 19998 122 } ∷ [])
 
 readings :
-    (reading ([] ∷ []) noFiles [] bodies ≡ outcome (refused 1) [] bodies)
-    × (reading ([] ∷ []) noFiles contents (replicate 32767 7) ≡ outcome (refused 1) contents (replicate 32767 7))
+    (reading defaultDepth ([] ∷ []) noFiles [] bodies ≡ outcome (refused 1) [] bodies)
+    × (reading defaultDepth ([] ∷ []) noFiles contents (replicate 32767 7) ≡ outcome (refused 1) contents (replicate 32767 7))
     × (read (replicate 32769 10) noFiles ≡ 2)
     × (read (replicate 32768 10) noFiles ≡ 0)
     × (read [] [] ≡ 3)
@@ -47,9 +48,9 @@ readings = (refl, refl, refl, refl, refl, refl, refl, refl, refl, refl, refl, re
 
 -- an accepted reading zeroes what it does not use, and changes nothing past 2,050 words and 32,768 bytes; so does a refusal by 4 to 7
 leaves :
-    (reading (ascii "a.b: x" ∷ []) noFiles contents bodies
+    (reading defaultDepth (ascii "a.b: x" ∷ []) noFiles contents bodies
     ≡ outcome (accepted 1 0) (1 ∷ 5 ∷ 0 ∷ 4 ∷ 1 ∷ 0 ∷ replicate 2044 0 ++ 7 ∷ 7 ∷ []) (ascii ".a.bx" ++ replicate 32763 0 ++ 7 ∷ 7 ∷ []))
-    × (reading ((name 16 ++ ascii "a:") ∷ []) noFiles contents bodies
+    × (reading defaultDepth ((name 16 ++ ascii "a:") ∷ []) noFiles contents bodies
     ≡ outcome (refused 5) (replicate 2050 0 ++ 7 ∷ 7 ∷ []) (replicate 32768 0 ++ 7 ∷ 7 ∷ []))
 unfolding definition copies contents bodies name
 leaves = (refl, refl)
@@ -87,15 +88,15 @@ edges :
     × (laidOut (archiveOf (numbered 65)) ≡ false)
     × (laidOut (sized 65529) ≡ true)
     × (laidOut (sized 65530) ≡ false)
-    × (judge start (met (opensText ∷ []) opensFiles) ≡ within (record { opens = 4096; entries = 0; used = 0 }))
-    × (judge start (met ((opensText ++ ascii "#include \"q\"") ∷ []) opensFiles) ≡ past 4)
+    × (judge start (met defaultDepth (opensText ∷ []) opensFiles) ≡ within (record { opens = 4096; entries = 0; used = 0 }))
+    × (judge start (met defaultDepth ((opensText ++ ascii "#include \"q\"") ∷ []) opensFiles) ≡ past 4)
     × (read (ascii "a:" ++ replicate 32766 122) noFiles ≡ 0)
     × (read (include ++ ascii "a:" ++ replicate 12766 122) large ≡ 0)
     × (read (include ++ ascii "a:" ++ replicate 12767 122) large ≡ 7)
     -- the order of the tests
-    × (reading (replicate 32769 10 ∷ []) [] [] bodies ≡ outcome (refused 1) [] bodies)
-    × (reading (replicate 32769 10 ∷ []) [] contents bodies ≡ outcome (refused 2) contents bodies)
-    × (reading ([] ∷ []) [] contents bodies ≡ outcome (refused 3) contents bodies)
+    × (reading defaultDepth (replicate 32769 10 ∷ []) [] [] bodies ≡ outcome (refused 1) [] bodies)
+    × (reading defaultDepth (replicate 32769 10 ∷ []) [] contents bodies ≡ outcome (refused 2) contents bodies)
+    × (reading defaultDepth ([] ∷ []) [] contents bodies ≡ outcome (refused 3) contents bodies)
     × (read (copies 512 (ascii "a:\n") ++ name 16 ++ ascii "b:") noFiles ≡ 5)
     × (getBytes [] bodies (replicate 1025 97) [] ≡ refusedReply 8)
     × (look "a:1" (replicate 1024 97) [] ≡ noValue)
@@ -122,7 +123,7 @@ property first second = record {
 }
 
 startUp : List ℕ → List ℕ → List ℕ → ℕ
-startUp first second archive = numberOf (starting (property first second) archive contents bodies .answer)
+startUp first second archive = numberOf (starting greatestDepth (property first second) archive contents bodies .answer)
 
 -- texts that are not used, each longer than a text may be: a property of format 16, .Xdefaults, one that XENVIRONMENT does not name
 long : List ℕ
@@ -152,13 +153,41 @@ startUps :
     × (startUp include include large ≡ 7)
     -- the first text's refusal comes before the second's
     × (startUp (name 16 ++ ascii "a:") (copies 513 (ascii "a:\n")) noFiles ≡ 5)
-    × (starting unused noFiles contents bodies
+    × (starting greatestDepth unused noFiles contents bodies
     ≡ outcome (accepted 2 0) (2 ∷ 7 ∷ 0 ∷ 2 ∷ 1 ∷ 0 ∷ 3 ∷ 2 ∷ 2 ∷ 0 ∷ replicate 2040 0 ++ 7 ∷ 7 ∷ []) (ascii ".a1.b22" ++ replicate 32761 0 ++ 7 ∷ 7 ∷ []))
-    × (starting (property (ascii "a:1") (name 16 ++ ascii "a:")) noFiles contents bodies
+    × (starting greatestDepth (property (ascii "a:1") (name 16 ++ ascii "a:")) noFiles contents bodies
     ≡ outcome (refused 5) (replicate 2050 0 ++ 7 ∷ 7 ∷ []) (replicate 32768 0 ++ 7 ∷ 7 ∷ []))
-    × (starting (property (ascii "a:1") long) noFiles contents bodies ≡ outcome (refused 2) contents bodies)
+    × (starting greatestDepth (property (ascii "a:1") long) noFiles contents bodies ≡ outcome (refused 2) contents bodies)
 unfolding definition copies contents bodies numberOf name include large opensText opensFiles property startUp long unused
 startUps = (refl, refl, refl, refl, refl, refl, refl, refl, refl, refl, refl, refl, refl)
+
+-- ---- Document 02 (x): 15 after 1, 2 and 3 and before 4 to 7; nothing changes
+
+readAt : ℕ → List ℕ → List ℕ → ℕ
+readAt depth t s = numberOf (reading depth (t ∷ []) s contents bodies .answer)
+
+depths :
+    (reading 101 (ascii "a:1" ∷ []) noFiles contents bodies ≡ outcome (refused 15) contents bodies)
+    × (starting 101 unused noFiles contents bodies ≡ outcome (refused 15) contents bodies)
+    -- every number over 100
+    × (readAt 65536 (ascii "a:1") noFiles ≡ 15)
+    × (readAt 4294967296 (ascii "a:1") noFiles ≡ 15)
+    × (readAt 18446744073709551615 (ascii "a:1") noFiles ≡ 15)
+    × (readAt 100 (ascii "a:1") noFiles ≡ 0)
+    × (readAt 0 (ascii "a:1") noFiles ≡ 0)
+    -- the order of the tests
+    × (reading 101 ([] ∷ []) noFiles [] bodies ≡ outcome (refused 1) [] bodies)
+    × (readAt 101 long noFiles ≡ 2)
+    × (readAt 101 [] [] ≡ 3)
+    × (readAt 101 include twice ≡ 15)
+    × (readAt 101 (name 16 ++ ascii "a:") noFiles ≡ 15)
+    × (readAt 101 (copies 513 (ascii "a:\n")) noFiles ≡ 15)
+    × (readAt 101 (include ++ include) large ≡ 15)
+    -- `p` that includes itself twice: 4,095 opens at depth 12, and no greater depth is accepted
+    × (readAt 12 include twice ≡ 0)
+    × (readAt 13 include twice ≡ 4)
+unfolding definition copies contents bodies numberOf name include large twice long unused readAt
+depths = (refl, refl, refl, refl, refl, refl, refl, refl, refl, refl, refl, refl, refl, refl, refl, refl)
 
 -- ---- Images
 

@@ -7,6 +7,7 @@ use Prim.Native.String.{String}
 use lib.ListN.{replicate, drop}
 use lib.IntN.{negsuc}
 use Rattle.definition.specs.Lists.{ascii}
+use Rattle.definition.specs.Limits.{defaultDepth}
 use Rattle.definition.specs.Reading.{Outcome, reading}
 use Rattle.definition.specs.Query.{window}
 use Rattle.definition.specs.Lookup.{Reply, given, noValue, refused as refusedReply, Place, getBytesWithin, getBytes}
@@ -46,7 +47,7 @@ include = ascii "#include \"p\"\n"
 -- a lookup in the image of a text
 unfoldable pub look : String → List ℕ → List ℕ → Reply Place
 look t n c =
-    let o = reading (ascii t ∷ []) noFiles contents bodies in
+    let o = reading defaultDepth (ascii t ∷ []) noFiles contents bodies in
     getBytes (o .contents) (o .bodies) n c
 
 -- an image with another entry count, another use, a start that is off, and a key of two bindings
@@ -74,7 +75,7 @@ lookups = (refl, refl, refl, refl, refl, refl, refl, refl, refl, refl, refl, ref
 -- the calls that read a value, in the image of a text whose value is v
 module _ (v : String) where
   image : Outcome
-  image = reading ((ascii "a:" ++ ascii v) ∷ []) noFiles contents bodies
+  image = reading defaultDepth ((ascii "a:" ++ ascii v) ∷ []) noFiles contents bodies
 
   asString : Reply Place
   asString = getString (image .contents) (image .bodies) (ascii "a") []

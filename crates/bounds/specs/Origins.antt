@@ -4,6 +4,7 @@ use mathlib.Core.Path.{_≡_, refl}
 use Prim.Native.Nat.{ℕ}
 use lib.ListN.{replicate}
 use Rattle.definition.specs.Lists.{ascii}
+use Rattle.definition.specs.Limits.{defaultDepth}
 use Rattle.definition.specs.Archive.{archiveOf}
 use Rattle.definition.specs.Reading.{Outcome, outcome, accepted, refused, reading}
 use Rattle.definition.specs.Writing.{filled, written, refused as refusedFill, writing}
@@ -15,7 +16,7 @@ use Rattle.bounds.specs.Lookups.{contents, bodies}
 -- a main text with a file that includes another: lines of all three, and of the main text again
 read : Outcome
 read =
-    reading (ascii "a:\n#include \"q\"\nb:" ∷ ascii "e:" ∷ [])
+    reading defaultDepth (ascii "a:\n#include \"q\"\nb:" ∷ ascii "e:" ∷ [])
     (archiveOf (file "p" "c:" ∷ file "q" "#include \"p\"\nd:" ∷ [])) contents bodies
 
 -- four words a row, the fourth the place of the file where the line stands

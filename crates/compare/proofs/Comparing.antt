@@ -30,8 +30,8 @@ pub read-is : (r s : reader.Answer) (c b : List ℕ) (o : Outcome) → outcome (
 read-is r s c b o e f = rw f at e
 
 -- an archive that was read with is laid out
-pub read-laidOut : (texts : List (List ℕ)) (archive contents bodies c b : List ℕ) (n o : ℕ) → outcome (accepted n o) c b ≡ reading texts archive contents bodies → laidOut archive ≡ true
-read-laidOut texts archive contents bodies c b n o e = accepted-reads texts archive contents bodies (rw (← e) refl) .isLaidOut
+pub read-laidOut : (depth : ℕ) (texts : List (List ℕ)) (archive contents bodies c b : List ℕ) (n o : ℕ) → outcome (accepted n o) c b ≡ reading depth texts archive contents bodies → laidOut archive ≡ true
+read-laidOut depth texts archive contents bodies c b n o e = accepted-reads depth texts archive contents bodies (rw (← e) refl) .isLaidOut
 
 module _ (c : Case) (struck : List ℕ) where
   pub short-struck : length struck < length (c .archive) → noRoom c struck ≡ comparing c struck
@@ -74,7 +74,7 @@ module _ (c : Case) (struck : List ℕ) where
 
       pub both-left : c .file < length (filesOf (c .archive))
           → (r : Compared) (second : reader.Answer) (s₂ c₂ b₂ : List ℕ)
-          → SecondOf second (c .texts) (c .archive) (c .file) struck (c .contents′) (c .bodies′) s₂ c₂ b₂
+          → SecondOf second (c .depth) (c .texts) (c .archive) (c .file) struck (c .contents′) (c .bodies′) s₂ c₂ b₂
           → compared r ≡ answering (getBytesWithin (c .bounds) c₁ b₁ (c .name) (c .class)) (getBytesWithin (c .bounds) c₂ b₂ (c .name) (c .class)) (said second)
           → leaving r s₂ c₁ b₁ c₂ b₂ ≡ comparing c struck
       unfolding afterFirst

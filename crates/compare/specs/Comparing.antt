@@ -28,7 +28,7 @@ module _ (c : Case) (struck : List ℕ) where
   abbrev pub noRoom : Left
   noRoom = record { answer = refusedBy 1; struck = struck; contents = c .contents; bodies = c .bodies; contents′ = c .contents′; bodies′ = c .bodies′ }
 
-  -- the first reading is done, or refused: by 1 for its own buffers, or by 2 to 7
+  -- the first reading is done, or refused: by 1 for its own buffers, or by 2 to 7 or 15
   abbrev pub onlyFirst : Comparison → Left
   onlyFirst a = record { answer = a; struck = struck; contents = withFile c .contents; bodies = withFile c .bodies; contents′ = c .contents′; bodies′ = c .bodies′ }
 
@@ -68,8 +68,9 @@ module _ (c : Case) (struck : List ℕ) where
 abbrev pub leaving : Compared → List ℕ → List ℕ → List ℕ → List ℕ → List ℕ → Left
 leaving r s c b c′ b′ = record { answer = compared r; struck = s; contents = c; bodies = b; contents′ = c′; bodies′ = b′ }
 
-abbrev pub asked : List (List ℕ) → List ℕ → ℕ → List ℕ → List ℕ → List ℕ → List ℕ → List ℕ → List ℕ → Case
-asked texts archive file name class contents bodies contents′ bodies′ = record {
+abbrev pub asked : ℕ → List (List ℕ) → List ℕ → ℕ → List ℕ → List ℕ → List ℕ → List ℕ → List ℕ → List ℕ → Case
+asked depth texts archive file name class contents bodies contents′ bodies′ = record {
+  depth = depth;
   texts = texts;
   archive = archive;
   file = file;

@@ -10,11 +10,13 @@ use reader::Answer;
 use reader::read_texts;
 use reader_without::read_without;
 
-// Reads the texts with the archive, and again with one file struck off (files are counted from 0), and looks the query up in both.
+// Reads the texts with the archive, and again at the same depth with one file struck off (files are counted from 0), and looks the query up
+// in both.
 // `struck` is room for the archive without the file.
 pub fn compare_without(
     texts: &[&[u8]],
     archive: &[u8],
+    depth: u64,
     file: usize,
     name: &[u8],
     class: &[u8],
@@ -24,7 +26,7 @@ pub fn compare_without(
     contents_without: &mut [u16],
     bodies_without: &mut [u8],
 ) -> Compared
-    ensures { λ r. ⌜ Promise (asked (map now (now (texts .entry))) (now (archive .entry)) file (now (name .entry)) (now (class .entry)) (now (contents .entry)) (now (bodies .entry)) (now («contents_without» .entry)) (now («bodies_without» .entry))) (now (struck .entry)) (leaving r (now (struck .exit)) (now (contents .exit)) (now (bodies .exit)) (now («contents_without» .exit)) (now («bodies_without» .exit))) ⌝ }
+    ensures { λ r. ⌜ Promise (asked depth (map now (now (texts .entry))) (now (archive .entry)) file (now (name .entry)) (now (class .entry)) (now (contents .entry)) (now (bodies .entry)) (now («contents_without» .entry)) (now («bodies_without» .entry))) (now (struck .entry)) (leaving r (now (struck .exit)) (now (contents .exit)) (now (bodies .exit)) (now («contents_without» .exit)) (now («bodies_without» .exit))) ⌝ }
 {
     if struck.len() < archive.len() {
         return Compared::Refused(1);
@@ -35,7 +37,7 @@ pub fn compare_without(
     if bodies_without.len() < BODY_BYTES {
         return Compared::Refused(1);
     }
-    let first = read_texts(texts, archive, contents, bodies);
+    let first = read_texts(texts, archive, depth, contents, bodies);
     match first {
         Answer::Refused(number) => Compared::Refused(number),
         Answer::Accepted(_, _) => {
@@ -45,6 +47,7 @@ pub fn compare_without(
             let second = read_without(
                 texts,
                 archive,
+                depth,
                 file,
                 struck,
                 contents_without,

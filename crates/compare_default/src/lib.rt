@@ -7,8 +7,8 @@ use comparison::Compared;
 use sources::first_text;
 use sources::second_text;
 
-// Reads what a reader starts with, document 02 (i), with the archive and again with one file struck off (files are counted from 0), and
-// looks the query up in both. `struck` is room for the archive without the file.
+// Reads what a reader starts with, document 02 (i), with the archive and again at the same depth with one file struck off (files are counted
+// from 0), and looks the query up in both. `struck` is room for the archive without the file.
 pub fn compare_default_without<'a>(
     property_format: u8,
     property: &'a [u8],
@@ -22,6 +22,7 @@ pub fn compare_default_without<'a>(
     host_read: bool,
     host: &'a [u8],
     archive: &[u8],
+    depth: u64,
     file: usize,
     name: &[u8],
     class: &[u8],
@@ -31,7 +32,7 @@ pub fn compare_default_without<'a>(
     contents_without: &mut [u16],
     bodies_without: &mut [u8],
 ) -> Compared
-    ensures { λ r. ⌜ Promise (asked (textsUsed (startUp «property_format» (now (property .entry)) (lending «xresources_read» (now (xresources .entry))) (lending «xdefaults_read» (now (xdefaults .entry))) «xenvironment_set» (lending «xenvironment_read» (now (xenvironment .entry))) (lending «host_read» (now (host .entry))))) (now (archive .entry)) file (now (name .entry)) (now (class .entry)) (now (contents .entry)) (now (bodies .entry)) (now («contents_without» .entry)) (now («bodies_without» .entry))) (now (struck .entry)) (leaving r (now (struck .exit)) (now (contents .exit)) (now (bodies .exit)) (now («contents_without» .exit)) (now («bodies_without» .exit))) ⌝ }
+    ensures { λ r. ⌜ Promise (asked depth (textsUsed (startUp «property_format» (now (property .entry)) (lending «xresources_read» (now (xresources .entry))) (lending «xdefaults_read» (now (xdefaults .entry))) «xenvironment_set» (lending «xenvironment_read» (now (xenvironment .entry))) (lending «host_read» (now (host .entry))))) (now (archive .entry)) file (now (name .entry)) (now (class .entry)) (now (contents .entry)) (now (bodies .entry)) (now («contents_without» .entry)) (now («bodies_without» .entry))) (now (struck .entry)) (leaving r (now (struck .exit)) (now (contents .exit)) (now (bodies .exit)) (now («contents_without» .exit)) (now («bodies_without» .exit))) ⌝ }
 {
     let first = first_text(
         property_format,
@@ -52,6 +53,7 @@ pub fn compare_default_without<'a>(
     compare_without(
         &texts,
         archive,
+        depth,
         file,
         name,
         class,

@@ -44,19 +44,19 @@ module _ (contents bodies out : List ℕ) (i : isImage contents bodies ≡ true)
 
 -- ---- What was read
 
-module _ (texts : List (List ℕ)) (archive : List ℕ) where
+module _ (depth : ℕ) (texts : List (List ℕ)) (archive : List ℕ) where
   abbrev read : Outcome
-  read = reading texts archive (zeroes contentsWords) (zeroes bodyBytes)
+  read = reading depth texts archive (zeroes contentsWords) (zeroes bodyBytes)
 
   module _ {c b : List ℕ} (n o : ℕ) (e : outcome (accepted n o) c b ≡ read) where
     pub read-image : isImage c b ≡ true
-    read-image = read-holds texts archive (zeroes contentsWords) (zeroes bodyBytes) c b n o e .0
+    read-image = read-holds depth texts archive (zeroes contentsWords) (zeroes bodyBytes) c b n o e .0
 
-    pub text-told : {out out′ : List ℕ} {r : Report} → Reports (output 0 (imageText c b)) out out′ r → Reports (databaseTold texts archive) out out′ r
+    pub text-told : {out out′ : List ℕ} {r : Report} → Reports (output 0 (imageText c b)) out out′ r → Reports (databaseTold depth texts archive) out out′ r
     unfolding databaseTold entriesTold
-    text-told p = reports-of (ap (λ (es : List Entry). output 0 (textOf es)) (read-holds texts archive (zeroes contentsWords) (zeroes bodyBytes) c b n o e .1) ∙ rw (← e) refl) p
+    text-told p = reports-of (ap (λ (es : List Entry). output 0 (textOf es)) (read-holds depth texts archive (zeroes contentsWords) (zeroes bodyBytes) c b n o e .1) ∙ rw (← e) refl) p
 
   pub refused-told : {c b : List ℕ} (k : ℕ) → outcome (refused k) c b ≡ read → {out out′ : List ℕ} {r : Report} → Reports (refusalTold k) out out′ r
-      → Reports (databaseTold texts archive) out out′ r
+      → Reports (databaseTold depth texts archive) out out′ r
   unfolding databaseTold entriesTold
-  refused-told k e p = reports-of (ap (λ (x : Outcome). entriesTold (x .answer) (plain (readEntries texts archive))) e) p
+  refused-told k e p = reports-of (ap (λ (x : Outcome). entriesTold (x .answer) (plain (readEntries depth texts archive))) e) p

@@ -13,6 +13,6 @@ unfoldable pub entriesTold : Answer → List Entry → Told
 entriesTold (accepted n opens) es = output 0 (textOf es)
 entriesTold (refused k) es = refusalTold k
 
--- of texts and an archive
-unfoldable pub databaseTold : List (List ℕ) → List ℕ → Told
-databaseTold texts archive = entriesTold (reading texts archive (zeroes contentsWords) (zeroes bodyBytes) .answer) (plain (readEntries texts archive))
+-- of a depth, texts and an archive
+unfoldable pub databaseTold : ℕ → List (List ℕ) → List ℕ → Told
+databaseTold depth texts archive = entriesTold (reading depth texts archive (zeroes contentsWords) (zeroes bodyBytes) .answer) (plain (readEntries depth texts archive))

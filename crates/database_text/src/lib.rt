@@ -35,13 +35,13 @@ fn write_image(contents: &[u16], bodies: &[u8], out: &mut [u8]) -> Report
 }
 
 // The text of the database that texts and their files give, or a refusal.
-pub fn write_database(texts: &[&[u8]], archive: &[u8], out: &mut [u8]) -> Report
+pub fn write_database(texts: &[&[u8]], archive: &[u8], depth: u64, out: &mut [u8]) -> Report
     requires { ⌜ writtenBytes ≤ length (now out) ⌝ }
-    ensures { λ r. ⌜ Reports (databaseTold (map now (now (texts .entry))) (now (archive .entry))) (now (out .entry)) (now (out .exit)) r ⌝ }
+    ensures { λ r. ⌜ Reports (databaseTold depth (map now (now (texts .entry))) (now (archive .entry))) (now (out .entry)) (now (out .exit)) r ⌝ }
 {
     let mut contents = [0; CONTENTS_WORDS];
     let mut bodies = [0; BODY_BYTES];
-    let answer = read_texts(texts, archive, &mut contents, &mut bodies);
+    let answer = read_texts(texts, archive, depth, &mut contents, &mut bodies);
     match answer {
         Answer::Accepted(_, _) => write_image(&contents, &bodies, out),
         Answer::Refused(number) => refuse(number, out),

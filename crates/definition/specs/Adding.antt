@@ -5,7 +5,7 @@ use mathlib.Core.Path.{_≡_}
 use Prim.Native.Nat.{ℕ, suc, _+_, _*_, _≤_}
 use lib.ListN.{length, take, drop}
 use Rattle.definition.specs.Lists.{if_then_else_}
-use Rattle.definition.specs.Limits.{rowWords, unknownFile}
+use Rattle.definition.specs.Limits.{defaultDepth, rowWords, unknownFile}
 use Rattle.definition.specs.Archive.{archiveOf}
 use Rattle.definition.specs.Text.{Entry}
 use Rattle.definition.specs.Including.{entered}
@@ -27,9 +27,9 @@ pub record Addition : Type 0 where
 abbrev pub addition : Reply ℕ → List ℕ → List ℕ → Addition
 addition a c b = record { answer = a; contents = c; bodies = b }
 
--- the entries of an added text, which is read with an empty archive
+-- the entries of an added text, which is read with an empty archive, so that no depth makes a difference
 unfoldable pub entriesAdded : List ℕ → List Entry
-entriesAdded text = plain (readEntries (text ∷ []) (archiveOf []))
+entriesAdded text = plain (readEntries defaultDepth (text ∷ []) (archiveOf []))
 
 -- xs in the place of what stands from n on
 unfoldable pub over : ℕ → List ℕ → List ℕ → List ℕ

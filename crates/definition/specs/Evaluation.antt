@@ -6,6 +6,7 @@ use Prim.Native.Nat.{ℕ}
 use Prim.Native.String.{String}
 use Rattle.definition.specs.Lists.{if_then_else_, ascii, all, any, takeWhile, dropWhile, filter, isEmpty, orElse, beyond, zeroes, same, lower}
 use Rattle.definition.specs.Parsing.{continued, atMost, many, _>>=_, after}
+use Rattle.definition.specs.Limits.{greatestDepth, defaultDepth}
 use Rattle.definition.specs.Bytes.{isDigit, isOctal, isName, isBlank, isSpace, isBinding, notNewline}
 use Rattle.definition.specs.Archive.{File, lengthsOf, bodiesOf, archiveOf, filesFrom, filesOf, prefixed, split, isNamePart, isFileName, rising, laidOut, struckOff, folderOf, joined, reduced, endsInDots, asFileName, pathOf, bodyOf, fileNumber}
 use Rattle.definition.specs.Text.{bindingOf, componentAt, partAt, isNamed, endsInName, positional, lineEnds, octalOf, escapeAt, pieceAt, afterBlanks, lineEnd, includeOf, assigned, resourceOf, directiveOf, lineAt, linesOf}
@@ -23,6 +24,7 @@ use Rattle.definition.specs.Walking.{hasRow, aligns, alignedFrom, firstO
 use Rattle.definition.specs.Adding.{entriesAdded, over, appended, judged, addedOne, adding, listedAfter, turned, played, stepsIn, numbersFrom}
 use Rattle.definition.specs.Migration.{carried, migrating}
 use Rattle.definition.specs.Board.{checked, replyTo, changed, ifGiven, afterCalls, broughtBy, joined as joinedEntries, foundAt, foundIn, queryNumber, storeNumber, bytesFound, sameAnswer, each, changes, bitsOf, reported, lengthsStart, slotStart, textStart, bodyStart, slotAt, queryAt, areSlots, haveRoom, isBoard, boardMake, writing, boardCall, boardAnswer, boardAnswers, boardReport, afterAll, answerAmong}
+use Rattle.definition.specs.Nesting.{opens, finds, includesWhere, findsAt}
 
 -- an example unfolds all of the definition
 unfoldable pub definition : ℕ
@@ -39,7 +41,7 @@ unfolding
     valueOf answerOf placeOf lookup getBytesBy answerIn table afterRow firstRow character characterAt isUtf8 naturalOf signed i64Of lowercase
     wordOf nonZero toBool replied readAs numberOf bytesOr asString asBool asNumber getStringBy getBoolBy getValueBy shownBy flatten
     hasRow aligns alignedFrom firstOf nextOf begun walkStartBy numberOr stepped walkStepBy afterStep
-    entriesAdded over appended judged addedOne adding listedAfter turned played stepsIn numbersFrom
+    entriesAdded over appended judged addedOne adding listedAfter turned played stepsIn numbersFrom opens finds includesWhere findsAt
     carried migrating
     checked replyTo changed ifGiven afterCalls broughtBy joinedEntries foundAt foundIn queryNumber storeNumber bytesFound sameAnswer each changes bitsOf
     reported lengthsStart slotStart textStart bodyStart slotAt queryAt areSlots haveRoom isBoard boardMake writing boardCall boardAnswer boardAnswers boardReport
@@ -68,7 +70,7 @@ written xs = map (λ (x : Entered). record { key = keyOf (x .entry .parts); valu
 
 -- the entries of a main text, with an archive and without
 unfoldable pub entriesWith : List File → String → List Written
-entriesWith fs t = written (readEntries (ascii t ∷ []) (archiveOf fs))
+entriesWith fs t = written (readEntries defaultDepth (ascii t ∷ []) (archiveOf fs))
 
 unfoldable pub entries : String → List Written
 entries t = entriesWith [] t
@@ -81,9 +83,9 @@ valueIn (w ∷ v ∷ ws) = none
 
 -- what a query gets from a main text's entries
 unfoldable pub answer : String → String → String → Option (List ℕ)
-answer t name class = answerOf (plain (readEntries (ascii t ∷ []) noFiles)) (queryOf (ascii name) (ascii class))
+answer t name class = answerOf (plain (readEntries defaultDepth (ascii t ∷ []) noFiles)) (queryOf (ascii name) (ascii class))
 
--- ---- What was recorded of the Rust
+-- ---- What was recorded of the Rust, whose depth is the greatest
 
 pub data Answer : Type 0 where
   reads : ℕ → List Written → Answer
@@ -104,11 +106,11 @@ abbrev pub entry : List ℕ → List ℕ → Written
 entry k v = record { key = k; value = v }
 
 unfoldable pub read : List ℕ → List ℕ → Answer
-read t s = reads (opensOf (met (t ∷ []) s)) (written (readEntries (t ∷ []) s))
+read t s = reads (opensOf (met greatestDepth (t ∷ []) s)) (written (readEntries greatestDepth (t ∷ []) s))
 
 module _ (text archive name class : List ℕ) where
   unfoldable pub found : Option (List ℕ)
-  found = answerOf (plain (readEntries (text ∷ []) archive)) (queryOf name class)
+  found = answerOf (plain (readEntries greatestDepth (text ∷ []) archive)) (queryOf name class)
 
   unfoldable pub wellFormed : Option (List ℕ)
   wellFormed = found >>= (λ v. if isUtf8 v then some v else none)

@@ -1,5 +1,5 @@
 -- Includes (document 01, "Includes"; Xlib 15.1, IncludeFile; `parse_data_with_base_directory`): all that a reading meets, in text
--- order and without limits, from its texts and the archive alone.
+-- order and without limits, from its depth, its texts and the archive alone. At depth d the texts at depths 0 to d are read (document 02 (x)).
 use mathlib.Core.List.{List, [], _∷_, _++_}
 use mathlib.Core.Option.{Option, some, none}
 use Prim.Native.Nat.{ℕ, zero, suc}
@@ -55,6 +55,10 @@ eventsOfAll depth fs [] = []
 eventsOfAll depth fs (text ∷ texts) = events depth fs text ++ eventsOfAll depth fs texts
 
 -- ---- Of what a reading meets
+
+abbrev pub chainOf : Event → Chain
+chainOf (opened ch) = ch
+chainOf (entered ch e) = ch
 
 pub record Entered : Type 0 where
   pub chain : Chain

@@ -23,12 +23,14 @@ pub mod Migration
 pub mod ThirdTerm
 pub mod Orders
 pub mod Board
+pub mod Nesting
 pub mod Evaluation
 mod Examples
 mod NameBytes
 mod Manual
 mod Starts
 mod Paths
+mod Depths
 mod Texts
 mod Walks
 mod Orderings

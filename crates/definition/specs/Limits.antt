@@ -14,9 +14,13 @@ archiveFiles = 64
 abbrev pub fileNameBytes : ℕ
 fileNameBytes = 96
 
--- the deepest text that is read; a text of the reading is at depth 0 (Xlib has the same number; the manual is silent)
-abbrev pub deepest : ℕ
-deepest = 100
+-- the depth of a reading: the deepest text that it reads, where a text of the reading is at depth 0. The greatest that a caller may give is
+-- document 01's (Xlib has the same number; the manual is silent), and the other holds where the caller gives none (document 02 (x))
+abbrev pub greatestDepth : ℕ
+greatestDepth = 100
+
+abbrev pub defaultDepth : ℕ
+defaultDepth = 20
 
 abbrev pub mostOpens : ℕ
 mostOpens = 4096

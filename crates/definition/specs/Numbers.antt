@@ -8,6 +8,7 @@ use Prim.Native.String.{String}
 use lib.ListN.{replicate}
 use lib.IntN.{pos, negsuc}
 use Rattle.definition.specs.Lists.{ascii}
+use Rattle.definition.specs.Limits.{greatestDepth}
 use Rattle.definition.specs.Archive.{archiveOf, struckOff, laidOut}
 use Rattle.definition.specs.Reading.{judge, start, met, within}
 use Rattle.definition.specs.Query.{Query, positions, malformed, pastLimit, queryWithin, window, queryOf}
@@ -15,11 +16,11 @@ use Rattle.definition.specs.Value.{toBool, i64Of, isUtf8}
 use Rattle.definition.specs.Image.{writtenOver}
 use Rattle.definition.specs.Evaluation.{definition, file}
 
--- document 01's case of 100 opens
+-- document 01's case of 100 opens, which passes that depth
 deep : List ℕ
 deep = archiveOf (file "p" "#include \"p\"\na:1" ∷ [])
 
-nested : judge start (met (ascii "#include \"p\"\n" ∷ []) deep) ≡ within (record { opens = 100; entries = 100; used = 300 })
+nested : judge start (met greatestDepth (ascii "#include \"p\"\n" ∷ []) deep) ≡ within (record { opens = 100; entries = 100; used = 300 })
 unfolding definition deep
 nested = refl
 

@@ -8,6 +8,7 @@ use Prim.Native.String.{String}
 use native.Mathlib.Omega.{arith}
 use lib.ListN.{length, getD}
 use Rattle.definition.specs.Lists.{ascii}
+use Rattle.definition.specs.Limits.{defaultDepth}
 use Rattle.definition.specs.Archive.{File, archiveOf}
 use Rattle.definition.specs.Text.{tight, loose, name, Part, Entry}
 use Rattle.definition.specs.Reading.{plain, readEntries}
@@ -215,12 +216,16 @@ oneReordered = record {
 
 -- ---- Packs
 
--- what a query for `a` gets from a main text and packs, and the file of the main text that each entry came through
+-- what a query for `a` gets from a main text and packs, at a depth and where none is given, and the file of the main text that each entry
+-- came through
+packedAt : ℕ → List File → String → Option (List ℕ)
+packedAt depth fs t = answerOf (plain (readEntries depth (ascii t ∷ []) (archiveOf fs))) (queryOf (ascii "a") [])
+
 packed : List File → String → Option (List ℕ)
-packed fs t = answerOf (plain (readEntries (ascii t ∷ []) (archiveOf fs))) (queryOf (ascii "a") [])
+packed fs t = packedAt defaultDepth fs t
 
 through : List File → String → List (List ℕ)
-through fs t = map outermost (readEntries (ascii t ∷ []) (archiveOf fs))
+through fs t = map outermost (readEntries defaultDepth (ascii t ∷ []) (archiveOf fs))
 
 -- c is included by p, before an entry of p's own, and by q
 three : List File
@@ -243,11 +248,14 @@ packs :
     × (through two "#include \"p\"\n#include \"q\"\n#include \"./p\"\n" ≡ ascii "p" ∷ ascii "p" ∷ ascii "q" ∷ ascii "p" ∷ ascii "p" ∷ [])
     -- a line that finds no file adds nothing, wherever it stands
     × (packed two "#include \"r\"\n#include \"p\"\n#include \"..\"\n" ≡ some (ascii "2"))
-unfolding definition packed through three two
-packs = (refl, refl, refl, refl, refl, refl, refl, refl, refl)
+    -- at depth 1 c is not read, and no key comes through two
+    × (packedAt 1 three "#include \"p\"\n#include \"q\"\n" ≡ some (ascii "1"))
+    × (packedAt 1 three "#include \"q\"\n#include \"p\"\n" ≡ some (ascii "1"))
+unfolding definition packedAt packed through three two
+packs = (refl, refl, refl, refl, refl, refl, refl, refl, refl, refl, refl)
 
 -- of the first, the key of entries 1 and 2 comes through p and through q
-notOneEach : OneFileEach (readEntries (ascii "#include \"p\"\n#include \"q\"\n" ∷ []) (archiveOf three)) → ⊥
+notOneEach : OneFileEach (readEntries defaultDepth (ascii "#include \"p\"\n#include \"q\"\n" ∷ []) (archiveOf three)) → ⊥
 unfolding definition three
 notOneEach one =
     let z : _≡_ {A = ℕ} 112 113 = ap (λ (f : List ℕ). getD f 0 0) (one _ 1 2 (omega arith) (omega arith) refl refl) in

@@ -217,31 +217,31 @@ ImagesAlike =
     → AnswerAlike most contents bodies contents′ bodies′ name class
 
 -- two main texts of include lines alone, one the other's lines rearranged, where no key comes through two different files that the main
--- text includes: with one archive and buffers that are long enough one is accepted exactly when the other is, with as many entries and
--- opens, and then both images answer every query alike
+-- text includes: at one depth, with one archive and buffers that are long enough, one is accepted exactly when the other is, with as many
+-- entries and opens, and then both images answer every query alike
 abbrev pub PacksInAnyOrder : Type 0
 PacksInAnyOrder =
-    (lines lines′ : List (List ℕ)) (archive contents bodies contents′ bodies′ : List ℕ)
+    (depth : ℕ) (lines lines′ : List (List ℕ)) (archive contents bodies contents′ bodies′ : List ℕ)
     → areIncludes lines ≡ true
     → Rearranged [] lines lines′
-    → OneFileEach (readEntries (textOfLines lines ∷ []) archive)
+    → OneFileEach (readEntries depth (textOfLines lines ∷ []) archive)
     → tooShort contents bodies ≡ false
     → tooShort contents′ bodies′ ≡ false
-    → let o = reading (textOfLines lines ∷ []) archive contents bodies in
-    let o′ = reading (textOfLines lines′ ∷ []) archive contents′ bodies′ in
+    → let o = reading depth (textOfLines lines ∷ []) archive contents bodies in
+    let o′ = reading depth (textOfLines lines′ ∷ []) archive contents′ bodies′ in
     ((n m : ℕ) → (o .answer ≡ accepted n m) ↔ (o′ .answer ≡ accepted n m))
     × (isAccepted (o .answer) ≡ true → (most : Bounds) (name class : List ℕ)
     → AnswerAlike most (o .contents) (o .bodies) (o′ .contents) (o′ .bodies) name class)
 
--- and where some keys come through two files: only a query that such a key decides can get another answer. If each key that decides it comes
--- through one file alone, both texts give it the same value, or none
+-- and where some keys come through two files: at one depth, only a query that such a key decides can get another answer. If each key that
+-- decides it comes through one file alone, both texts give it the same value, or none
 abbrev pub OnlyWherePacksMeet : Type 0
 OnlyWherePacksMeet =
-    (lines lines′ : List (List ℕ)) (archive : List ℕ)
+    (depth : ℕ) (lines lines′ : List (List ℕ)) (archive : List ℕ)
     → areIncludes lines ≡ true
     → Rearranged [] lines lines′
-    → let xs = readEntries (textOfLines lines ∷ []) archive in
-    let ys = readEntries (textOfLines lines′ ∷ []) archive in
+    → let xs = readEntries depth (textOfLines lines ∷ []) archive in
+    let ys = readEntries depth (textOfLines lines′ ∷ []) archive in
     (q : Query)
     → ((key : List Part) → Decides key (plain xs) (plain ys) q → OneFile key xs)
     → answerOf (plain xs) q ≡ answerOf (plain ys) q

@@ -6,6 +6,7 @@ use mathlib.Core.Path.{_≡_, refl}
 use Prim.Native.Nat.{ℕ}
 use lib.ListN.{take}
 use Rattle.definition.specs.Lists.{ascii, all}
+use Rattle.definition.specs.Limits.{defaultDepth}
 use Rattle.definition.specs.Archive.{File, archiveOf}
 use Rattle.definition.specs.Image.{Sourced, bare, allFrom, contentsOf, Row, rowsBy, originsBy, withOrigins, isOrigin}
 use Rattle.definition.specs.Including.{originOf}
@@ -21,7 +22,7 @@ files = file "base/a" "in:a" ∷ file "p" "#include \"q\"\nin:p" ∷ file "q" "i
 
 -- where the lines of some texts stand
 originsRead : List (List ℕ) → List ℕ
-originsRead texts = map (λ (x : Sourced). x .origin) (sourced files (readEntries texts (archiveOf files)))
+originsRead texts = map (λ (x : Sourced). x .origin) (sourced files (readEntries defaultDepth texts (archiveOf files)))
 
 origins :
     -- 0 for a line of the main text, before an include and after it
@@ -41,7 +42,7 @@ origins = (refl, refl, refl, refl, refl, refl, refl, refl, refl)
 
 -- rows of four words, as a reading writes them: `.in` with the value `q`, and so on
 written :
-    (contentsOf (sourced files (readEntries (ascii "#include \"p\"" ∷ []) (archiveOf files)))
+    (contentsOf (sourced files (readEntries defaultDepth (ascii "#include \"p\"" ∷ []) (archiveOf files)))
     ≡ 4 ∷ 19 ∷ 0 ∷ 3 ∷ 1 ∷ 3 ∷ 4 ∷ 3 ∷ 1 ∷ 1 ∷ 8 ∷ 6 ∷ 1 ∷ 3 ∷ 15 ∷ 3 ∷ 1 ∷ 2 ∷ [])
     × (contentsOf (allFrom 65535 (entriesAdded (ascii "a:1\n*b:"))) ≡ 2 ∷ 5 ∷ 0 ∷ 2 ∷ 1 ∷ 65535 ∷ 3 ∷ 2 ∷ 0 ∷ 65535 ∷ [])
 unfolding definition files

@@ -5,6 +5,7 @@ use mathlib.Core.Path.{_≡_, refl}
 use Prim.Native.Nat.{ℕ}
 use Prim.Native.String.{String}
 use Rattle.definition.specs.Lists.{ascii}
+use Rattle.definition.specs.Limits.{defaultDepth}
 use Rattle.definition.specs.Archive.{archiveOf, pathOf}
 use Rattle.definition.specs.Including.{Entered}
 use Rattle.definition.specs.Reading.{readEntries}
@@ -81,6 +82,6 @@ unfolding definition written entriesWith
 finds = (refl, refl, refl, refl, refl, refl)
 
 -- a chain of includes has the file's own name
-chain : map (λ (x : Entered). x .chain) (readEntries (ascii "#include \"x/../p\"" ∷ []) (archiveOf (file "p" "b:1" ∷ []))) ≡ (ascii "p" ∷ []) ∷ []
+chain : map (λ (x : Entered). x .chain) (readEntries defaultDepth (ascii "#include \"x/../p\"" ∷ []) (archiveOf (file "p" "b:1" ∷ []))) ≡ (ascii "p" ∷ []) ∷ []
 unfolding definition
 chain = refl

@@ -5,7 +5,7 @@ use Prim.Native.Nat.{ℕ, _+_}
 use lib.Dec.{leb, ltb}
 use lib.ListN.{length}
 use Rattle.definition.specs.Lists.{if_then_else_, any}
-use Rattle.definition.specs.Limits.{textBytes, deepest, mostOpens, mostEntries, mostParts, bodyBytes}
+use Rattle.definition.specs.Limits.{textBytes, greatestDepth, mostOpens, mostEntries, mostParts, bodyBytes}
 use Rattle.definition.specs.Archive.{File, laidOut, filesOf}
 use Rattle.definition.specs.Text.{Entry}
 use Rattle.definition.specs.Including.{Event, opened, entered, eventsOfAll, Entered, entriesOf, originOf}
@@ -52,13 +52,13 @@ pub record Outcome : Type 0 where
 abbrev pub outcome : Answer → List ℕ → List ℕ → Outcome
 outcome a c b = record { answer = a; contents = c; bodies = b }
 
--- all that a reading of its texts meets; document 01's main text is the list of one
-abbrev pub met : List (List ℕ) → List ℕ → List Event
-met texts archive = eventsOfAll deepest (filesOf archive) texts
+-- all that a reading of its texts at a depth meets; document 01's main text is the list of one
+abbrev pub met : ℕ → List (List ℕ) → List ℕ → List Event
+met depth texts archive = eventsOfAll depth (filesOf archive) texts
 
 -- the entries of a reading, with their chains and without
-abbrev pub readEntries : List (List ℕ) → List ℕ → List Entered
-readEntries texts archive = entriesOf (met texts archive)
+abbrev pub readEntries : ℕ → List (List ℕ) → List ℕ → List Entered
+readEntries depth texts archive = entriesOf (met depth texts archive)
 
 abbrev pub plain : List Entered → List Entry
 plain xs = map (λ x. x .entry) xs
@@ -79,10 +79,15 @@ start = record { opens = 0; entries = 0; used = 0 }
 abbrev pub tooLong : List ℕ → Bool
 tooLong text = ltb textBytes (length text)
 
--- 1, 2 and 3 are tested first and change nothing
-unfoldable pub reading : List (List ℕ) → List ℕ → List ℕ → List ℕ → Outcome
-reading texts archive contents bodies =
+-- a depth that no caller may give (document 02 (x))
+abbrev pub tooDeep : ℕ → Bool
+tooDeep depth = ltb greatestDepth depth
+
+-- 1, 2, 3 and 15 are tested first and change nothing
+unfoldable pub reading : ℕ → List (List ℕ) → List ℕ → List ℕ → List ℕ → Outcome
+reading depth texts archive contents bodies =
     if tooShort contents bodies then outcome (refused 1) contents bodies else
     if any tooLong texts then outcome (refused 2) contents bodies else
     if not (laidOut archive) then outcome (refused 3) contents bodies else
-    left (judge start (met texts archive)) (sourced (filesOf archive) (readEntries texts archive)) contents bodies
+    if tooDeep depth then outcome (refused 15) contents bodies else
+    left (judge start (met depth texts archive)) (sourced (filesOf archive) (readEntries depth texts archive)) contents bodies

@@ -38,6 +38,7 @@ unfoldable pub textsUsed : StartUp → List (List ℕ)
 textsUsed s =
     added (firstText (s .format) (s .property) (s .xresources) (s .xdefaults)) ++ added (secondText (s .isSet) (s .xenvironment) (s .host))
 
--- the reading: its limits run over both texts, each of which has the empty folder
-abbrev pub starting : StartUp → List ℕ → List ℕ → List ℕ → Outcome
-starting s archive contents bodies = reading (textsUsed s) archive contents bodies
+-- the reading at a depth: its limits run over both texts, each of which has the empty folder. A caller that gives no depth gets the greatest,
+-- which the Rust has (document 02 (x))
+abbrev pub starting : ℕ → StartUp → List ℕ → List ℕ → List ℕ → Outcome
+starting depth s archive contents bodies = reading depth (textsUsed s) archive contents bodies

@@ -6,6 +6,7 @@ use mathlib.Core.Path.{_≡_, refl}
 use Prim.Native.Nat.{ℕ}
 use Prim.Native.String.{String}
 use Rattle.definition.specs.Lists.{ascii}
+use Rattle.definition.specs.Limits.{greatestDepth}
 use Rattle.definition.specs.Archive.{archiveOf}
 use Rattle.definition.specs.Reading.{judge, start, met, readEntries, within}
 use Rattle.definition.specs.StartUp.{StartUp, textsUsed}
@@ -73,7 +74,7 @@ nothing = refl
 -- ---- How they are read
 
 entriesOfBoth : String → String → List Written
-entriesOfBoth a b = written (readEntries (two a b) (archiveOf (file "d/p" "#include \"q\"" ∷ file "d/q" "a:below" ∷ file "q" "a:beside" ∷ [])))
+entriesOfBoth a b = written (readEntries greatestDepth (two a b) (archiveOf (file "d/p" "#include \"q\"" ∷ file "d/q" "a:below" ∷ file "q" "a:beside" ∷ [])))
 
 -- a text ends at its own end: a last backslash, octal digits or an unfinished line never run into the next
 apart :
@@ -98,6 +99,6 @@ unfolding definition written entriesOfBoth two
 folders = (refl, refl)
 
 -- opens, entries and store are counted over the whole of it
-counted : judge start (met (two "#include \"p\"\na:1" "#include \"p\"\nb:22") (archiveOf (file "p" "c:" ∷ []))) ≡ within (record { opens = 2; entries = 4; used = 11 })
+counted : judge start (met greatestDepth (two "#include \"p\"\na:1" "#include \"p\"\nb:22") (archiveOf (file "p" "c:" ∷ []))) ≡ within (record { opens = 2; entries = 4; used = 11 })
 unfolding definition two
 counted = refl

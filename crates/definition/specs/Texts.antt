@@ -5,13 +5,14 @@ use mathlib.Core.Path.{_≡_, refl}
 use Prim.Native.Nat.{ℕ}
 use Prim.Native.String.{String}
 use Rattle.definition.specs.Lists.{ascii}
+use Rattle.definition.specs.Limits.{defaultDepth}
 use Rattle.definition.specs.Reading.{plain, readEntries}
 use Rattle.definition.specs.Writing.{filled, written, refused, textOf, putInto}
 use Rattle.definition.specs.Evaluation.{definition, noFiles}
 
 -- a text read, and its entries written out
 rewritten : String → List ℕ
-rewritten t = textOf (plain (readEntries (ascii t ∷ []) noFiles))
+rewritten t = textOf (plain (readEntries defaultDepth (ascii t ∷ []) noFiles))
 
 table :
     -- key, `: `, value, newline

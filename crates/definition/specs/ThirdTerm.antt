@@ -79,9 +79,10 @@ abbrev pub isAccepted : Answer → Bool
 isAccepted (accepted entries opens) = true
 isAccepted (refusedReading k) = false
 
--- the texts of a reading (a main text is the list of one, and a start-up's are in StartUp.antt), an archive, the number of a file on it, a
--- query's bounds, name and class, and the buffers lent to each reading
+-- the depth of both readings (document 02 (x)), their texts (a main text is the list of one, and a start-up's are in StartUp.antt), an archive,
+-- the number of a file on it, a query's bounds, name and class, and the buffers lent to each reading
 pub record Case : Type 0 where
+  pub depth : ℕ
   pub texts : List (List ℕ)
   pub archive : List ℕ
   pub file : ℕ
@@ -102,10 +103,10 @@ module _ (c : Case) where
 
   -- with the file on the archive, and with it struck off
   abbrev pub withFile : Outcome
-  withFile = reading (c .texts) (c .archive) (c .contents) (c .bodies)
+  withFile = reading (c .depth) (c .texts) (c .archive) (c .contents) (c .bodies)
 
   abbrev pub withoutFile : Outcome
-  withoutFile = reading (c .texts) (struckOff (c .file) (c .archive)) (c .contents′) (c .bodies′)
+  withoutFile = reading (c .depth) (c .texts) (struckOff (c .file) (c .archive)) (c .contents′) (c .bodies′)
 
   pub record Given : Type 0 where
     pub fileOnIt : c .file < length (filesOf (c .archive))
@@ -123,7 +124,7 @@ module _ (c : Case) where
 
   -- the answer that the definition gives for the texts and an archive
   abbrev pub defined : List ℕ → Option (List ℕ)
-  defined archive = answerOf (plain (readEntries (c .texts) archive)) query
+  defined archive = answerOf (plain (readEntries (c .depth) (c .texts) archive)) query
 
   pub record ThirdTerm : Type 0 where
     pub isReadToo : isAccepted (withoutFile .answer) ≡ true
@@ -135,5 +136,5 @@ module _ (c : Case) where
     -- they are equal exactly when no entry that came through that file beats the rest; or one does, some entry beats the rest once all that came
     -- through that file are left out, and both carry the very same bytes
     pub equalJustWhen : (lookedUp withFile ≡ lookedUp withoutFile)
-        ↔ (NoneThroughBeats (throughFile fileName) (readEntries (c .texts) (c .archive)) query
-        ⊎ SameBytesWithout (throughFile fileName) (readEntries (c .texts) (c .archive)) query)
+        ↔ (NoneThroughBeats (throughFile fileName) (readEntries (c .depth) (c .texts) (c .archive)) query
+        ⊎ SameBytesWithout (throughFile fileName) (readEntries (c .depth) (c .texts) (c .archive)) query)

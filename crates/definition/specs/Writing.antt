@@ -12,7 +12,7 @@ use Rattle.definition.specs.Bytes.{newline, backslash, isBlank}
 use Rattle.definition.specs.Archive.{laidOut}
 use Rattle.definition.specs.Text.{Entry}
 use Rattle.definition.specs.Image.{keyOf, Sourced, allFrom, imageContents, imageBodies, tooShort, rowsBy, originsIn, entriesIn, withOrigins, isImageBy, isImage}
-use Rattle.definition.specs.Reading.{Outcome, outcome, accepted, tooLong, reading}
+use Rattle.definition.specs.Reading.{Outcome, outcome, accepted, tooLong, tooDeep, reading}
 
 -- ---- The text
 
@@ -88,19 +88,20 @@ writing contents bodies buffer = writingBy rowWords contents bodies buffer
 
 -- ---- What is claimed
 
--- a reading of an image's text, if within limit 2, opens nothing and leaves an image of the same entries, zero elsewhere; their lines stand
--- in the main text
+-- a reading of an image's text at any depth, if within limit 2, opens nothing and leaves an image of the same entries, zero elsewhere; their
+-- lines stand in the main text
 abbrev pub RoundTrip : Type 0
 RoundTrip =
-    (contents bodies archive lentContents lentBodies : List ℕ)
+    (depth : ℕ) (contents bodies archive lentContents lentBodies : List ℕ)
     → isImage contents bodies ≡ true
     → tooLong (imageText contents bodies) ≡ false
     → laidOut archive ≡ true
+    → tooDeep depth ≡ false
     → tooShort lentContents lentBodies ≡ false
     → let es = entriesOfImage contents bodies in
     let c = imageContents (allFrom 0 es) lentContents in
     let b = imageBodies es lentBodies in
-    (reading (imageText contents bodies ∷ []) archive lentContents lentBodies ≡ outcome (accepted (length es) 0) c b)
+    (reading depth (imageText contents bodies ∷ []) archive lentContents lentBodies ≡ outcome (accepted (length es) 0) c b)
     × (isImage c b ≡ true)
     × SameEntries c b contents bodies
 

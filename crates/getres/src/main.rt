@@ -5,6 +5,7 @@ ghost use mathlib.Core.Path.{_≡_};
 ghost use mathlib.Core.Bool.{true};
 ghost use Rattle.definition.specs.Archive.{laidOut};
 use answering::answer_plan;
+use answering::depth_asked;
 use argument_words::descriptor;
 use chain_input::Home;
 use chain_input::property_format;
@@ -41,7 +42,7 @@ fn answer_text<'a>(plan: Plan, text: &'a [u8], archive: &[u8]) -> u8
         tell_main(text, archive);
     }
     if plan.shared {
-        tell_shared(text, archive);
+        tell_shared(text, archive, depth_asked(plan));
     }
     let texts: [&'a [u8]; 1] = [text];
     answer_plan(plan, &texts, archive)
@@ -90,7 +91,7 @@ fn answer_steps<'a>(
         tell_chain(a, b, archive);
     }
     if plan.shared {
-        tell_shared_chain(a, b, archive);
+        tell_shared_chain(a, b, archive, depth_asked(plan));
     }
     let texts: [&'a [u8]; 2] = [a, b];
     answer_plan(plan, &texts, archive)

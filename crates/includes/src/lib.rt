@@ -2,7 +2,6 @@
 ghost use mathlib.Core.Path.{_≡_};
 ghost use mathlib.Core.List.{[]};
 ghost use mathlib.Core.Bool.{true};
-ghost use Rattle.definition.specs.Limits.{deepest};
 ghost use Rattle.definition.specs.Archive.{laidOut, filesOf};
 ghost use Rattle.definition.specs.Including.{Chain, including, originOf};
 ghost use Rattle.byte_classes.specs.Classes.{byteClasses};
@@ -12,7 +11,6 @@ use archive_find::Found;
 use archive_find::find_include;
 use image::Step;
 use image::Totals;
-use limits::DEEPEST;
 use limits::MOST_OPENS;
 use lines::Line;
 use lines::parse_line;
@@ -27,7 +25,7 @@ fn include<'a>(
     name: &'a [u8],
     folder: &'a [u8],
     archive: &[u8],
-    depth: usize,
+    depth: u64,
     totals: Totals,
     words: &mut [u16],
     store: &mut [u8],
@@ -78,7 +76,7 @@ fn parse_database<'a>(
     text: &'a [u8],
     folder: &'a [u8],
     archive: &[u8],
-    depth: usize,
+    depth: u64,
     totals: Totals,
     words: &mut [u16],
     store: &mut [u8],
@@ -149,17 +147,18 @@ fn parse_database<'a>(
     Step::Go(s)
 }
 
-// Reads a text of the reading, at depth 0 in the empty folder.
+// Reads a text of a reading of that depth, at depth 0 in the empty folder.
 pub fn parse_text(
     classes: &[u8; 256],
     text: &[u8],
     archive: &[u8],
+    depth: u64,
     totals: Totals,
     words: &mut [u16],
     store: &mut [u8],
 ) -> Step
     requires { ⌜ Room totals (now words) (now store) × (laidOut (now archive) ≡ true) × (now classes ≡ byteClasses) ⌝ }
-    ensures { λ r. ⌜ answered r (now (words .exit)) (now (store .exit)) ≡ run (filesOf (now (archive .entry))) (world totals (now (words .entry)) (now (store .entry))) (textEvents deepest (filesOf (now (archive .entry))) [] [] (now (text .entry))) ⌝ }
+    ensures { λ r. ⌜ answered r (now (words .exit)) (now (store .exit)) ≡ run (filesOf (now (archive .entry))) (world totals (now (words .entry)) (now (store .entry))) (textEvents depth (filesOf (now (archive .entry))) [] [] (now (text .entry))) ⌝ }
 {
     // a text whose lines are all of the common form needs no more
     let plain = plain_lines(classes, text, totals, words, store, 0);
@@ -184,7 +183,7 @@ pub fn parse_text(
         &text[taken..],
         &text[..0],
         archive,
-        DEEPEST,
+        depth,
         next,
         words,
         store,

@@ -12,7 +12,7 @@ pub enum Number {
 }
 
 // A number without its sign, if an i64 has it with one.
-enum Natural {
+pub enum Natural {
     Is(u64),
     Nothing,
 }
@@ -25,7 +25,7 @@ const MOST: u64 = 9223372036854775807;
 const LEAST: i64 = -9223372036854775808;
 
 // No digit goes on to a number in range once what stands before it is past a tenth of the range.
-fn parse_natural(text: &[u8]) -> Natural
+pub fn parse_natural(text: &[u8]) -> Natural
     ensures { λ r. ⌜ naturalIn r ≡ magnitude (naturalOf (now (text .entry))) ⌝ }
 {
     let end = text.len();

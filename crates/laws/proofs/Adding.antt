@@ -13,7 +13,7 @@ use lib.Seq.{slice, paste, take-length, length-take-le, take-append-le, drop-app
 use borrow.Author.Tests.{le-ltb, le-leb, eqb-true, eq-eqb}
 use Rattle.definition.specs.Lists.{if_then_else_, all}
 use Rattle.definition.specs.Parsing.{Parsed}
-use Rattle.definition.specs.Limits.{deepest, contentsWords, bodyBytes, rowWords, mostEntries, mostParts, unknownFile}
+use Rattle.definition.specs.Limits.{defaultDepth, contentsWords, bodyBytes, rowWords, mostEntries, mostParts, unknownFile}
 use Rattle.definition.specs.Archive.{archiveOf, filesOf}
 use Rattle.definition.specs.Text.{Part, Entry, endsInName}
 use Rattle.definition.specs.Including.{entered, entriesOf}
@@ -346,7 +346,7 @@ Leaves contents bodies a = (k : ℕ) × (a ≡ addition (refused k) contents bod
 -- the parts of an added entry are legal and end in a name
 added-legal : (text : List ℕ) → all (λ e. all isLegal (e .parts) && endsInName (e .parts)) (entriesAdded text) ≡ true
 unfolding entriesAdded isLegalLine
-added-legal text = eventsOfAll-good _ isLegalLine (λ e. refl) lines-legal deepest (filesOf (archiveOf [])) (text ∷ [])
+added-legal text = eventsOfAll-good _ isLegalLine (λ e. refl) lines-legal defaultDepth (filesOf (archiveOf [])) (text ∷ [])
 
 module _ (contents bodies : List ℕ) where
   abbrev soFar : Totals

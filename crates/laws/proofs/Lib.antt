@@ -20,3 +20,4 @@ pub mod Adding
 pub mod Migration
 pub mod Striking
 pub mod ThirdTerm
+pub mod Nesting

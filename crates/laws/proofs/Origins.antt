@@ -9,7 +9,7 @@ use native.Mathlib.Omega.{arith}
 use lib.ListN.{length, drop, getD}
 use borrow.Author.Tests.{le-leb}
 use Rattle.definition.specs.Lists.{if_then_else_, all, same}
-use Rattle.definition.specs.Limits.{deepest, archiveFiles, mostEntries, bodyBytes}
+use Rattle.definition.specs.Limits.{archiveFiles, mostEntries, bodyBytes}
 use Rattle.definition.specs.Archive.{File, laidOut, filesOf, bodyOf, fileNumber, folderOf, pathOf}
 use Rattle.definition.specs.Text.{Entry, Line, skipped, include, entry, linesOf}
 use Rattle.definition.specs.Including.{Chain, Event, opened, entered, eventsOf, opening, seeking, including, events, eventsOfAll, Entered, entriesOf, originOf}
@@ -135,11 +135,11 @@ image-sources xs es contents bodies from fit few small long =
 -- ---- A reading
 
 -- the entries of a reading, with their origins
-pub read-sources : (texts : List (List ℕ)) (archive : List ℕ) → laidOut archive ≡ true
-    → Sources (sourced (filesOf archive) (readEntries texts archive)) (plain (readEntries texts archive))
-read-sources texts archive h = record {
-  entries = bare-sourced (filesOf archive) (readEntries texts archive);
+pub read-sources : (depth : ℕ) (texts : List (List ℕ)) (archive : List ℕ) → laidOut archive ≡ true
+    → Sources (sourced (filesOf archive) (readEntries depth texts archive)) (plain (readEntries depth texts archive))
+read-sources depth texts archive h = record {
+  entries = bare-sourced (filesOf archive) (readEntries depth texts archive);
   known =
-      sourced-known (filesOf archive) (readEntries texts archive)
-      (eventsOfAll-known (filesOf archive) (laidOut-says archive h .few) deepest texts);
+      sourced-known (filesOf archive) (readEntries depth texts archive)
+      (eventsOfAll-known (filesOf archive) (laidOut-says archive h .few) depth texts);
 }

@@ -14,7 +14,7 @@ use Rattle.definition.specs.Archive.{File, laidOut, filesOf, bodyOf, folderOf, 
 use Rattle.definition.specs.Text.{Entry, Line, skipped, include, entry, linesOf}
 use Rattle.definition.specs.Including.{Chain, Event, opened, entered, eventsOf, opening, seeking, including, events, eventsOfAll, Entered, entriesOf, opensOf}
 use Rattle.definition.specs.Image.{Sourced, bare, tooShort, imageContents, imageBodies}
-use Rattle.definition.specs.Reading.{Totals, Verdict, within, past, judge, start, accepted, refused, Outcome, outcome, met, readEntries, plain, sourced, left, tooLong, reading}
+use Rattle.definition.specs.Reading.{Totals, Verdict, within, past, judge, start, accepted, refused, Outcome, outcome, met, readEntries, plain, sourced, left, tooLong, tooDeep, reading}
 use Rattle.definition.specs.ThirdTerm.{isAccepted}
 use Rattle.laws.proofs.Lists.{not-both, and-true, and-both}
 use Rattle.laws.proofs.Limits.{InLimits, FewParts, judge-limits, limits-judge}
@@ -26,11 +26,12 @@ bare-sourced fs (x ∷ xs) = ap (λ (l : List Entry). x .entry ∷ l) (bare-sour
 
 -- ---- An accepted reading
 
-pub record Reads (texts : List (List ℕ)) (archive contents bodies : List ℕ) : Type 0 where
+pub record Reads (depth : ℕ) (texts : List (List ℕ)) (archive contents bodies : List ℕ) : Type 0 where
   pub long : tooShort contents bodies ≡ false
   pub fit : any tooLong texts ≡ false
   pub isLaidOut : laidOut archive ≡ true
-  pub limits : InLimits start (met texts archive)
+  pub shallow : tooDeep depth ≡ false
+  pub limits : InLimits start (met depth texts archive)
 
 not-refused : (b : Bool) (k : ℕ) (c d : List ℕ) (o : Outcome) → isAccepted ((if b then outcome (refused k) c d else o) .answer) ≡ true
     → (b ≡ false) × (isAccepted (o .answer) ≡ true)
@@ -46,39 +47,41 @@ not-not : (b : Bool) → not b ≡ false → b ≡ true
 not-not true e = refl
 not-not false e = sym e
 
-module _ (texts : List (List ℕ)) (archive contents bodies : List ℕ) where
-  pub accepted-reads : isAccepted (reading texts archive contents bodies .answer) ≡ true → Reads texts archive contents bodies
+module _ (depth : ℕ) (texts : List (List ℕ)) (archive contents bodies : List ℕ) where
+  pub accepted-reads : isAccepted (reading depth texts archive contents bodies .answer) ≡ true → Reads depth texts archive contents bodies
   unfolding reading
   accepted-reads e =
       let a = not-refused (tooShort contents bodies) 1 contents bodies _ e in
       let b = not-refused (any tooLong texts) 2 contents bodies _ (a .1) in
       let c = not-refused (not (laidOut archive)) 3 contents bodies _ (b .1) in
-      let d = judged (judge start (met texts archive)) (sourced (filesOf archive) (readEntries texts archive)) contents bodies (c .1) in
+      let d = not-refused (tooDeep depth) 15 contents bodies _ (c .1) in
+      let f = judged (judge start (met depth texts archive)) (sourced (filesOf archive) (readEntries depth texts archive)) contents bodies (d .1) in
       record {
         long = a .0;
         fit = b .0;
         isLaidOut = not-not (laidOut archive) (c .0);
-        limits = judge-limits (met texts archive) start (d .0) (omega arith) (omega arith) (omega arith) (d .1) .1;
+        shallow = d .0;
+        limits = judge-limits (met depth texts archive) start (f .0) (omega arith) (omega arith) (omega arith) (f .1) .1;
       }
 
   -- it leaves the image of its entries, with their origins
-  pub reads-outcome : Reads texts archive contents bodies
-      → reading texts archive contents bodies
-      ≡ outcome (accepted (0 + length (readEntries texts archive)) (0 + opensOf (met texts archive)))
-      (imageContents (sourced (filesOf archive) (readEntries texts archive)) contents) (imageBodies (plain (readEntries texts archive)) bodies)
+  pub reads-outcome : Reads depth texts archive contents bodies
+      → reading depth texts archive contents bodies
+      ≡ outcome (accepted (0 + length (readEntries depth texts archive)) (0 + opensOf (met depth texts archive)))
+      (imageContents (sourced (filesOf archive) (readEntries depth texts archive)) contents) (imageBodies (plain (readEntries depth texts archive)) bodies)
   unfolding reading left
   reads-outcome r =
-      rw (r .long, r .fit, r .isLaidOut, limits-judge (met texts archive) start (r .limits), bare-sourced (filesOf archive) (readEntries texts archive)) refl
+      rw (r .long, r .fit, r .isLaidOut, r .shallow, limits-judge (met depth texts archive) start (r .limits), bare-sourced (filesOf archive) (readEntries depth texts archive)) refl
 
 -- an accepted reading answers within the limits
-pub accepted-small : (texts : List (List ℕ)) (archive contents bodies c b : List ℕ) (n o : ℕ) → outcome (accepted n o) c b ≡ reading texts archive contents bodies
+pub accepted-small : (depth : ℕ) (texts : List (List ℕ)) (archive contents bodies c b : List ℕ) (n o : ℕ) → outcome (accepted n o) c b ≡ reading depth texts archive contents bodies
     → (n ≤ mostEntries) × (o ≤ mostOpens)
-accepted-small texts archive contents bodies c b n o e =
-    let r = accepted-reads texts archive contents bodies (rw (← e) refl) in
-    let f : outcome (accepted n o) c b ≡ _ = e ∙ reads-outcome texts archive contents bodies r in
-    let g : accepted n o ≡ accepted (0 + length (readEntries texts archive)) (0 + opensOf (met texts archive)) = ap (λ (x : Outcome). x .answer) f in
-    let p : n ≡ 0 + length (readEntries texts archive) = cc in
-    let q : o ≡ 0 + opensOf (met texts archive) = cc in
+accepted-small depth texts archive contents bodies c b n o e =
+    let r = accepted-reads depth texts archive contents bodies (rw (← e) refl) in
+    let f : outcome (accepted n o) c b ≡ _ = e ∙ reads-outcome depth texts archive contents bodies r in
+    let g : accepted n o ≡ accepted (0 + length (readEntries depth texts archive)) (0 + opensOf (met depth texts archive)) = ap (λ (x : Outcome). x .answer) f in
+    let p : n ≡ 0 + length (readEntries depth texts archive) = cc in
+    let q : o ≡ 0 + opensOf (met depth texts archive) = cc in
     (omega (arith, r .limits .entries-most), omega (arith, r .limits .opens-most))
 
 -- ---- What holds of every line's entry holds of every entry read

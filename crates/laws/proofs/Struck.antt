@@ -7,7 +7,7 @@ use Prim.Native.Nat.{ℕ, zero, suc}
 use Rattle.definition.specs.Lists.{if_then_else_, any, filter, same}
 use Rattle.definition.specs.Archive.{File, bodyOf, folderOf, pathOf}
 use Rattle.definition.specs.Text.{Line, skipped, include, entry, linesOf}
-use Rattle.definition.specs.Including.{Chain, Event, opened, entered, eventsOf, opening, seeking, including, events, eventsOfAll, Entered, entriesOf}
+use Rattle.definition.specs.Including.{Chain, Event, opened, entered, eventsOf, opening, seeking, including, events, eventsOfAll, chainOf, Entered, entriesOf}
 use Rattle.definition.specs.ThirdTerm.{cameThrough, throughFile, leftOut}
 use Rattle.laws.proofs.Lists.{same-eq, any-append, filter-append}
 
@@ -16,9 +16,12 @@ pub record Lacks (fs gs : List File) (file : List ℕ) : Type 0 where
   pub gone : bodyOf gs file ≡ none
   pub others : (n : List ℕ) → same file n ≡ false → bodyOf gs n ≡ bodyOf fs n
 
-abbrev pub chainOf : Event → Chain
-chainOf (opened ch) = ch
-chainOf (entered ch e) = ch
+-- what a file's body adds, and what the file does, with d depths left below it
+abbrev pub body-events : ℕ → List File → Chain → List ℕ → List ℕ → List Event
+body-events d fs ch g b = eventsOf (including d fs (folderOf g) (ch ++ g ∷ [])) (ch ++ g ∷ []) (linesOf b)
+
+abbrev pub file-events : ℕ → List File → Chain → List ℕ → List Event
+file-events d fs ch g = opening (ch ++ g ∷ []) (body-events d fs ch g) (bodyOf fs g)
 
 module _ (file : List ℕ) where
   -- is the file on the chain?
@@ -59,13 +62,6 @@ module _ (file : List ℕ) where
   unfolding seeking filter
   seeking-gone f none h = refl
   seeking-gone f (some g) h = h g
-
-  -- what a file's body adds, with d depths left below the file
-  abbrev body-events : ℕ → List File → Chain → List ℕ → List ℕ → List Event
-  body-events d fs ch g b = eventsOf (including d fs (folderOf g) (ch ++ g ∷ [])) (ch ++ g ∷ []) (linesOf b)
-
-  abbrev file-events : ℕ → List File → Chain → List ℕ → List Event
-  file-events d fs ch g = opening (ch ++ g ∷ []) (body-events d fs ch g) (bodyOf fs g)
 
   including-gone : (d : ℕ) (fs : List File) (folder : List ℕ) (ch : Chain) (n : List ℕ) → on ch ≡ true → eventsWithout (including d fs folder ch n) ≡ []
   unfolding including filter

@@ -7,7 +7,7 @@ use native.Mathlib.Omega.{arith}
 use lib.Dec.{leb}
 use lib.ListN.{length, length-map}
 use Rattle.definition.specs.Lists.{all}
-use Rattle.definition.specs.Limits.{mostParts, mostEntries, bodyBytes, deepest}
+use Rattle.definition.specs.Limits.{mostParts, mostEntries, bodyBytes}
 use Rattle.definition.specs.Archive.{filesOf, laidOut, struckOff}
 use Rattle.definition.specs.Text.{Entry, entry}
 use Rattle.definition.specs.Including.{Entered, entriesOf}
@@ -50,69 +50,69 @@ replies rows bodies (positions qs) h k = at (bestOf (keysOf (entriesIn rows bodi
 replies rows bodies malformed h k = λ e. let z : _≡_ {A = ℕ} 0 1 = cc in omega arith
 replies rows bodies (pastLimit j) h k = λ e. absurd (h j refl)
 
-module _ (texts : List (List ℕ)) (archive contents bodies : List ℕ) (r : Reads texts archive contents bodies) where
+module _ (depth : ℕ) (texts : List (List ℕ)) (archive contents bodies : List ℕ) (r : Reads depth texts archive contents bodies) where
   abbrev es : List Entry
-  es = plain (readEntries texts archive)
+  es = plain (readEntries depth texts archive)
 
   -- with their origins
   abbrev xs : List Sourced
-  xs = sourced (filesOf archive) (readEntries texts archive)
+  xs = sourced (filesOf archive) (readEntries depth texts archive)
 
   from : Sources xs es
-  from = read-sources texts archive (r .isLaidOut)
+  from = read-sources depth texts archive (r .isLaidOut)
 
   storable : all isStorable es ≡ true
   unfolding isStorable isLegalLine
   storable =
       all-both _ (λ (e : Entry). leb (length (e .parts)) mostParts) es
-      (eventsOfAll-good _ isLegalLine (λ e. refl) lines-legal deepest (filesOf archive) texts)
-      (few-parts (met texts archive) (r .limits .parts-most))
+      (eventsOfAll-good _ isLegalLine (λ e. refl) lines-legal depth (filesOf archive) texts)
+      (few-parts (met depth texts archive) (r .limits .parts-most))
 
   few : length es ≤ mostEntries
-  few = omega (arith, r .limits .entries-most, length-map (readEntries texts archive) (λ (x : Entered). x .entry))
+  few = omega (arith, r .limits .entries-most, length-map (readEntries depth texts archive) (λ (x : Entered). x .entry))
 
   small : length (storeOf es) ≤ bodyBytes
-  small = omega (arith, r .limits .used-most, used-store (met texts archive))
+  small = omega (arith, r .limits .used-most, used-store (met depth texts archive))
 
   -- it leaves an image of its entries
-  pub reading-image : isImage (reading texts archive contents bodies .contents) (reading texts archive contents bodies .bodies) ≡ true
-  reading-image = rw (reads-outcome texts archive contents bodies r) (image-is xs es contents bodies from storable few small (r .long))
+  pub reading-image : isImage (reading depth texts archive contents bodies .contents) (reading depth texts archive contents bodies .bodies) ≡ true
+  reading-image = rw (reads-outcome depth texts archive contents bodies r) (image-is xs es contents bodies from storable few small (r .long))
 
-  pub reading-entries : entriesIn (rowsIn (reading texts archive contents bodies .contents)) (reading texts archive contents bodies .bodies) ≡ es
-  reading-entries = rw (reads-outcome texts archive contents bodies r) (image-entries xs es contents bodies from storable few small (r .long))
+  pub reading-entries : entriesIn (rowsIn (reading depth texts archive contents bodies .contents)) (reading depth texts archive contents bodies .bodies) ≡ es
+  reading-entries = rw (reads-outcome depth texts archive contents bodies r) (image-entries xs es contents bodies from storable few small (r .long))
 
   -- and of their origins
-  pub reading-sources : sourcesOfImage (reading texts archive contents bodies .contents) (reading texts archive contents bodies .bodies) ≡ xs
-  reading-sources = rw (reads-outcome texts archive contents bodies r) (image-sources xs es contents bodies from storable few small (r .long))
+  pub reading-sources : sourcesOfImage (reading depth texts archive contents bodies .contents) (reading depth texts archive contents bodies .bodies) ≡ xs
+  reading-sources = rw (reads-outcome depth texts archive contents bodies r) (image-sources xs es contents bodies from storable few small (r .long))
 
   pub reading-answers : (most : Bounds) (name class : List ℕ)
-      → answerIn (reading texts archive contents bodies .bodies)
-      (getBytesWithin most (reading texts archive contents bodies .contents) (reading texts archive contents bodies .bodies) name class)
+      → answerIn (reading depth texts archive contents bodies .bodies)
+      (getBytesWithin most (reading depth texts archive contents bodies .contents) (reading depth texts archive contents bodies .bodies) name class)
       ≡ answerOf es (queryWithin most name class)
   reading-answers most name class =
-      rw (reads-outcome texts archive contents bodies r)
+      rw (reads-outcome depth texts archive contents bodies r)
       (answer-image xs es contents bodies from storable few small (r .long) most name class)
 
   -- and the lookup is not refused
   pub reading-replies : (most : Bounds) (name class : List ℕ) → ((k : ℕ) → queryWithin most name class ≡ pastLimit k → ⊥)
-      → (k : ℕ) → getBytesWithin most (reading texts archive contents bodies .contents) (reading texts archive contents bodies .bodies) name class ≡ refused k → ⊥
+      → (k : ℕ) → getBytesWithin most (reading depth texts archive contents bodies .contents) (reading depth texts archive contents bodies .bodies) name class ≡ refused k → ⊥
   unfolding getBytesBy
   reading-replies most name class limits k =
-      rw (reads-outcome texts archive contents bodies r, image-is xs es contents bodies from storable few small (r .long))
+      rw (reads-outcome depth texts archive contents bodies r, image-is xs es contents bodies from storable few small (r .long))
       (replies (rowsIn (imageContents xs contents)) (imageBodies es bodies) (queryWithin most name class) limits k)
 
 -- an accepted reading, by what its call leaves
-pub read-holds : (texts : List (List ℕ)) (archive contents bodies c b : List ℕ) (n o : ℕ) → outcome (accepted n o) c b ≡ reading texts archive contents bodies
-    → (isImage c b ≡ true) × (entriesOfImage c b ≡ plain (readEntries texts archive))
-read-holds texts archive contents bodies c b n o e =
-    let r = accepted-reads texts archive contents bodies (rw (← e) refl) in
-    (rw (← e) at (reading-image texts archive contents bodies r), rw (← e) at (reading-entries texts archive contents bodies r))
+pub read-holds : (depth : ℕ) (texts : List (List ℕ)) (archive contents bodies c b : List ℕ) (n o : ℕ) → outcome (accepted n o) c b ≡ reading depth texts archive contents bodies
+    → (isImage c b ≡ true) × (entriesOfImage c b ≡ plain (readEntries depth texts archive))
+read-holds depth texts archive contents bodies c b n o e =
+    let r = accepted-reads depth texts archive contents bodies (rw (← e) refl) in
+    (rw (← e) at (reading-image depth texts archive contents bodies r), rw (← e) at (reading-entries depth texts archive contents bodies r))
 
-pub read-sourced : (texts : List (List ℕ)) (archive contents bodies c b : List ℕ) (n o : ℕ) → outcome (accepted n o) c b ≡ reading texts archive contents bodies
-    → (laidOut archive ≡ true) × (sourcesOfImage c b ≡ sourced (filesOf archive) (readEntries texts archive))
-read-sourced texts archive contents bodies c b n o e =
-    let r = accepted-reads texts archive contents bodies (rw (← e) refl) in
-    (r .isLaidOut, rw (← e) at (reading-sources texts archive contents bodies r))
+pub read-sourced : (depth : ℕ) (texts : List (List ℕ)) (archive contents bodies c b : List ℕ) (n o : ℕ) → outcome (accepted n o) c b ≡ reading depth texts archive contents bodies
+    → (laidOut archive ≡ true) × (sourcesOfImage c b ≡ sourced (filesOf archive) (readEntries depth texts archive))
+read-sourced depth texts archive contents bodies c b n o e =
+    let r = accepted-reads depth texts archive contents bodies (rw (← e) refl) in
+    (r .isLaidOut, rw (← e) at (reading-sources depth texts archive contents bodies r))
 
 -- ---- The term
 
@@ -120,8 +120,8 @@ module _ (c : Case) (g : Given c) where
   abbrev struck : List ℕ
   struck = struckOff (c .file) (c .archive)
 
-  first : Reads (c .texts) (c .archive) (c .contents) (c .bodies)
-  first = accepted-reads (c .texts) (c .archive) (c .contents) (c .bodies) (g .isRead)
+  first : Reads (c .depth) (c .texts) (c .archive) (c .contents) (c .bodies)
+  first = accepted-reads (c .depth) (c .texts) (c .archive) (c .contents) (c .bodies) (g .isRead)
 
   lacks : Lacks (filesOf (c .archive)) (filesOf struck) (fileName c)
   lacks =
@@ -130,29 +130,30 @@ module _ (c : Case) (g : Given c) where
         others = λ n h. removed-other (c .file) (filesOf (c .archive)) n (g .fileOnIt) h;
       })
 
-  met-struck : met (c .texts) struck ≡ eventsWithout (fileName c) (met (c .texts) (c .archive))
-  met-struck = eventsOfAll-struck (fileName c) (filesOf (c .archive)) (filesOf struck) lacks deepest (c .texts)
+  met-struck : met (c .depth) (c .texts) struck ≡ eventsWithout (fileName c) (met (c .depth) (c .texts) (c .archive))
+  met-struck = eventsOfAll-struck (fileName c) (filesOf (c .archive)) (filesOf struck) lacks (c .depth) (c .texts)
 
-  second : Reads (c .texts) struck (c .contents′) (c .bodies′)
+  second : Reads (c .depth) (c .texts) struck (c .contents′) (c .bodies′)
   second = record {
     long = g .longEnough′;
     fit = first .fit;
     isLaidOut = struck-laidOut (c .file) (c .archive) (first .isLaidOut) (g .fileOnIt);
-    limits = rw met-struck (limits-fewer (apart (fileName c)) start (met (c .texts) (c .archive)) (first .limits));
+    shallow = first .shallow;
+    limits = rw met-struck (limits-fewer (apart (fileName c)) start (met (c .depth) (c .texts) (c .archive)) (first .limits));
   }
 
-  entries-struck : readEntries (c .texts) struck ≡ leftOut (throughFile (fileName c)) (readEntries (c .texts) (c .archive))
-  entries-struck = ap entriesOf met-struck ∙ entries-without (fileName c) (met (c .texts) (c .archive))
+  entries-struck : readEntries (c .depth) (c .texts) struck ≡ leftOut (throughFile (fileName c)) (readEntries (c .depth) (c .texts) (c .archive))
+  entries-struck = ap entriesOf met-struck ∙ entries-without (fileName c) (met (c .depth) (c .texts) (c .archive))
 
   pub third-term : ThirdTerm c
   third-term =
-      let a = reading-answers (c .texts) (c .archive) (c .contents) (c .bodies) first (c .bounds) (c .name) (c .class) in
-      let b = reading-answers (c .texts) struck (c .contents′) (c .bodies′) second (c .bounds) (c .name) (c .class) in
+      let a = reading-answers (c .depth) (c .texts) (c .archive) (c .contents) (c .bodies) first (c .bounds) (c .name) (c .class) in
+      let b = reading-answers (c .depth) (c .texts) struck (c .contents′) (c .bodies′) second (c .bounds) (c .name) (c .class) in
       record {
-        isReadToo = rw (reads-outcome (c .texts) struck (c .contents′) (c .bodies′) second) refl;
-        firstAnswers = reading-replies (c .texts) (c .archive) (c .contents) (c .bodies) first (c .bounds) (c .name) (c .class) (g .withinLimits);
-        secondAnswers = reading-replies (c .texts) struck (c .contents′) (c .bodies′) second (c .bounds) (c .name) (c .class) (g .withinLimits);
+        isReadToo = rw (reads-outcome (c .depth) (c .texts) struck (c .contents′) (c .bodies′) second) refl;
+        firstAnswers = reading-replies (c .depth) (c .texts) (c .archive) (c .contents) (c .bodies) first (c .bounds) (c .name) (c .class) (g .withinLimits);
+        secondAnswers = reading-replies (c .depth) (c .texts) struck (c .contents′) (c .bodies′) second (c .bounds) (c .name) (c .class) (g .withinLimits);
         firstAnswer = a;
         secondAnswer = b;
-        equalJustWhen = rw (a, b, entries-struck) (striking-off Entered (throughFile (fileName c)) (readEntries (c .texts) (c .archive)) (query c));
+        equalJustWhen = rw (a, b, entries-struck) (striking-off Entered (throughFile (fileName c)) (readEntries (c .depth) (c .texts) (c .archive)) (query c));
       }

@@ -17,7 +17,7 @@ use Rattle.definition.specs.Archive.{File, laidOut, filesOf}
 use Rattle.definition.specs.Text.{tight, name, Part, Entry, entry, isNamed, endsInName}
 use Rattle.definition.specs.Including.{Event, entered, eventsOf, events, eventsOfAll, entriesOf, originOf, opensOf}
 use Rattle.definition.specs.Image.{componentBytes, keyOf, Sourced, allFrom, storeOf, isOrigin, imageContents, imageBodies, countOf, usedOf, tooShort, isImage}
-use Rattle.definition.specs.Reading.{outcome, accepted, met, readEntries, plain, sourced, start, tooLong, reading}
+use Rattle.definition.specs.Reading.{outcome, accepted, met, readEntries, plain, sourced, start, tooLong, tooDeep, reading}
 use Rattle.definition.specs.Writing.{
   escaped,
   beginsBlank,
@@ -64,9 +64,9 @@ unfolding eventsOf
 entered-lines inc [] = refl
 entered-lines inc (e ∷ es) = ap (λ (l : List Event). entered [] e ∷ l) (entered-lines inc es)
 
-text-met : (es : List Entry) (archive : List ℕ) → all isStorable es ≡ true → met (textOf es ∷ []) archive ≡ enteredAll es
+text-met : (depth : ℕ) (es : List Entry) (archive : List ℕ) → all isStorable es ≡ true → met depth (textOf es ∷ []) archive ≡ enteredAll es
 unfolding eventsOfAll events
-text-met es archive h =
+text-met depth es archive h =
     append-nil _ ∙ ap (eventsOf _ []) (text-lines es (storable-lines es h)) ∙ entered-lines _ es
 
 entered-plain : (es : List Entry) → plain (entriesOf (enteredAll es)) ≡ es
@@ -104,23 +104,23 @@ entered-limits es h = record {
 }
 
 -- the entries of a text of entries are the same
-text-entries : (es : List Entry) (archive : List ℕ) → all isStorable es ≡ true → plain (readEntries (textOf es ∷ []) archive) ≡ es
-text-entries es archive h = ap (λ (l : List Event). plain (entriesOf l)) (text-met es archive h) ∙ entered-plain es
+text-entries : (depth : ℕ) (es : List Entry) (archive : List ℕ) → all isStorable es ≡ true → plain (readEntries depth (textOf es ∷ []) archive) ≡ es
+text-entries depth es archive h = ap (λ (l : List Event). plain (entriesOf l)) (text-met depth es archive h) ∙ entered-plain es
 
-text-reads : (es : List Entry) (archive contents bodies : List ℕ) → Held es → tooLong (textOf es) ≡ false → laidOut archive ≡ true
-    → tooShort contents bodies ≡ false
-    → reading (textOf es ∷ []) archive contents bodies ≡ outcome (accepted (length es) 0) (imageContents (allFrom 0 es) contents) (imageBodies es bodies)
+text-reads : (depth : ℕ) (es : List Entry) (archive contents bodies : List ℕ) → Held es → tooLong (textOf es) ≡ false → laidOut archive ≡ true
+    → tooDeep depth ≡ false → tooShort contents bodies ≡ false
+    → reading depth (textOf es ∷ []) archive contents bodies ≡ outcome (accepted (length es) 0) (imageContents (allFrom 0 es) contents) (imageBodies es bodies)
 unfolding any
-text-reads es archive contents bodies h t a l =
-    let m = text-met es archive (h .fit) in
-    let limits : InLimits start (met (textOf es ∷ []) archive) = rw m (entered-limits es h) in
-    let r : Reads (textOf es ∷ []) archive contents bodies = record { long = l; fit = rw t refl; isLaidOut = a; limits = limits } in
-    let n : 0 + length (readEntries (textOf es ∷ []) archive) ≡ length es = rw m (omega (arith, entered-count es)) in
-    let o : 0 + opensOf (met (textOf es ∷ []) archive) ≡ 0 = rw m (omega (arith, entered-opens es)) in
-    let p : plain (readEntries (textOf es ∷ []) archive) ≡ es = text-entries es archive (h .fit) in
-    let q : sourced (filesOf archive) (readEntries (textOf es ∷ []) archive) ≡ allFrom 0 es =
+text-reads depth es archive contents bodies h t a d l =
+    let m = text-met depth es archive (h .fit) in
+    let limits : InLimits start (met depth (textOf es ∷ []) archive) = rw m (entered-limits es h) in
+    let r : Reads depth (textOf es ∷ []) archive contents bodies = record { long = l; fit = rw t refl; isLaidOut = a; shallow = d; limits = limits } in
+    let n : 0 + length (readEntries depth (textOf es ∷ []) archive) ≡ length es = rw m (omega (arith, entered-count es)) in
+    let o : 0 + opensOf (met depth (textOf es ∷ []) archive) ≡ 0 = rw m (omega (arith, entered-opens es)) in
+    let p : plain (readEntries depth (textOf es ∷ []) archive) ≡ es = text-entries depth es archive (h .fit) in
+    let q : sourced (filesOf archive) (readEntries depth (textOf es ∷ []) archive) ≡ allFrom 0 es =
     ap (λ (l : List Event). sourced (filesOf archive) (entriesOf l)) m ∙ entered-sourced (filesOf archive) es in
-    reads-outcome (textOf es ∷ []) archive contents bodies r
+    reads-outcome depth (textOf es ∷ []) archive contents bodies r
     ∙ (λ i. outcome (accepted (n i) (o i)) (imageContents (q i) contents) (imageBodies (p i) bodies))
 
 -- ---- The round trip, and which texts are the same
@@ -130,20 +130,20 @@ unfolding isOrigin
 main-text = refl
 
 pub round-trip : RoundTrip
-round-trip contents bodies archive lentContents lentBodies e t a l =
+round-trip depth contents bodies archive lentContents lentBodies e t a d l =
     let es = entriesOfImage contents bodies in
     let h = image-held contents bodies e in
     let from = all-from 0 main-text es in (
-      text-reads es archive lentContents lentBodies h t a l,
+      text-reads depth es archive lentContents lentBodies h t a d l,
       image-is (allFrom 0 es) es lentContents lentBodies from (h .fit) (h .few) (h .small) l,
       image-entries (allFrom 0 es) es lentContents lentBodies from (h .fit) (h .few) (h .small) l,
     )
 
 pub same-text : SameText
 same-text contents bodies contents′ bodies′ e e′ =
-    let p = text-entries (entriesOfImage contents bodies) [] (image-held contents bodies e .fit) in
-    let q = text-entries (entriesOfImage contents′ bodies′) [] (image-held contents′ bodies′ e′ .fit) in
-    (λ same. sym p ∙ ap (λ (t : List ℕ). plain (readEntries (t ∷ []) [])) same ∙ q, ap textOf)
+    let p = text-entries 0 (entriesOfImage contents bodies) [] (image-held contents bodies e .fit) in
+    let q = text-entries 0 (entriesOfImage contents′ bodies′) [] (image-held contents′ bodies′ e′ .fit) in
+    (λ same. sym p ∙ ap (λ (t : List ℕ). plain (readEntries 0 (t ∷ []) [])) same ∙ q, ap textOf)
 
 -- ---- The longest text
 
@@ -306,18 +306,18 @@ module _ (n : ℕ) (t : List ℕ) where
         }
 
     -- and what a reading of it leaves, if it is within limit 2
-    pub written-reads : (archive lentContents lentBodies : List ℕ) → n ≤ textBytes → laidOut archive ≡ true → tooShort lentContents lentBodies ≡ false
+    pub written-reads : (depth : ℕ) (archive lentContents lentBodies : List ℕ) → n ≤ textBytes → laidOut archive ≡ true → tooDeep depth ≡ false → tooShort lentContents lentBodies ≡ false
         → let es = entriesOfImage contents bodies in
         let c = imageContents (allFrom 0 es) lentContents in
         let b = imageBodies es lentBodies in
-        (reading (take n t ∷ []) archive lentContents lentBodies ≡ outcome (accepted (length es) 0) c b)
+        (reading depth (take n t ∷ []) archive lentContents lentBodies ≡ outcome (accepted (length es) 0) c b)
         × (isImage c b ≡ true)
         × SameEntries c b contents bodies
-    written-reads archive lentContents lentBodies h a l =
+    written-reads depth archive lentContents lentBodies h a d l =
         let w = written-text in
         let m : length (imageText contents bodies) ≡ n = ap length (sym (w .text)) ∙ length-take-le n t (w .inside) in
         let long : tooLong (imageText contents bodies) ≡ false = rw m (le-ltb textBytes n h) in
-        rw (w .text) (round-trip contents bodies archive lentContents lentBodies (w .is-image) long a l)
+        rw (w .text) (round-trip depth contents bodies archive lentContents lentBodies (w .is-image) long a d l)
 
 -- two calls wrote the same text exactly when their images hold the same entries
 pub written-same : (n n′ : ℕ) (t t′ contents bodies buffer contents′ bodies′ buffer′ : List ℕ)

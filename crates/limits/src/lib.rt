@@ -10,8 +10,11 @@ pub const ARCHIVE_FILES: usize = 64;
 
 pub const FILE_NAME_BYTES: usize = 96;
 
-// The deepest text that is read; a text of the reading is at depth 0.
-pub const DEEPEST: usize = 100;
+// The depth of a reading, in which a text of the reading is at depth 0: the greatest that a caller may give, and the one where the caller
+// gives none (document 02 (x)).
+pub const GREATEST_DEPTH: u64 = 100;
+
+pub const DEFAULT_DEPTH: u64 = 20;
 
 pub const MOST_OPENS: usize = 4096;
 

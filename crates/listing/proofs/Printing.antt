@@ -6,7 +6,7 @@ use Prim.Native.Nat.{ℕ, zero, suc, _+_, _*_, _≤_, _<_}
 use native.Mathlib.Omega.{arith}
 use lib.ListN.{length, getD, length-append, length-map}
 use Rattle.definition.specs.Lists.{ascii, zeroes, any}
-use Rattle.definition.specs.Limits.{textBytes, contentsWords, bodyBytes, mostEntries}
+use Rattle.definition.specs.Limits.{textBytes, defaultDepth, contentsWords, bodyBytes, mostEntries}
 use Rattle.definition.specs.Text.{Entry}
 use Rattle.definition.specs.Including.{Entered, opensOf}
 use Rattle.definition.specs.Archive.{filesOf}
@@ -71,26 +71,26 @@ words = zeroes contentsWords
 abbrev bytes : List ℕ
 bytes = zeroes bodyBytes
 
-module _ (text c b : List ℕ) (n o : ℕ) (e : outcome (accepted n o) c b ≡ reading (text ∷ []) noFiles words bytes) where
+module _ (text c b : List ℕ) (n o : ℕ) (e : outcome (accepted n o) c b ≡ reading defaultDepth (text ∷ []) noFiles words bytes) where
   abbrev es : List Entry
-  es = plain (readEntries (text ∷ []) noFiles)
+  es = plain (readEntries defaultDepth (text ∷ []) noFiles)
 
   -- with their origins
   abbrev xs : List Sourced
-  xs = sourced (filesOf noFiles) (readEntries (text ∷ []) noFiles)
+  xs = sourced (filesOf noFiles) (readEntries defaultDepth (text ∷ []) noFiles)
 
   rows-are : rowsIn (imageContents xs words) ≡ rowsAt 0 es
-  rows-are = image-rows xs words ∙ ap (rowsAt 0) (bare-sourced (filesOf noFiles) (readEntries (text ∷ []) noFiles))
+  rows-are = image-rows xs words ∙ ap (rowsAt 0) (bare-sourced (filesOf noFiles) (readEntries defaultDepth (text ∷ []) noFiles))
 
   as-many : length xs ≡ length es
-  as-many = sym (length-bare xs) ∙ ap length (bare-sourced (filesOf noFiles) (readEntries (text ∷ []) noFiles))
+  as-many = sym (length-bare xs) ∙ ap length (bare-sourced (filesOf noFiles) (readEntries defaultDepth (text ∷ []) noFiles))
 
-  reads : Reads (text ∷ []) noFiles words bytes
-  reads = accepted-reads (text ∷ []) noFiles words bytes (rw (← e) refl)
+  reads : Reads defaultDepth (text ∷ []) noFiles words bytes
+  reads = accepted-reads defaultDepth (text ∷ []) noFiles words bytes (rw (← e) refl)
 
   left : outcome (accepted n o) c b
-      ≡ outcome (accepted (0 + length (readEntries (text ∷ []) noFiles)) (0 + opensOf (met (text ∷ []) noFiles))) (imageContents xs words) (imageBodies es bytes)
-  left = e ∙ reads-outcome (text ∷ []) noFiles words bytes reads
+      ≡ outcome (accepted (0 + length (readEntries defaultDepth (text ∷ []) noFiles)) (0 + opensOf (met defaultDepth (text ∷ []) noFiles))) (imageContents xs words) (imageBodies es bytes)
+  left = e ∙ reads-outcome defaultDepth (text ∷ []) noFiles words bytes reads
 
   contents-are : c ≡ imageContents xs words
   contents-are = ap (λ (x : Outcome). x .contents) left
@@ -98,20 +98,20 @@ module _ (text c b : List ℕ) (n o : ℕ) (e : outcome (accepted n o) c b ≡ r
   bodies-are : b ≡ imageBodies es bytes
   bodies-are = ap (λ (x : Outcome). x .bodies) left
 
-  long : length (readEntries (text ∷ []) noFiles) ≡ length es
-  long = sym (length-map (readEntries (text ∷ []) noFiles) (λ (x : Entered). x .entry))
+  long : length (readEntries defaultDepth (text ∷ []) noFiles) ≡ length es
+  long = sym (length-map (readEntries defaultDepth (text ∷ []) noFiles) (λ (x : Entered). x .entry))
 
   count : n ≡ length es
   count =
-      let a : accepted n o ≡ accepted (0 + length (readEntries (text ∷ []) noFiles)) (0 + opensOf (met (text ∷ []) noFiles)) = ap (λ (x : Outcome). x .answer) left in
-      let m : n ≡ 0 + length (readEntries (text ∷ []) noFiles) = cc in
+      let a : accepted n o ≡ accepted (0 + length (readEntries defaultDepth (text ∷ []) noFiles)) (0 + opensOf (met defaultDepth (text ∷ []) noFiles)) = ap (λ (x : Outcome). x .answer) left in
+      let m : n ≡ 0 + length (readEntries defaultDepth (text ∷ []) noFiles) = cc in
       omega (arith, long)
 
   few : length es ≤ mostEntries
   few = omega (arith, reads .limits .entries-most, long)
 
   small : length (storeOf es) ≤ bodyBytes
-  small = omega (arith, reads .limits .used-most, used-store (met (text ∷ []) noFiles))
+  small = omega (arith, reads .limits .used-most, used-store (met defaultDepth (text ∷ []) noFiles))
 
   lines-are : rowLines 0 (rowsIn c) b ≡ entryLines 0 es
   unfolding writtenOver
@@ -143,11 +143,11 @@ module _ (text c b : List ℕ) (n o : ℕ) (e : outcome (accepted n o) c b ≡ r
   pub accepted-lists : {out o₁ o₂ : List ℕ} {e₁ e₂ : ℕ} → Appends (wordLine (ascii "entries") n) out 0 o₁ e₁ → Appends (rowLines 0 (rowsIn c) b) o₁ e₁ o₂ e₂ → Lists text out o₂ e₂
   accepted-lists p q = let puts = piece-of is-printed (then-piece p q) in record { puts = puts; counts = piece-counts puts }
 
-refused-printed : (text c b : List ℕ) (k : ℕ) → outcome (refused k) c b ≡ reading (text ∷ []) noFiles words bytes → wordLine (ascii "refused") k ≡ printed text
+refused-printed : (text c b : List ℕ) (k : ℕ) → outcome (refused k) c b ≡ reading defaultDepth (text ∷ []) noFiles words bytes → wordLine (ascii "refused") k ≡ printed text
 unfolding printed written
 refused-printed text c b k e = rw (← e)
 
-pub refused-lists : (text : List ℕ) {c b : List ℕ} {k : ℕ} {out o₁ : List ℕ} {e₁ : ℕ} → outcome (refused k) c b ≡ reading (text ∷ []) noFiles words bytes
+pub refused-lists : (text : List ℕ) {c b : List ℕ} {k : ℕ} {out o₁ : List ℕ} {e₁ : ℕ} → outcome (refused k) c b ≡ reading defaultDepth (text ∷ []) noFiles words bytes
     → Appends (wordLine (ascii "refused") k) out 0 o₁ e₁ → Lists text out o₁ e₁
 refused-lists text {c} {b} {k} e p = let puts = piece-of (refused-printed text c b k e) p in record { puts = puts; counts = piece-counts puts }
 

@@ -4,7 +4,7 @@ use mathlib.Core.Path.{_≡_}
 use Prim.Native.Nat.{ℕ, _+_, _<_}
 use lib.ListN.{length}
 use Rattle.definition.specs.Lists.{ascii, zeroes}
-use Rattle.definition.specs.Limits.{textBytes, contentsWords, bodyBytes}
+use Rattle.definition.specs.Limits.{textBytes, defaultDepth, contentsWords, bodyBytes}
 use Rattle.definition.specs.Text.{Entry}
 use Rattle.definition.specs.Image.{keyOf}
 use Rattle.definition.specs.Evaluation.{noFiles}
@@ -25,7 +25,7 @@ written (refused k) es = wordLine (ascii "refused") k
 
 -- what is written for a main text, read with an archive of no files
 unfoldable pub printed : List ℕ → List ℕ
-printed text = written (reading (text ∷ []) noFiles (zeroes contentsWords) (zeroes bodyBytes) .answer) (plain (readEntries (text ∷ []) noFiles))
+printed text = written (reading defaultDepth (text ∷ []) noFiles (zeroes contentsWords) (zeroes bodyBytes) .answer) (plain (readEntries defaultDepth (text ∷ []) noFiles))
 
 -- no text is written in more
 abbrev pub listBytes : ℕ

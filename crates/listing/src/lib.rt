@@ -3,6 +3,7 @@ ghost use Prim.Native.Nat.{_≤_};
 ghost use lib.ListN.{length};
 ghost use Rattle.listing.specs.Listing.{listBytes, Lists, RefusesLong};
 use limits::CONTENTS_WORDS;
+use limits::DEFAULT_DEPTH;
 use list_lines::put_entries;
 use list_lines::put_word;
 use reader::Answer;
@@ -14,7 +15,7 @@ pub fn list(text: &[u8], out: &mut [u8]) -> usize
 {
     let mut contents = [0; CONTENTS_WORDS];
     let mut bodies = [0; 32768];
-    let answer = reader::read(text, b"\0\0", &mut contents, &mut bodies);
+    let answer = reader::read(text, b"\0\0", DEFAULT_DEPTH, &mut contents, &mut bodies);
     match answer {
         Answer::Accepted(entries, _) => {
             let end = put_word(b"entries", entries, out);

@@ -4,7 +4,7 @@ use mathlib.Core.List.{List}
 use Prim.Native.Nat.{ℕ}
 use lib.Dec.{eqb}
 use Rattle.definition.specs.Lists.{if_then_else_, ascii, same}
-use Rattle.argument_words.specs.Words.{descriptor, formatOf}
+use Rattle.argument_words.specs.Words.{descriptor, formatOf, noDepth, depthOf}
 
 -- ---- What an argument is for
 
@@ -25,53 +25,56 @@ without = 3
 abbrev pub status : ℕ
 status = 4
 
+abbrev pub depth : ℕ
+depth = 5
+
 -- of a start-up chain: the property's format, the property, .Xresources, .Xdefaults, what XENVIRONMENT names, the host's .Xdefaults
 abbrev pub format : ℕ
-format = 5
+format = 6
 
 abbrev pub property : ℕ
-property = 6
+property = 7
 
 abbrev pub xresources : ℕ
-xresources = 7
+xresources = 8
 
 abbrev pub xdefaults : ℕ
-xdefaults = 8
+xdefaults = 9
 
 abbrev pub xenvironment : ℕ
-xenvironment = 9
+xenvironment = 10
 
 abbrev pub host : ℕ
-host = 10
+host = 11
 
 -- an operand or an option; the value of `--file`; an operand, whatever it looks like
 abbrev pub anything : ℕ
-anything = 11
+anything = 12
 
 abbrev pub file : ℕ
-file = 12
+file = 13
 
 abbrev pub operand : ℕ
-operand = 13
+operand = 14
 
 -- options that nothing follows
 abbrev pub help : ℕ
-help = 14
+help = 15
 
 abbrev pub missing : ℕ
-missing = 15
+missing = 16
 
 abbrev pub write : ℕ
-write = 16
+write = 17
 
 abbrev pub list : ℕ
-list = 17
+list = 18
 
 abbrev pub shared : ℕ
-shared = 18
+shared = 19
 
 abbrev pub unknown : ℕ
-unknown = 19
+unknown = 20
 
 -- ---- Values
 
@@ -80,6 +83,7 @@ unfoldable pub takes : ℕ → List ℕ → Bool
 takes what a =
     if eqb what status then not (eqb (descriptor a) 0) else
     if eqb what format then not (eqb (formatOf a) 0) else
+    if eqb what depth then not (eqb (depthOf a) noDepth) else
     true
 
 -- ---- Options
@@ -108,4 +112,5 @@ optionOf a =
     if same a (ascii "--write") then write else
     if same a (ascii "--list") then list else
     if same a (ascii "--shared") then shared else
+    if same a (ascii "--depth") then depth else
     chainOption a

@@ -1,6 +1,8 @@
 // What an argument of getres says by itself: which option it is, and whether it is a value that an option takes.
 ghost use mathlib.Core.Path.{_≡_};
 ghost use Rattle.options.specs.Options.{takes, chainOption, optionOf};
+use argument_words::NO_DEPTH;
+use argument_words::depth_of;
 use argument_words::descriptor;
 use argument_words::format_of;
 use argument_words::is_word;
@@ -16,38 +18,40 @@ pub const WITHOUT: usize = 3;
 
 pub const STATUS: usize = 4;
 
+pub const DEPTH: usize = 5;
+
 // The property's format and the texts of a start-up chain.
-pub const FORMAT: usize = 5;
+pub const FORMAT: usize = 6;
 
-pub const PROPERTY: usize = 6;
+pub const PROPERTY: usize = 7;
 
-pub const XRESOURCES: usize = 7;
+pub const XRESOURCES: usize = 8;
 
-pub const XDEFAULTS: usize = 8;
+pub const XDEFAULTS: usize = 9;
 
-pub const XENVIRONMENT: usize = 9;
+pub const XENVIRONMENT: usize = 10;
 
-pub const HOST: usize = 10;
+pub const HOST: usize = 11;
 
 // Kept by no plan: an operand or an option; the value of `--file`; an operand, whatever it looks like.
-pub const ANY: usize = 11;
+pub const ANY: usize = 12;
 
-pub const FILE: usize = 12;
+pub const FILE: usize = 13;
 
-pub const OPERAND: usize = 13;
+pub const OPERAND: usize = 14;
 
 // Options that nothing follows.
-pub const HELP: usize = 14;
+pub const HELP: usize = 15;
 
-pub const MISSING: usize = 15;
+pub const MISSING: usize = 16;
 
-pub const WRITE: usize = 16;
+pub const WRITE: usize = 17;
 
-pub const LIST: usize = 17;
+pub const LIST: usize = 18;
 
-pub const SHARED: usize = 18;
+pub const SHARED: usize = 19;
 
-pub const UNKNOWN: usize = 19;
+pub const UNKNOWN: usize = 20;
 
 // Is an argument a value for that?
 pub fn takes(what: usize, argument: &[u8]) -> bool
@@ -58,6 +62,9 @@ pub fn takes(what: usize, argument: &[u8]) -> bool
     }
     if what == FORMAT {
         return format_of(argument) != 0;
+    }
+    if what == DEPTH {
+        return depth_of(argument) != NO_DEPTH;
     }
     true
 }
@@ -120,6 +127,9 @@ pub fn option_of(argument: &[u8]) -> usize
     }
     if is_word(argument, b"--shared") {
         return SHARED;
+    }
+    if is_word(argument, b"--depth") {
+        return DEPTH;
     }
     chain_option(argument)
 }

@@ -3,7 +3,7 @@ use mathlib.Core.Bool.{Bool, true, false, _&&_}
 use mathlib.Core.List.{List, [], _∷_, _++_, flatten, map, append-nil}
 use mathlib.Core.Option.{Option, some, none, Option·some-ne-none}
 use mathlib.Core.Path.{_≡_, refl, sym, ap, _∙_}
-use Prim.Native.Nat.{ℕ, suc}
+use Prim.Native.Nat.{ℕ, zero, suc}
 use lib.Dec.{eqb}
 use borrow.Author.Tests.{eqb-true}
 use Rattle.definition.specs.Lists.{if_then_else_, ascii, all, takeWhile, dropWhile}
@@ -125,25 +125,38 @@ line-first l n u e =
 abbrev pub sought : List ℕ → Option (List ℕ)
 sought l = nameIncluded l >>= pathOf []
 
-module _ (d : ℕ) (fs : List File) where
-  -- a file that the main text includes, with d depths left below it
-  unfoldable pub fileAdds : List ℕ → List Event
-  fileAdds file = opening (file ∷ []) (λ body. eventsOf (including d fs (folderOf file) (file ∷ [])) (file ∷ []) (linesOf body)) (bodyOf fs file)
+-- a file that the main text includes, in a reading at that depth
+unfoldable pub fileAdds : ℕ → List File → List ℕ → List Event
+fileAdds zero fs file = []
+fileAdds (suc d) fs file =
+    opening (file ∷ []) (λ body. eventsOf (including d fs (folderOf file) (file ∷ [])) (file ∷ []) (linesOf body)) (bodyOf fs file)
 
+include-adds : (depth : ℕ) (fs : List File) (n : List ℕ) → including depth fs [] [] n ≡ seeking (fileAdds depth fs) (pathOf [] n)
+unfolding including seeking fileAdds
+include-adds zero fs n = at (pathOf [] n)
+  where
+    at : (o : Option (List ℕ)) → [] ≡ seeking (fileAdds zero fs) o
+    at none = refl
+    at (some file) = refl
+include-adds (suc d) fs n = refl
+
+module _ (depth : ℕ) (fs : List File) where
   abbrev pub lineAdds : List ℕ → List Event
-  lineAdds l = seeking fileAdds (sought l)
+  lineAdds l = seeking (fileAdds depth fs) (sought l)
 
   abbrev textAdds : List ℕ → List Event
-  textAdds t = eventsOf (including (suc d) fs [] []) [] (linesOf t)
+  textAdds t = eventsOf (including depth fs [] []) [] (linesOf t)
 
   no-lines : textAdds (textOfLines []) ≡ []
   unfolding textOfLines linesOf many atMost eventsOf
   no-lines = refl
 
   line-adds : (l n : List ℕ) (ls : List (List ℕ)) → nameIncluded l ≡ some n
-      → textAdds (textOfLines (l ∷ ls)) ≡ seeking fileAdds (pathOf [] n) ++ textAdds (textOfLines ls)
-  unfolding textOfLines eventsOf including fileAdds
-  line-adds l n ls e = ap (eventsOf (including (suc d) fs [] []) []) (line-first l n (textOfLines ls) e)
+      → textAdds (textOfLines (l ∷ ls)) ≡ seeking (fileAdds depth fs) (pathOf [] n) ++ textAdds (textOfLines ls)
+  unfolding textOfLines eventsOf
+  line-adds l n ls e =
+      ap (eventsOf (including depth fs [] []) []) (line-first l n (textOfLines ls) e)
+      ∙ ap (λ (es : List Event). es ++ textAdds (textOfLines ls)) (include-adds depth fs n)
 
   lines-add : (ls : List (List ℕ)) → areIncludes ls ≡ true → textAdds (textOfLines ls) ≡ flatten (map lineAdds ls)
   unfolding all flatten isThere
@@ -153,15 +166,11 @@ module _ (d : ℕ) (fs : List File) where
       at (nameIncluded l) refl (a .0) (lines-add ls (a .1))
     where
       at : (o : Option (List ℕ)) → nameIncluded l ≡ o → isThere o ≡ true → textAdds (textOfLines ls) ≡ flatten (map lineAdds ls)
-          → textAdds (textOfLines (l ∷ ls)) ≡ seeking fileAdds (o >>= pathOf []) ++ flatten (map lineAdds ls)
+          → textAdds (textOfLines (l ∷ ls)) ≡ seeking (fileAdds depth fs) (o >>= pathOf []) ++ flatten (map lineAdds ls)
       at none e t ih = absurd (not-both t refl)
-      at (some n) e t ih = line-adds l n ls e ∙ ap (λ (es : List Event). seeking fileAdds (pathOf [] n) ++ es) ih
+      at (some n) e t ih = line-adds l n ls e ∙ ap (λ (es : List Event). seeking (fileAdds depth fs) (pathOf [] n) ++ es) ih
 
--- the depth below a file that the main text includes
-abbrev pub below : ℕ
-below = 99
-
-pub lines-met : (ls : List (List ℕ)) (archive : List ℕ) → areIncludes ls ≡ true
-    → met (textOfLines ls ∷ []) archive ≡ flatten (map (lineAdds below (filesOf archive)) ls)
+pub lines-met : (depth : ℕ) (ls : List (List ℕ)) (archive : List ℕ) → areIncludes ls ≡ true
+    → met depth (textOfLines ls ∷ []) archive ≡ flatten (map (lineAdds depth (filesOf archive)) ls)
 unfolding eventsOfAll events
-lines-met ls archive h = append-nil _ ∙ lines-add below (filesOf archive) ls h
+lines-met depth ls archive h = append-nil _ ∙ lines-add depth (filesOf archive) ls h

@@ -64,8 +64,9 @@ module _ (file : List ℕ) where
       (λ m. including-through d fs (folderOf g) (ch ++ g ∷ []) m)))
 
   file-through : (d : ℕ) (fs : List File) → AllThrough (fileAdds d fs file)
-  unfolding fileAdds
-  file-through d fs =
+  unfolding fileAdds entriesOf Each
+  file-through zero fs = tt
+  file-through (suc d) fs =
       opening-through (file ∷ []) _ (bodyOf fs file)
       (λ b. eventsOf-through (including d fs (folderOf file) (file ∷ [])) [] (linesOf b) (λ m. including-through d fs (folderOf file) [] m))
 

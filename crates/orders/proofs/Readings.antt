@@ -26,7 +26,7 @@ use Rattle.laws.proofs.ThirdTerm.{reading-image, reading-entries}
 use Rattle.orders.proofs.Drawing.{Drawn, all-drawn}
 use Rattle.orders.proofs.Agreeing.{under, under-reordered}
 use Rattle.orders.proofs.Calls.{images-alike}
-use Rattle.orders.proofs.IncludeLines.{lineAdds, below, lines-met}
+use Rattle.orders.proofs.IncludeLines.{lineAdds, lines-met}
 use Rattle.orders.proofs.Joined.{Each, each-getD, each-at, each-drawn, joined, sum-drawn, each-joined}
 use Rattle.orders.proofs.Meeting.{Stands, StandIn, decided}
 use Rattle.orders.proofs.Packs.{entries-append, Agrees, lineGives, entries-joined, under-drawn}
@@ -95,7 +95,7 @@ each-all p (x ∷ xs) h = and-both (h .0) (each-all p xs (h .1))
 
 -- ---- Two readings
 
-module _ (lines lines′ : List (List ℕ)) (archive : List ℕ) (r : Rearranged [] lines lines′) (h : areIncludes lines ≡ true) where
+module _ (depth : ℕ) (lines lines′ : List (List ℕ)) (archive : List ℕ) (r : Rearranged [] lines lines′) (h : areIncludes lines ≡ true) where
   drawing : Drawn lines lines′
   drawing = all-drawn [] lines lines′ r
 
@@ -109,24 +109,24 @@ module _ (lines lines′ : List (List ℕ)) (archive : List ℕ) (r : Rearranged
   text′ = textOfLines lines′ ∷ []
 
   abbrev adds : List ℕ → List Event
-  adds l = lineAdds below (filesOf archive) l
+  adds l = lineAdds depth (filesOf archive) l
 
-  met-first : met text archive ≡ joined adds lines
-  met-first = lines-met lines archive h
+  met-first : met depth text archive ≡ joined adds lines
+  met-first = lines-met depth lines archive h
 
-  met-second : met text′ archive ≡ joined adds lines′
-  met-second = lines-met lines′ archive are-includes
+  met-second : met depth text′ archive ≡ joined adds lines′
+  met-second = lines-met depth lines′ archive are-includes
 
-  sums : (w : List Event → ℕ) → ((xs ys : List Event) → w (xs ++ ys) ≡ w xs + w ys) → w (met text archive) ≡ w (met text′ archive)
+  sums : (w : List Event → ℕ) → ((xs ys : List Event) → w (xs ++ ys) ≡ w xs + w ys) → w (met depth text archive) ≡ w (met depth text′ archive)
   sums w append = ap w met-first ∙ sum-drawn adds w append drawing ∙ ap w (sym met-second)
 
-  limits-same : InLimits start (met text archive) → InLimits start (met text′ archive)
+  limits-same : InLimits start (met depth text archive) → InLimits start (met depth text′ archive)
   limits-same l = record {
     opens-most = omega (arith, l .opens-most, sums opensOf opens-append);
     entries-most = omega (arith, l .entries-most, sums (λ es. length (entriesOf es)) count-append);
     used-most = omega (arith, l .used-most, sums usedBy used-append);
-    parts-most = each-few (met text′ archive)
-        (rw met-second (each-joined adds Few drawing (rw met-first at (few-each (met text archive) (l .parts-most)))));
+    parts-most = each-few (met depth text′ archive)
+        (rw met-second (each-joined adds Few drawing (rw met-first at (few-each (met depth text archive) (l .parts-most)))));
   }
 
   long-same : length (textOfLines lines) ≡ length (textOfLines lines′)
@@ -135,47 +135,48 @@ module _ (lines lines′ : List (List ℕ)) (archive : List ℕ) (r : Rearranged
 
   module _ (contents bodies contents′ bodies′ : List ℕ) (long′ : tooShort contents′ bodies′ ≡ false) where
     abbrev first : Outcome
-    first = reading text archive contents bodies
+    first = reading depth text archive contents bodies
 
     abbrev second : Outcome
-    second = reading text′ archive contents′ bodies′
+    second = reading depth text′ archive contents′ bodies′
 
-    reads-same : Reads text archive contents bodies → Reads text′ archive contents′ bodies′
+    reads-same : Reads depth text archive contents bodies → Reads depth text′ archive contents′ bodies′
     unfolding any
     reads-same k = record {
       long = long′;
       fit = ap (λ (n : ℕ). ltb textBytes n || false) (sym long-same) ∙ k .fit;
       isLaidOut = k .isLaidOut;
+      shallow = k .shallow;
       limits = limits-same (k .limits);
     }
 
     pub accepted-same : (n m : ℕ) → first .answer ≡ accepted n m → second .answer ≡ accepted n m
     accepted-same n m e =
-        let k = accepted-reads text archive contents bodies (rw e refl) in
-        let entries : 0 + length (readEntries text archive) ≡ 0 + length (readEntries text′ archive) =
+        let k = accepted-reads depth text archive contents bodies (rw e refl) in
+        let entries : 0 + length (readEntries depth text archive) ≡ 0 + length (readEntries depth text′ archive) =
         ap (λ (c : ℕ). 0 + c) (sums (λ es. length (entriesOf es)) count-append) in
-        let opens : 0 + opensOf (met text archive) ≡ 0 + opensOf (met text′ archive) = ap (λ (c : ℕ). 0 + c) (sums opensOf opens-append) in
-        ap (λ (o : Outcome). o .answer) (reads-outcome text′ archive contents′ bodies′ (reads-same k))
+        let opens : 0 + opensOf (met depth text archive) ≡ 0 + opensOf (met depth text′ archive) = ap (λ (c : ℕ). 0 + c) (sums opensOf opens-append) in
+        ap (λ (o : Outcome). o .answer) (reads-outcome depth text′ archive contents′ bodies′ (reads-same k))
         ∙ sym (λ i. accepted (entries i) (opens i))
-        ∙ sym (ap (λ (o : Outcome). o .answer) (reads-outcome text archive contents bodies k))
+        ∙ sym (ap (λ (o : Outcome). o .answer) (reads-outcome depth text archive contents bodies k))
         ∙ e
 
   gives : List ℕ → List Entered
-  gives l = lineGives below (filesOf archive) l
+  gives l = lineGives depth (filesOf archive) l
 
-  entries-first : readEntries text archive ≡ joined gives lines
+  entries-first : readEntries depth text archive ≡ joined gives lines
   unfolding gives
-  entries-first = ap entriesOf met-first ∙ entries-joined below (filesOf archive) lines
+  entries-first = ap entriesOf met-first ∙ entries-joined depth (filesOf archive) lines
 
-  entries-second : readEntries text′ archive ≡ joined gives lines′
+  entries-second : readEntries depth text′ archive ≡ joined gives lines′
   unfolding gives
-  entries-second = ap entriesOf met-second ∙ entries-joined below (filesOf archive) lines′
+  entries-second = ap entriesOf met-second ∙ entries-joined depth (filesOf archive) lines′
 
   -- each entry of the second stands in the first
-  pub second-stands : StandIn (plain (readEntries text′ archive)) (plain (readEntries text archive))
+  pub second-stands : StandIn (plain (readEntries depth text′ archive)) (plain (readEntries depth text archive))
   second-stands j h =
-      rw (plain-number (readEntries text′ archive) j)
-      (each-at Found (readEntries text′ archive) nothing all-found j (rw (length-map (readEntries text′ archive) (λ (x : Entered). x .entry)) at h))
+      rw (plain-number (readEntries depth text′ archive) j)
+      (each-at Found (readEntries depth text′ archive) nothing all-found j (rw (length-map (readEntries depth text′ archive) (λ (x : Entered). x .entry)) at h))
     where
       nothing : Entered
       nothing = entryNumber [] 0
@@ -184,72 +185,72 @@ module _ (lines lines′ : List (List ℕ)) (archive : List ℕ) (r : Rearranged
       plain-number xs i = List·getD-map (λ (x : Entered). x .entry) xs i nothing
 
       Found : Entered → Type 0
-      Found x = Stands (x .entry) (plain (readEntries text archive))
+      Found x = Stands (x .entry) (plain (readEntries depth text archive))
 
-      here : Each Found (readEntries text archive)
+      here : Each Found (readEntries depth text archive)
       here =
-          each-getD Found (readEntries text archive) nothing (λ i k.
+          each-getD Found (readEntries depth text archive) nothing (λ i k.
           record {
             number = i;
-            inside = rw (length-map (readEntries text archive) (λ (x : Entered). x .entry)) k;
-            is = plain-number (readEntries text archive) i;
+            inside = rw (length-map (readEntries depth text archive) (λ (x : Entered). x .entry)) k;
+            is = plain-number (readEntries depth text archive) i;
           })
 
-      all-found : Each Found (readEntries text′ archive)
+      all-found : Each Found (readEntries depth text′ archive)
       all-found = rw entries-second (each-joined gives Found drawing (rw entries-first at here))
 
   -- what stands under a key that comes through one file alone is the same
-  pub under-same : (key : List Part) → OneFile key (readEntries text archive)
-      → under key (plain (readEntries text archive)) ≡ under key (plain (readEntries text′ archive))
+  pub under-same : (key : List Part) → OneFile key (readEntries depth text archive)
+      → under key (plain (readEntries depth text archive)) ≡ under key (plain (readEntries depth text′ archive))
   unfolding gives
   under-same key one =
       ap (λ (xs : List Entered). under key (plain xs)) entries-first
-      ∙ under-drawn below (filesOf archive) key drawing (rw entries-first at agreeing)
+      ∙ under-drawn depth (filesOf archive) key drawing (rw entries-first at agreeing)
       ∙ ap (λ (xs : List Entered). under key (plain xs)) (sym entries-second)
     where
-      agreeing : Each (λ x. Each (Agrees key x) (readEntries text archive)) (readEntries text archive)
+      agreeing : Each (λ x. Each (Agrees key x) (readEntries depth text archive)) (readEntries depth text archive)
       agreeing =
           let d = entryNumber [] 0 in
-          each-getD _ (readEntries text archive) d (λ i hi. each-getD _ (readEntries text archive) d (λ j hj e f. one i j hi hj e f))
+          each-getD _ (readEntries depth text archive) d (λ i hi. each-getD _ (readEntries depth text archive) d (λ j hj e f. one i j hi hj e f))
 
 -- ---- The claims
 
 pub packs-in-any-order : PacksInAnyOrder
-packs-in-any-order lines lines′ archive contents bodies contents′ bodies′ h r one long long′ =
+packs-in-any-order depth lines lines′ archive contents bodies contents′ bodies′ h r one long long′ =
     let back = turned r in
-    let h′ = are-includes lines lines′ archive r h in
+    let h′ = are-includes depth lines lines′ archive r h in
     let text = textOfLines lines ∷ [] in
     let text′ = textOfLines lines′ ∷ [] in (
       λ n m. (
-        accepted-same lines lines′ archive r h contents bodies contents′ bodies′ long′ n m,
-        accepted-same lines′ lines archive back h′ contents′ bodies′ contents bodies long n m,
+        accepted-same depth lines lines′ archive r h contents bodies contents′ bodies′ long′ n m,
+        accepted-same depth lines′ lines archive back h′ contents′ bodies′ contents bodies long n m,
       ),
       λ a most name class.
-          let k = accepted-reads text archive contents bodies a in
-          let k′ = reads-same lines lines′ archive r h contents bodies contents′ bodies′ long′ k in
-          images-alike _ _ _ _ (reading-image text archive contents bodies k) (reading-image text′ archive contents′ bodies′ k′)
-          (rw (reading-entries text archive contents bodies k, reading-entries text′ archive contents′ bodies′ k′)
-          (under-reordered _ _ (λ key. under-same lines lines′ archive r h key (one key)))) most name class,
+          let k = accepted-reads depth text archive contents bodies a in
+          let k′ = reads-same depth lines lines′ archive r h contents bodies contents′ bodies′ long′ k in
+          images-alike _ _ _ _ (reading-image depth text archive contents bodies k) (reading-image depth text′ archive contents′ bodies′ k′)
+          (rw (reading-entries depth text archive contents bodies k, reading-entries depth text′ archive contents′ bodies′ k′)
+          (under-reordered _ _ (λ key. under-same depth lines lines′ archive r h key (one key)))) most name class,
     )
 
 pub only-where-packs-meet : OnlyWherePacksMeet
 unfolding valuesUnder
-only-where-packs-meet lines lines′ archive h r q ones =
-    at (decided (plain xs) (plain ys) (second-stands lines′ lines archive (turned r) h′) (second-stands lines lines′ archive r h) q)
+only-where-packs-meet depth lines lines′ archive h r q ones =
+    at (decided (plain xs) (plain ys) (second-stands depth lines′ lines archive (turned r) h′) (second-stands depth lines lines′ archive r h) q)
   where
     xs : List Entered
-    xs = readEntries (textOfLines lines ∷ []) archive
+    xs = readEntries depth (textOfLines lines ∷ []) archive
 
     ys : List Entered
-    ys = readEntries (textOfLines lines′ ∷ []) archive
+    ys = readEntries depth (textOfLines lines′ ∷ []) archive
 
     h′ : areIncludes lines′ ≡ true
-    h′ = are-includes lines lines′ archive r h
+    h′ = are-includes depth lines lines′ archive r h
 
     at : (answerOf (plain xs) q ≡ answerOf (plain ys) q) ⊎ ((key : List Part) × Decides key (plain xs) (plain ys) q)
         → answerOf (plain xs) q ≡ answerOf (plain ys) q
     at (inl e) = e
     at (inr d) =
         d .1 .first
-        ∙ ap (λ (es : List Entry). lastOf (map (λ e. e .value) es)) (under-same lines lines′ archive r h (d .0) (ones (d .0) (d .1)))
+        ∙ ap (λ (es : List Entry). lastOf (map (λ e. e .value) es)) (under-same depth lines lines′ archive r h (d .0) (ones (d .0) (d .1)))
         ∙ sym (d .1 .second)

@@ -16,7 +16,7 @@ plan given wrong next help missing write list shared chain =
     record { given = given; wrong = wrong; next = next; help = help; missing = missing; write = write; list = list; shared = shared; chain = chain }
 
 abbrev pub nothingAsked : Plan
-nothingAsked = plan (replicate 11 0) 0 anything false false false false false false
+nothingAsked = plan (replicate 12 0) 0 anything false false false false false false
 
 -- the plan with one field more
 module _ (p : Plan) where
@@ -49,7 +49,7 @@ module _ (p : Plan) where
 
 -- the argument that was given for something
 unfoldable pub givenFor : Plan → ℕ → ℕ
-givenFor p what = if ltb what 11 then getD (p .given) what 0 else 0
+givenFor p what = if ltb what 12 then getD (p .given) what 0 else 0
 
 -- the first argument that is not understood counts
 unfoldable pub misunderstood : Plan → ℕ → Plan

@@ -14,7 +14,7 @@ use options::WITHOUT;
 // find no file, `write`, the database written out, `list`, the entries that align, `shared`, the keys that two included files share, and
 // `chain`, a start-up chain, are asked for or not.
 pub struct Plan {
-    pub given: [usize; 11],
+    pub given: [usize; 12],
     pub wrong: usize,
     pub next: usize,
     pub help: bool,
@@ -29,7 +29,7 @@ pub fn nothing_asked() -> Plan
     ensures { λ r. ⌜ r ≡ nothingAsked ⌝ }
 {
     Plan {
-        given: [0; 11],
+        given: [0; 12],
         wrong: 0,
         next: ANY,
         help: false,
@@ -45,7 +45,7 @@ pub fn nothing_asked() -> Plan
 pub fn given(plan: Plan, what: usize) -> usize
     ensures { λ r. ⌜ r ≡ givenFor plan what ⌝ }
 {
-    if what < 11 {
+    if what < 12 {
         return plan.given[what];
     }
     0
@@ -64,7 +64,7 @@ pub fn misunderstood(plan: Plan, i: usize) -> Plan
 
 // Argument `i`, given for something. A second one is not understood.
 pub fn once(plan: Plan, what: usize, i: usize) -> Plan
-    requires { ⌜ what < 11 ⌝ }
+    requires { ⌜ what < 12 ⌝ }
     ensures { λ r. ⌜ r ≡ once plan what i ⌝ }
 {
     if plan.given[what] == 0 {

@@ -8,7 +8,7 @@ use lib.ListN.{length, take, drop, drop-of-length-le}
 use lib.Seq.{length-take-le}
 use borrow.Author.Tests.{lt-ltb, le-ltb}
 use Rattle.definition.specs.Lists.{any, zeroes, beyond}
-use Rattle.definition.specs.Limits.{contentsWords, bodyBytes}
+use Rattle.definition.specs.Limits.{greatestDepth, contentsWords, bodyBytes}
 use Rattle.definition.specs.Archive.{laidOut, filesOf}
 use Rattle.definition.specs.Image.{Sourced, bare, storeOf, contentsOf, writtenOver}
 use Rattle.definition.specs.Reading.{Verdict, within, past, accepted, refused, outcome, left, judge, start, met, sourced, readEntries, tooLong, reading}
@@ -21,17 +21,17 @@ use Rattle.reader.specs.Said.{Ready, leftBy}
 
 -- ---- The end of a reading, whatever it has met
 
-module _ (texts : List (List ℕ)) (archive c b : List ℕ) (hc : length c ≡ contentsWords) (hb : length b ≡ bodyBytes) where
-  pub ready : (r : Step) (c′ b′ : List ℕ) → answered r c′ b′ ≡ run (filesOf archive) (world begun c b) (met texts archive)
+module _ (depth : ℕ) (texts : List (List ℕ)) (archive c b : List ℕ) (hc : length c ≡ contentsWords) (hb : length b ≡ bodyBytes) where
+  pub ready : (r : Step) (c′ b′ : List ℕ) → answered r c′ b′ ≡ run (filesOf archive) (world begun c b) (met depth texts archive)
       → length c′ ≡ length c → length b′ ≡ length b → Ready r c′ b′
   unfolding answered
-  ready (Go s) c′ b′ e lc lb = room-after c b hc hb (filesOf archive) (met texts archive) (world s c′ b′) (sym e)
+  ready (Go s) c′ b′ e lc lb = room-after c b hc hb (filesOf archive) (met depth texts archive) (world s c′ b′) (sym e)
   ready (Stop k) c′ b′ e lc lb = (lc ∙ hc, lb ∙ hb)
 
-  pub finished-is : (r : Step) (c′ b′ : List ℕ) → answered r c′ b′ ≡ run (filesOf archive) (world begun c b) (met texts archive)
-      → finished (answered r c′ b′) ≡ leftBy texts archive c b
+  pub finished-is : (r : Step) (c′ b′ : List ℕ) → answered r c′ b′ ≡ run (filesOf archive) (world begun c b) (met depth texts archive)
+      → finished (answered r c′ b′) ≡ leftBy depth texts archive c b
   unfolding leftBy
-  finished-is r c′ b′ e = ap finished e ∙ finished-left c b hc hb (filesOf archive) (met texts archive)
+  finished-is r c′ b′ e = ap finished e ∙ finished-left c b hc hb (filesOf archive) (met depth texts archive)
 
 -- what `empty_image` and `close_image` leave is the end of a reading
 module _ (r : Step) (c b : List ℕ) (ready : Ready r c b) where
@@ -68,34 +68,39 @@ unfolding left
 left-front (within s) xs c b = λ i. outcome (accepted (s .entries) (s .opens)) (over-front contentsWords c (contentsOf xs) i) (over-front bodyBytes b (storeOf (bare xs)) i)
 left-front (past k) xs c b = λ i. outcome (refused k) (over-front contentsWords c (contentsOf []) i) (over-front bodyBytes b (storeOf []) i)
 
-module _ (texts : List (List ℕ)) (archive c b : List ℕ) where
-  pub short-contents : length c < contentsWords → outcome (refused 1) c b ≡ reading texts archive c b
+module _ (depth : ℕ) (texts : List (List ℕ)) (archive c b : List ℕ) where
+  pub short-contents : length c < contentsWords → outcome (refused 1) c b ≡ reading depth texts archive c b
   unfolding reading
   short-contents h = rw (lt-ltb (length c) contentsWords h) refl
 
   module _ (hc : contentsWords ≤ length c) where
-    pub short-bodies : length b < bodyBytes → outcome (refused 1) c b ≡ reading texts archive c b
+    pub short-bodies : length b < bodyBytes → outcome (refused 1) c b ≡ reading depth texts archive c b
     unfolding reading
     short-bodies h = rw (le-ltb (length c) contentsWords hc, lt-ltb (length b) bodyBytes h) refl
 
     module _ (hb : bodyBytes ≤ length b) where
-      pub long-text : any tooLong texts ≡ true → outcome (refused 2) c b ≡ reading texts archive c b
+      pub long-text : any tooLong texts ≡ true → outcome (refused 2) c b ≡ reading depth texts archive c b
       unfolding reading
       long-text h = rw (le-ltb (length c) contentsWords hc, le-ltb (length b) bodyBytes hb, h) refl
 
       module _ (ht : any tooLong texts ≡ false) where
-        pub not-laid-out : laidOut archive ≡ false → outcome (refused 3) c b ≡ reading texts archive c b
+        pub not-laid-out : laidOut archive ≡ false → outcome (refused 3) c b ≡ reading depth texts archive c b
         unfolding reading
         not-laid-out h = rw (le-ltb (length c) contentsWords hc, le-ltb (length b) bodyBytes hb, ht, h) refl
 
--- 1, 2 and 3 are passed
-pub record Admitted (texts : List (List ℕ)) (archive c b : List ℕ) : Type 0 where
+        pub too-deep : laidOut archive ≡ true → greatestDepth < depth → outcome (refused 15) c b ≡ reading depth texts archive c b
+        unfolding reading
+        too-deep a h = rw (le-ltb (length c) contentsWords hc, le-ltb (length b) bodyBytes hb, ht, a, lt-ltb greatestDepth depth h) refl
+
+-- 1, 2, 3 and 15 are passed
+pub record Admitted (depth : ℕ) (texts : List (List ℕ)) (archive c b : List ℕ) : Type 0 where
   pub words : contentsWords ≤ length c
   pub bytes : bodyBytes ≤ length b
   pub short : any tooLong texts ≡ false
   pub laid : laidOut archive ≡ true
+  pub shallow : depth ≤ greatestDepth
 
-module _ {texts : List (List ℕ)} {archive c b : List ℕ} (h : Admitted texts archive c b) where
+module _ {depth : ℕ} {texts : List (List ℕ)} {archive c b : List ℕ} (h : Admitted depth texts archive c b) where
   pub words-front : length (take contentsWords c) ≡ contentsWords
   words-front = length-take-le contentsWords c (h .words)
 
@@ -104,10 +109,10 @@ module _ {texts : List (List ℕ)} {archive c b : List ℕ} (h : Admitted texts 
 
   -- filling the fronts of the buffers is then the reading
   pub fronts : (a : Rattle.definition.specs.Reading.Answer) (c′ b′ : List ℕ)
-      → outcome a c′ b′ ≡ leftBy texts archive (take contentsWords c) (take bodyBytes b)
-      → outcome a (c′ ++ drop contentsWords c) (b′ ++ drop bodyBytes b) ≡ reading texts archive c b
+      → outcome a c′ b′ ≡ leftBy depth texts archive (take contentsWords c) (take bodyBytes b)
+      → outcome a (c′ ++ drop contentsWords c) (b′ ++ drop bodyBytes b) ≡ reading depth texts archive c b
   unfolding reading leftBy
   fronts a c′ b′ e =
       (λ i. outcome (e i .answer) (e i .contents ++ drop contentsWords c) (e i .bodies ++ drop bodyBytes b))
-      ∙ left-front (judge start (met texts archive)) (sourced (filesOf archive) (readEntries texts archive)) c b
-      ∙ sym (rw (le-ltb (length c) contentsWords (h .words), le-ltb (length b) bodyBytes (h .bytes), h .short, h .laid) refl)
+      ∙ left-front (judge start (met depth texts archive)) (sourced (filesOf archive) (readEntries depth texts archive)) c b
+      ∙ sym (rw (le-ltb (length c) contentsWords (h .words), le-ltb (length b) bodyBytes (h .bytes), h .short, h .laid, le-ltb greatestDepth depth (h .shallow)) refl)

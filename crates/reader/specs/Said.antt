@@ -23,6 +23,6 @@ abbrev pub Ready : Step → List ℕ → List ℕ → Type 0
 Ready (Go s) c b = Room s c b
 Ready (Stop k) c b = (length c ≡ contentsWords) × (length b ≡ bodyBytes)
 
--- what a reading that passes 1 to 3 leaves
-unfoldable pub leftBy : List (List ℕ) → List ℕ → List ℕ → List ℕ → Outcome
-leftBy texts archive contents bodies = left (judge start (met texts archive)) (sourced (filesOf archive) (readEntries texts archive)) contents bodies
+-- what a reading that passes 1 to 3 and 15 leaves
+unfoldable pub leftBy : ℕ → List (List ℕ) → List ℕ → List ℕ → List ℕ → Outcome
+leftBy depth texts archive contents bodies = left (judge start (met depth texts archive)) (sourced (filesOf archive) (readEntries depth texts archive)) contents bodies

@@ -14,6 +14,7 @@ use image::close_image;
 use image::empty_image;
 use limits::BODY_BYTES;
 use limits::CONTENTS_WORDS;
+use limits::GREATEST_DEPTH;
 use texts::is_long;
 use texts::parse_texts;
 
@@ -41,22 +42,24 @@ fn finish(step: Step, words: &mut [u16], store: &mut [u8]) -> Answer
 }
 
 // Reads into buffers that are just as long as an image.
-fn fill(texts: &[&[u8]], archive: &[u8], words: &mut [u16], store: &mut [u8]) -> Answer
+fn fill(texts: &[&[u8]], archive: &[u8], depth: u64, words: &mut [u16], store: &mut [u8]) -> Answer
     requires { ⌜ (length (now words) ≡ contentsWords) × (length (now store) ≡ bodyBytes) × (laidOut (now archive) ≡ true) ⌝ }
-    ensures { λ r. ⌜ outcome (said r) (now (words .exit)) (now (store .exit)) ≡ leftBy (map now (now (texts .entry))) (now (archive .entry)) (now (words .entry)) (now (store .entry)) ⌝ }
+    ensures { λ r. ⌜ outcome (said r) (now (words .exit)) (now (store .exit)) ≡ leftBy depth (map now (now (texts .entry))) (now (archive .entry)) (now (words .entry)) (now (store .entry)) ⌝ }
 {
-    let step = parse_texts(texts, archive, words, store);
+    let step = parse_texts(texts, archive, depth, words, store);
     finish(step, words, store)
 }
 
-// Reads a list of texts with an archive into a database image: document 01's reading call, over the texts of document 02 (i).
+// Reads a list of texts with an archive into a database image: document 01's reading call, over the texts of document 02 (i) and at the
+// depth of document 02 (x).
 pub fn read_texts(
     texts: &[&[u8]],
     archive: &[u8],
+    depth: u64,
     contents: &mut [u16],
     bodies: &mut [u8],
 ) -> Answer
-    ensures { λ r. ⌜ outcome (said r) (now (contents .exit)) (now (bodies .exit)) ≡ reading (map now (now (texts .entry))) (now (archive .entry)) (now (contents .entry)) (now (bodies .entry)) ⌝ }
+    ensures { λ r. ⌜ outcome (said r) (now (contents .exit)) (now (bodies .exit)) ≡ reading depth (map now (now (texts .entry))) (now (archive .entry)) (now (contents .entry)) (now (bodies .entry)) ⌝ }
 {
     if contents.len() < CONTENTS_WORDS {
         return Answer::Refused(1);
@@ -70,18 +73,28 @@ pub fn read_texts(
     if !is_archive(archive) {
         return Answer::Refused(3);
     }
+    if depth > GREATEST_DEPTH {
+        return Answer::Refused(15);
+    }
     fill(
         texts,
         archive,
+        depth,
         &mut contents[..CONTENTS_WORDS],
         &mut bodies[..BODY_BYTES],
     )
 }
 
 // Reads a main text: the list of one.
-pub fn read<'a>(text: &'a [u8], archive: &[u8], contents: &mut [u16], bodies: &mut [u8]) -> Answer
-    ensures { λ r. ⌜ outcome (said r) (now (contents .exit)) (now (bodies .exit)) ≡ reading (now (text .entry) ∷ []) (now (archive .entry)) (now (contents .entry)) (now (bodies .entry)) ⌝ }
+pub fn read<'a>(
+    text: &'a [u8],
+    archive: &[u8],
+    depth: u64,
+    contents: &mut [u16],
+    bodies: &mut [u8],
+) -> Answer
+    ensures { λ r. ⌜ outcome (said r) (now (contents .exit)) (now (bodies .exit)) ≡ reading depth (now (text .entry) ∷ []) (now (archive .entry)) (now (contents .entry)) (now (bodies .entry)) ⌝ }
 {
     let texts: [&'a [u8]; 1] = [text];
-    read_texts(&texts, archive, contents, bodies)
+    read_texts(&texts, archive, depth, contents, bodies)
 }

@@ -15,9 +15,9 @@ front-copied : (d s : List ℕ) → length s ≤ length d → take (length s) (p
 front-copied d s h = rw (take-length s) (take-at s (drop (0 + length s) d) (length s) refl)
 
 -- a reading with what was struck off
-pub second-read : (r : reader.Answer) (texts : List (List ℕ)) (archive : List ℕ) (file n : ℕ) (struck contents bodies struck′ contents′ bodies′ : List ℕ)
+pub second-read : (r : reader.Answer) (depth : ℕ) (texts : List (List ℕ)) (archive : List ℕ) (file n : ℕ) (struck contents bodies struck′ contents′ bodies′ : List ℕ)
     → length (struckOff file archive) ≤ length struck → n ≡ length (struckOff file archive) → struck′ ≡ paste struck 0 (struckOff file archive) n
-    → outcome (said r) contents′ bodies′ ≡ reading texts (take n struck′) contents bodies → SecondOf r texts archive file struck contents bodies struck′ contents′ bodies′
-second-read r texts archive file n struck contents bodies struck′ contents′ bodies′ h e copied read =
+    → outcome (said r) contents′ bodies′ ≡ reading depth texts (take n struck′) contents bodies → SecondOf r depth texts archive file struck contents bodies struck′ contents′ bodies′
+second-read r depth texts archive file n struck contents bodies struck′ contents′ bodies′ h e copied read =
     let left = rw e at copied in
     record { struckOff-left = left; read = rw (e, left, front-copied struck (struckOff file archive) h) at read }

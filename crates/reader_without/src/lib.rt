@@ -14,15 +14,16 @@ use reader::read_texts;
 pub fn read_without(
     texts: &[&[u8]],
     archive: &[u8],
+    depth: u64,
     file: usize,
     struck: &mut [u8],
     contents: &mut [u16],
     bodies: &mut [u8],
 ) -> Answer
     requires { ⌜ (laidOut (now archive) ≡ true) × (file < length (filesOf (now archive))) × (length (now archive) ≤ length (now struck)) ⌝ }
-    ensures { λ r. ⌜ SecondOf r (map now (now (texts .entry))) (now (archive .entry)) file (now (struck .entry)) (now (contents .entry)) (now (bodies .entry)) (now (struck .exit)) (now (contents .exit)) (now (bodies .exit)) ⌝ }
+    ensures { λ r. ⌜ SecondOf r depth (map now (now (texts .entry))) (now (archive .entry)) file (now (struck .entry)) (now (contents .entry)) (now (bodies .entry)) (now (struck .exit)) (now (contents .exit)) (now (bodies .exit)) ⌝ }
 {
     let n = strike_off(archive, file, struck);
     let without = &struck[..n];
-    read_texts(texts, without, contents, bodies)
+    read_texts(texts, without, depth, contents, bodies)
 }

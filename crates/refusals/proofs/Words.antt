@@ -9,9 +9,9 @@ use Rattle.refusals.specs.Refusals.{refusalOf}
 
 pub reason-most : (k : ℕ) → length (refusalOf k) ≤ 60
 unfolding refusalOf
-reason-most k = at (eqb k 1) (eqb k 2) (eqb k 3) (eqb k 4) (eqb k 5) (eqb k 6) (eqb k 7) (eqb k 8) (eqb k 9) (eqb k 10) (eqb k 11) (eqb k 12) (eqb k 13) (eqb k 14)
+reason-most k = at (eqb k 1) (eqb k 2) (eqb k 3) (eqb k 4) (eqb k 5) (eqb k 6) (eqb k 7) (eqb k 8) (eqb k 9) (eqb k 10) (eqb k 11) (eqb k 12) (eqb k 13) (eqb k 14) (eqb k 15)
   where
-    at : (a b c d e f g h i j k l m n : Bool) → length (
+    at : (a b c d e f g h i j k l m n o : Bool) → length (
         if a then ascii "refused 1: the buffers are too short" else
         if b then ascii "refused 2: a text has more than 32,768 bytes" else
         if c then ascii "refused 3: the files are not laid out as an archive" else
@@ -26,19 +26,21 @@ reason-most k = at (eqb k 1) (eqb k 2) (eqb k 3) (eqb k 4) (eqb k 5) (eqb k 6) (
         if l then ascii "refused 12: the text makes no entry or more than one" else
         if m then ascii "refused 13: the board keeps 16 packs, or watches 32 queries" else
         if n then ascii "refused 14: the pack's number is 0, taken, or not there" else
+        if o then ascii "refused 15: the depth is over 100" else
         ascii "refused") ≤ 60
-    at true b c d e f g h i j k l m n = omega arith
-    at false true c d e f g h i j k l m n = omega arith
-    at false false true d e f g h i j k l m n = omega arith
-    at false false false true e f g h i j k l m n = omega arith
-    at false false false false true f g h i j k l m n = omega arith
-    at false false false false false true g h i j k l m n = omega arith
-    at false false false false false false true h i j k l m n = omega arith
-    at false false false false false false false true i j k l m n = omega arith
-    at false false false false false false false false true j k l m n = omega arith
-    at false false false false false false false false false true k l m n = omega arith
-    at false false false false false false false false false false true l m n = omega arith
-    at false false false false false false false false false false false true m n = omega arith
-    at false false false false false false false false false false false false true n = omega arith
-    at false false false false false false false false false false false false false true = omega arith
-    at false false false false false false false false false false false false false false = omega arith
+    at true b c d e f g h i j k l m n o = omega arith
+    at false true c d e f g h i j k l m n o = omega arith
+    at false false true d e f g h i j k l m n o = omega arith
+    at false false false true e f g h i j k l m n o = omega arith
+    at false false false false true f g h i j k l m n o = omega arith
+    at false false false false false true g h i j k l m n o = omega arith
+    at false false false false false false true h i j k l m n o = omega arith
+    at false false false false false false false true i j k l m n o = omega arith
+    at false false false false false false false false true j k l m n o = omega arith
+    at false false false false false false false false false true k l m n o = omega arith
+    at false false false false false false false false false false true l m n o = omega arith
+    at false false false false false false false false false false false true m n o = omega arith
+    at false false false false false false false false false false false false true n o = omega arith
+    at false false false false false false false false false false false false false true o = omega arith
+    at false false false false false false false false false false false false false false true = omega arith
+    at false false false false false false false false false false false false false false false = omega arith

@@ -20,4 +20,5 @@ refusalOf k =
     if eqb k 12 then ascii "refused 12: the text makes no entry or more than one" else
     if eqb k 13 then ascii "refused 13: the board keeps 16 packs, or watches 32 queries" else
     if eqb k 14 then ascii "refused 14: the pack's number is 0, taken, or not there" else
+    if eqb k 15 then ascii "refused 15: the depth is over 100" else
     ascii "refused"

@@ -58,6 +58,7 @@ pub fn put_reason(number: u8, out: &mut [u8], at: usize) -> usize
             out,
             at,
         ),
+        15 => put(b"refused 15: the depth is over 100", out, at),
         _ => put(b"refused", out, at),
     }
 }

@@ -6,6 +6,7 @@ use fields::pass_number;
 use fields::take_bytes;
 use limits::BODY_BYTES;
 use limits::CONTENTS_WORDS;
+use limits::GREATEST_DEPTH;
 use limits::QUERY_BYTES;
 use lookup::Lookup;
 use lookup::get_bytes;
@@ -142,11 +143,11 @@ fn replay_lookup(kind: &[u8], line: &[u8], contents: &[u16], bodies: &[u8]) -> b
     )
 }
 
-// The text is read again. Every recorded reading is accepted.
+// The text is read again, at the Rust's depth. Every recorded reading is accepted.
 fn replay_reading(kind: &[u8], line: &[u8], text: &[u8], archive: &[u8]) -> bool {
     let mut contents = [0; CONTENTS_WORDS];
     let mut bodies = [0; BODY_BYTES];
-    let answer = reader::read(text, archive, &mut contents, &mut bodies);
+    let answer = reader::read(text, archive, GREATEST_DEPTH, &mut contents, &mut bodies);
     let Answer::Accepted(entries, opens) = answer else {
         return false;
     };

@@ -6,6 +6,7 @@ use fields::pass_number;
 use fields::take_bytes;
 use limits::BODY_BYTES;
 use limits::CONTENTS_WORDS;
+use limits::GREATEST_DEPTH;
 use reader::Answer;
 use scan::starts_with;
 use startup::read_default;
@@ -132,7 +133,7 @@ fn text<'a>(store: &'a [u8], ends: &[usize; 7], i: usize) -> &'a [u8] {
     &store[start..end]
 }
 
-// The chain is read again. Every recorded one is accepted.
+// The chain is read again, at the Rust's depth. Every recorded one is accepted.
 fn replay_chain(format: u8, store: &[u8], ends: &[usize; 7], kinds: &[u8; 6], rest: &[u8]) -> bool {
     let mut contents = [0; CONTENTS_WORDS];
     let mut bodies = [0; BODY_BYTES];
@@ -149,6 +150,7 @@ fn replay_chain(format: u8, store: &[u8], ends: &[usize; 7], kinds: &[u8; 6], re
         says(kinds, 4, BYTES),
         text(store, ends, 4),
         text(store, ends, 5),
+        GREATEST_DEPTH,
         &mut contents,
         &mut bodies,
     );

@@ -47,9 +47,9 @@ use Rattle.resource_manager.specs.Boundary.{crossed, crossing, filling, 
 
 -- ---- Readings, lookups and steps, once the answer is told
 
-module _ (texts : List (List ℕ)) (archive contents bodies c b : List ℕ) where
-  pub read-few : (r : Answer) → outcome (said r) c b ≡ reading texts archive contents bodies → Few r
-  read-few (Accepted n o) e = accepted-small texts archive contents bodies c b n o e
+module _ (depth : ℕ) (texts : List (List ℕ)) (archive contents bodies c b : List ℕ) where
+  pub read-few : (r : Answer) → outcome (said r) c b ≡ reading depth texts archive contents bodies → Few r
+  read-few (Accepted n o) e = accepted-small depth texts archive contents bodies c b n o e
   read-few (RefusedReading k) e = tt
 
 module _ (old oldBytes contents bodies c b : List ℕ) where

@@ -1,7 +1,7 @@
--- What document 02 (vii) says of the calls, by their contracts: lookups in images that answer alike, as `Orders: ImagesAlike` says of those that hold
--- reordered lists, give the same bytes, numbers and booleans; and of two readings of rearranged include lines one is accepted exactly when the
--- other is, and both images answer alike. Readings, bytes and strings are those of `reader` and `lookup`, of which C gets the codes. Assumes
--- nothing.
+-- What document 02 (vii) says of the calls, by their contracts: lookups in images that answer alike, as `Orders: ImagesAlike` says of those that
+-- hold reordered lists, give the same bytes, numbers and booleans; and of two readings of rearranged include lines, at one depth, one is
+-- accepted exactly when the other is, and both images answer alike. Readings, bytes and strings are those of `reader` and `lookup`, of which C
+-- gets the codes. Assumes nothing.
 use mathlib.Core.Bool.{true, false}
 use mathlib.Core.List.{List, [], _∷_}
 use mathlib.Core.Logic.{_↔_}
@@ -63,15 +63,15 @@ said-accepted (Accepted i o) n m e =
 said-accepted (Refused k) n m e = let z : _≡_ {A = ℕ} 0 1 = cc in absurd (omega arith)
 
 -- r and r′ are the answers of both calls, and c, b, c′ and b′ what they left
-module _ (lines lines′ : List (List ℕ)) (archive contents bodies contents′ bodies′ : List ℕ)
-    (includes : areIncludes lines ≡ true) (rearranged : Rearranged [] lines lines′) (one : OneFileEach (readEntries (textOfLines lines ∷ []) archive))
+module _ (depth : ℕ) (lines lines′ : List (List ℕ)) (archive contents bodies contents′ bodies′ : List ℕ)
+    (includes : areIncludes lines ≡ true) (rearranged : Rearranged [] lines lines′) (one : OneFileEach (readEntries depth (textOfLines lines ∷ []) archive))
     (long : tooShort contents bodies ≡ false) (long′ : tooShort contents′ bodies′ ≡ false)
     (r r′ : Answer) (c b c′ b′ : List ℕ)
-    (first : outcome (said r) c b ≡ reading (textOfLines lines ∷ []) archive contents bodies)
-    (second : outcome (said r′) c′ b′ ≡ reading (textOfLines lines′ ∷ []) archive contents′ bodies′) where
+    (first : outcome (said r) c b ≡ reading depth (textOfLines lines ∷ []) archive contents bodies)
+    (second : outcome (said r′) c′ b′ ≡ reading depth (textOfLines lines′ ∷ []) archive contents′ bodies′) where
   claim : ((n m : ℕ) → (said r ≡ accepted n m) ↔ (said r′ ≡ accepted n m))
       × (isAccepted (said r) ≡ true → (most : Bounds) (name class : List ℕ) → AnswerAlike most c b c′ b′ name class)
-  claim = rw (← first, ← second) at (packs-in-any-order lines lines′ archive contents bodies contents′ bodies′ includes rearranged one long long′)
+  claim = rw (← first, ← second) at (packs-in-any-order depth lines lines′ archive contents bodies contents′ bodies′ includes rearranged one long long′)
 
   -- one is accepted exactly when the other is, with as many entries and opens
   pub packs-accepted : (n m : ℕ) → (r ≡ Accepted n m) ↔ (r′ ≡ Accepted n m)

@@ -1,11 +1,13 @@
 // The calls for C, Rust and the tests to link. A slice passes as a pointer and an element count.
 mod boards;
 mod comparing;
+mod nesting;
 mod walking;
 mod window;
 
 ghost use mathlib.Core.List.{[], _∷_};
 ghost use mathlib.Core.Path.{_≡_};
+ghost use Rattle.definition.specs.Limits.{greatestDepth, defaultDepth};
 ghost use Rattle.definition.specs.Reading.{reading};
 ghost use Rattle.definition.specs.StartUp.{starting};
 ghost use Rattle.definition.specs.Lookup.{getBytes};
@@ -24,9 +26,11 @@ use codes::place_code;
 use codes::read_code;
 use codes::value_code;
 use codes::write_code;
+use limits::DEFAULT_DEPTH;
+use limits::GREATEST_DEPTH;
 
-// Document 01's reading call. The low 16 bits are 0, or the number of the refusal and that alone; entries stand in bits 16 to 31
-// and opens in bits 32 to 47.
+// Document 01's reading call, at depth 20. The low 16 bits are 0, or the number of the refusal and that alone; entries stand in bits 16 to
+// 31 and opens in bits 32 to 47.
 #[no_mangle]
 pub extern "C" fn resource_manager_read(
     text: &[u8],
@@ -34,14 +38,14 @@ pub extern "C" fn resource_manager_read(
     contents: &mut [u16],
     bodies: &mut [u8],
 ) -> u64
-    ensures { λ r. ⌜ crossing r (now (contents .exit)) (now (bodies .exit)) ≡ crossed (reading (now (text .entry) ∷ []) (now (shelf .entry)) (now (contents .entry)) (now (bodies .entry))) ⌝ }
+    ensures { λ r. ⌜ crossing r (now (contents .exit)) (now (bodies .exit)) ≡ crossed (reading defaultDepth (now (text .entry) ∷ []) (now (shelf .entry)) (now (contents .entry)) (now (bodies .entry))) ⌝ }
 {
-    let answer = reader::read(text, shelf, contents, bodies);
+    let answer = reader::read(text, shelf, DEFAULT_DEPTH, contents, bodies);
     read_code(answer)
 }
 
-// The reading call over what a reader starts with: document 02 (i). A flag is no if it is 0, else yes. The answer is that of
-// `resource_manager_read`.
+// The reading call over what a reader starts with: document 02 (i), at depth 100. A flag is no if it is 0, else yes. The answer is that
+// of `resource_manager_read`.
 #[no_mangle]
 pub extern "C" fn resource_manager_read_default<'a>(
     property_format: u8,
@@ -59,7 +63,7 @@ pub extern "C" fn resource_manager_read_default<'a>(
     contents: &mut [u16],
     bodies: &mut [u8],
 ) -> u64
-    ensures { λ r. ⌜ crossing r (now (contents .exit)) (now (bodies .exit)) ≡ crossed (starting (startUp «property_format» (now (property .entry)) (lending (yes «xresources_read») (now (xresources .entry))) (lending (yes «xdefaults_read») (now (xdefaults .entry))) (yes «xenvironment_set») (lending (yes «xenvironment_read») (now (xenvironment .entry))) (lending (yes «host_read») (now (host .entry)))) (now (shelf .entry)) (now (contents .entry)) (now (bodies .entry))) ⌝ }
+    ensures { λ r. ⌜ crossing r (now (contents .exit)) (now (bodies .exit)) ≡ crossed (starting greatestDepth (startUp «property_format» (now (property .entry)) (lending (yes «xresources_read») (now (xresources .entry))) (lending (yes «xdefaults_read») (now (xdefaults .entry))) (yes «xenvironment_set») (lending (yes «xenvironment_read») (now (xenvironment .entry))) (lending (yes «host_read») (now (host .entry)))) (now (shelf .entry)) (now (contents .entry)) (now (bodies .entry))) ⌝ }
 {
     let answer = startup::read_default(
         property_format,
@@ -74,6 +78,7 @@ pub extern "C" fn resource_manager_read_default<'a>(
         host_read != 0,
         host,
         shelf,
+        GREATEST_DEPTH,
         contents,
         bodies,
     );

@@ -15,12 +15,12 @@ module _ (first second : Option (List ℕ)) where
   abbrev handed : List (List ℕ)
   handed = orEmpty first ∷ orEmpty second ∷ []
 
-met-handed : (a b : Option (List ℕ)) (archive : List ℕ) → met (handed a b) archive ≡ met (added a ++ added b) archive
+met-handed : (depth : ℕ) (a b : Option (List ℕ)) (archive : List ℕ) → met depth (handed a b) archive ≡ met depth (added a ++ added b) archive
 unfolding added eventsOfAll events eventsOf
-met-handed none none archive = rw lines-end refl
-met-handed none (some t) archive = rw lines-end refl
-met-handed (some t) none archive = rw lines-end refl
-met-handed (some t) (some u) archive = refl
+met-handed depth none none archive = rw lines-end refl
+met-handed depth none (some t) archive = rw lines-end refl
+met-handed depth (some t) none archive = rw lines-end refl
+met-handed depth (some t) (some u) archive = refl
 
 long-handed : (a b : Option (List ℕ)) → any tooLong (handed a b) ≡ any tooLong (added a ++ added b)
 unfolding added any
@@ -36,7 +36,7 @@ module _ (s : StartUp) where
   abbrev second : Option (List ℕ)
   second = secondText (s .isSet) (s .xenvironment) (s .host)
 
-  pub reads-start : (t u : List ℕ) → t ≡ orEmpty first → u ≡ orEmpty second
-      → (archive contents bodies : List ℕ) → reading (t ∷ u ∷ []) archive contents bodies ≡ starting s archive contents bodies
+  pub reads-start : (depth : ℕ) (t u : List ℕ) → t ≡ orEmpty first → u ≡ orEmpty second
+      → (archive contents bodies : List ℕ) → reading depth (t ∷ u ∷ []) archive contents bodies ≡ starting depth s archive contents bodies
   unfolding reading textsUsed
-  reads-start t u e f archive contents bodies = rw (e, f, met-handed first second archive, long-handed first second) refl
+  reads-start depth t u e f archive contents bodies = rw (e, f, met-handed depth first second archive, long-handed first second) refl

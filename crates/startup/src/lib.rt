@@ -9,7 +9,7 @@ use reader::read_texts;
 use sources::first_text;
 use sources::second_text;
 
-// Reads what a reader starts with: document 02 (i).
+// Reads what a reader starts with: document 02 (i), at a depth.
 pub fn read_default<'a>(
     property_format: u8,
     property: &'a [u8],
@@ -23,10 +23,11 @@ pub fn read_default<'a>(
     host_read: bool,
     host: &'a [u8],
     archive: &[u8],
+    depth: u64,
     contents: &mut [u16],
     bodies: &mut [u8],
 ) -> Answer
-    ensures { λ r. ⌜ outcome (said r) (now (contents .exit)) (now (bodies .exit)) ≡ starting (startUp «property_format» (now (property .entry)) (lending «xresources_read» (now (xresources .entry))) (lending «xdefaults_read» (now (xdefaults .entry))) «xenvironment_set» (lending «xenvironment_read» (now (xenvironment .entry))) (lending «host_read» (now (host .entry)))) (now (archive .entry)) (now (contents .entry)) (now (bodies .entry)) ⌝ }
+    ensures { λ r. ⌜ outcome (said r) (now (contents .exit)) (now (bodies .exit)) ≡ starting depth (startUp «property_format» (now (property .entry)) (lending «xresources_read» (now (xresources .entry))) (lending «xdefaults_read» (now (xdefaults .entry))) «xenvironment_set» (lending «xenvironment_read» (now (xenvironment .entry))) (lending «host_read» (now (host .entry)))) (now (archive .entry)) (now (contents .entry)) (now (bodies .entry)) ⌝ }
 {
     let first = first_text(
         property_format,
@@ -44,5 +45,5 @@ pub fn read_default<'a>(
         host,
     );
     let texts: [&'a [u8]; 2] = [first, second];
-    read_texts(&texts, archive, contents, bodies)
+    read_texts(&texts, archive, depth, contents, bodies)
 }

@@ -104,7 +104,13 @@ fn tell_entries(a: &[u8], b: &[u8], contents: &[u16], bodies: &[u8], others: &[u
 // ---- Files
 
 // Reads an include of that file alone, which leaves an image; false if it is refused, and then the whole reading is.
-fn read_pack(name: &[u8], archive: &[u8], contents: &mut [u16], bodies: &mut [u8]) -> bool
+fn read_pack(
+    name: &[u8],
+    archive: &[u8],
+    depth: u64,
+    contents: &mut [u16],
+    bodies: &mut [u8],
+) -> bool
     requires { ⌜ length (now name) ≤ fileNameBytes ⌝ }
     ensures { λ r. ⌜ (r ≡ true → isImage (now (contents .exit)) (now (bodies .exit)) ≡ true) ⌝ }
 {
@@ -112,31 +118,31 @@ fn read_pack(name: &[u8], archive: &[u8], contents: &mut [u16], bodies: &mut [u8
     let mut n = put(b"#include \"", &mut text, 0);
     n = put(name, &mut text, n);
     n = put(b"\"", &mut text, n);
-    let answer = read(&text[..n], archive, contents, bodies);
+    let answer = read(&text[..n], archive, depth, contents, bodies);
     match answer {
         Answer::Accepted(_, _) => true,
         Answer::Refused(_) => false,
     }
 }
 
-fn tell_packs(a: &[u8], b: &[u8], archive: &[u8])
+fn tell_packs(a: &[u8], b: &[u8], archive: &[u8], depth: u64)
     requires { ⌜ (length (now a) ≤ fileNameBytes) × (length (now b) ≤ fileNameBytes) ⌝ }
 {
     let mut contents = [0; CONTENTS_WORDS];
     let mut bodies = [0; BODY_BYTES];
-    if !read_pack(a, archive, &mut contents, &mut bodies) {
+    if !read_pack(a, archive, depth, &mut contents, &mut bodies) {
         return;
     }
     let mut others = [0; CONTENTS_WORDS];
     let mut stores = [0; BODY_BYTES];
-    if !read_pack(b, archive, &mut others, &mut stores) {
+    if !read_pack(b, archive, depth, &mut others, &mut stores) {
         return;
     }
     tell_entries(a, b, &contents, &bodies, &others, &stores);
 }
 
 // Two files of the archive. No name has more than 96 bytes.
-fn tell_files(one: Member, other: Member, archive: &[u8])
+fn tell_files(one: Member, other: Member, archive: &[u8], depth: u64)
     requires { ⌜ (standsIn (length (now archive)) one ≡ true) × (standsIn (length (now archive)) other ≡ true) ⌝ }
 {
     let start = one.start;
@@ -151,28 +157,28 @@ fn tell_files(one: Member, other: Member, archive: &[u8])
     if b.len() > FILE_NAME_BYTES {
         return;
     }
-    tell_packs(a, b, archive);
+    tell_packs(a, b, archive, depth);
 }
 
 // A file and each of those after it.
-fn tell_with(archive: &[u8], reached: Reached, first: usize)
+fn tell_with(archive: &[u8], depth: u64, reached: Reached, first: usize)
     requires { ⌜ Waiting (length (now archive)) reached × (first < reached .count) ⌝ }
 {
     let one = reached.files[first];
     let mut i = first + 1;
     while i < reached.count {
         let other = reached.files[i];
-        tell_files(one, other, archive);
+        tell_files(one, other, archive, depth);
         i += 1;
     }
 }
 
-fn tell_all(archive: &[u8], reached: Reached)
+fn tell_all(archive: &[u8], depth: u64, reached: Reached)
     requires { ⌜ Waiting (length (now archive)) reached ⌝ }
 {
     let mut i = 0;
     while i < reached.count {
-        tell_with(archive, reached, i);
+        tell_with(archive, depth, reached, i);
         i += 1;
     }
 }
@@ -221,21 +227,21 @@ fn with_text(classes: &[u8; 256], text: &[u8], archive: &[u8], reached: Reached)
     with_includes(classes, text, archive, reached)
 }
 
-// Tells the keys that two files of a main text share.
-pub fn tell_shared(text: &[u8], archive: &[u8])
+// Tells the keys that two files of a main text share, at the depth of its reading.
+pub fn tell_shared(text: &[u8], archive: &[u8], depth: u64)
     requires { ⌜ laidOut (now archive) ≡ true ⌝ }
 {
     let classes = byte_classes();
     let reached = with_text(&classes, text, archive, none_reached());
-    tell_all(archive, reached);
+    tell_all(archive, depth, reached);
 }
 
 // Tells those of the two texts of a start-up chain.
-pub fn tell_shared_chain(first: &[u8], second: &[u8], archive: &[u8])
+pub fn tell_shared_chain(first: &[u8], second: &[u8], archive: &[u8], depth: u64)
     requires { ⌜ laidOut (now archive) ≡ true ⌝ }
 {
     let classes = byte_classes();
     let mut reached = with_text(&classes, first, archive, none_reached());
     reached = with_text(&classes, second, archive, reached);
-    tell_all(archive, reached);
+    tell_all(archive, depth, reached);
 }

@@ -8,7 +8,7 @@ use lib.ListN.{length, drop, getD, drop-of-length-le}
 use lib.Seq.{drop-cons}
 use borrow.Author.Tests.{lt-ltb, le-ltb}
 use Rattle.definition.specs.Lists.{any}
-use Rattle.definition.specs.Limits.{textBytes, deepest, contentsWords, bodyBytes}
+use Rattle.definition.specs.Limits.{textBytes, contentsWords, bodyBytes}
 use Rattle.definition.specs.Archive.{filesOf}
 use Rattle.definition.specs.Including.{Event, events, eventsOfAll}
 use Rattle.definition.specs.Reading.{tooLong, met}
@@ -52,30 +52,30 @@ module _ {D : Type 0} (now : D → List ℕ) where
   -- ---- What is read
 
   -- reading all of them comes to the same as reading those from i on from here
-  pub record Reading (archive : List ℕ) (ds : List D) (c₀ b₀ : List ℕ) (s : Totals) (c b : List ℕ) (i : ℕ) : Type 0 where
-    pub same : run (filesOf archive) (world begun c₀ b₀) (met (map now ds) archive) ≡ run (filesOf archive) (world s c b) (met (from i ds) archive)
+  pub record Reading (depth : ℕ) (archive : List ℕ) (ds : List D) (c₀ b₀ : List ℕ) (s : Totals) (c b : List ℕ) (i : ℕ) : Type 0 where
+    pub same : run (filesOf archive) (world begun c₀ b₀) (met depth (map now ds) archive) ≡ run (filesOf archive) (world s c b) (met depth (from i ds) archive)
     pub room : Room s c b
     pub words-same : length c ≡ length c₀
     pub bytes-same : length b ≡ length b₀
 
-  pub reading-first : {archive : List ℕ} {ds : List D} (c b : List ℕ) → length c ≡ contentsWords → length b ≡ bodyBytes → Reading archive ds c b begun c b 0
+  pub reading-first : {depth : ℕ} {archive : List ℕ} {ds : List D} (c b : List ℕ) → length c ≡ contentsWords → length b ≡ bodyBytes → Reading depth archive ds c b begun c b 0
   reading-first c b hc hb = record { same = refl; room = room-first c b hc hb; words-same = refl; bytes-same = refl }
 
-  module _ {archive : List ℕ} {ds : List D} {c₀ b₀ : List ℕ} {s : Totals} {c b : List ℕ} {i : ℕ} (r : Reading archive ds c₀ b₀ s c b i) where
-    pub reading-done : length ds ≤ i → answered (Go s) c b ≡ run (filesOf archive) (world begun c₀ b₀) (met (map now ds) archive)
+  module _ {depth : ℕ} {archive : List ℕ} {ds : List D} {c₀ b₀ : List ℕ} {s : Totals} {c b : List ℕ} {i : ℕ} (r : Reading depth archive ds c₀ b₀ s c b i) where
+    pub reading-done : length ds ≤ i → answered (Go s) c b ≡ run (filesOf archive) (world begun c₀ b₀) (met depth (map now ds) archive)
     unfolding answered eventsOfAll run
     reading-done h = sym (r .same ∙ rw (from-end ds i h) refl)
 
     module _ (d : D) (h : i < length ds) where
       abbrev here : List Event
-      here = textEvents deepest (filesOf archive) [] [] (now (getD ds i d))
+      here = textEvents depth (filesOf archive) [] [] (now (getD ds i d))
 
-      next : run (filesOf archive) (world s c b) (met (from i ds) archive) ≡ andThen (run (filesOf archive) (world s c b) here) (λ v. run (filesOf archive) v (met (from (i + 1) ds) archive))
+      next : run (filesOf archive) (world s c b) (met depth (from i ds) archive) ≡ andThen (run (filesOf archive) (world s c b) here) (λ v. run (filesOf archive) v (met depth (from (i + 1) ds) archive))
       unfolding eventsOfAll textEvents events
-      next = rw (from-next ds i d h) (run-append (filesOf archive) here (met (from (i + 1) ds) archive) (world s c b))
+      next = rw (from-next ds i d h) (run-append (filesOf archive) here (met depth (from (i + 1) ds) archive) (world s c b))
 
       pub reading-text : (s′ : Totals) (c′ b′ : List ℕ) → answered (Go s′) c′ b′ ≡ run (filesOf archive) (world s c b) here
-          → length c′ ≡ length c → length b′ ≡ length b → Reading archive ds c₀ b₀ s′ c′ b′ (i + 1)
+          → length c′ ≡ length c → length b′ ≡ length b → Reading depth archive ds c₀ b₀ s′ c′ b′ (i + 1)
       unfolding answered andThen
       reading-text s′ c′ b′ e hc hb = record {
         same = r .same ∙ next ∙ rw (← e) refl;
@@ -85,6 +85,6 @@ module _ {D : Type 0} (now : D → List ℕ) where
       }
 
       pub text-stops : (k : ℕ) (c′ b′ : List ℕ) → answered (Stop k) c′ b′ ≡ run (filesOf archive) (world s c b) here
-          → answered (Stop k) c′ b′ ≡ run (filesOf archive) (world begun c₀ b₀) (met (map now ds) archive)
+          → answered (Stop k) c′ b′ ≡ run (filesOf archive) (world begun c₀ b₀) (met depth (map now ds) archive)
       unfolding answered andThen
       text-stops k c′ b′ e = sym (r .same ∙ next ∙ rw (← e) refl)

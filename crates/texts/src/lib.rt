@@ -29,10 +29,16 @@ pub fn is_long(texts: &[&[u8]]) -> bool
     false
 }
 
-// Reads the texts one after another, each in the empty folder.
-pub fn parse_texts(texts: &[&[u8]], archive: &[u8], words: &mut [u16], store: &mut [u8]) -> Step
+// Reads the texts one after another at that depth, each in the empty folder.
+pub fn parse_texts(
+    texts: &[&[u8]],
+    archive: &[u8],
+    depth: u64,
+    words: &mut [u16],
+    store: &mut [u8],
+) -> Step
     requires { ⌜ (length (now words) ≡ contentsWords) × (length (now store) ≡ bodyBytes) × (laidOut (now archive) ≡ true) ⌝ }
-    ensures { λ r. ⌜ answered r (now (words .exit)) (now (store .exit)) ≡ run (filesOf (now (archive .entry))) (world begun (now (words .entry)) (now (store .entry))) (met (map now (now (texts .entry))) (now (archive .entry))) ⌝ }
+    ensures { λ r. ⌜ answered r (now (words .exit)) (now (store .exit)) ≡ run (filesOf (now (archive .entry))) (world begun (now (words .entry)) (now (store .entry))) (met depth (map now (now (texts .entry))) (now (archive .entry))) ⌝ }
 {
     let classes = byte_classes();
     let mut s = Totals {
@@ -43,7 +49,7 @@ pub fn parse_texts(texts: &[&[u8]], archive: &[u8], words: &mut [u16], store: &m
     let mut i = 0;
     while i < texts.len() {
         let text = texts[i];
-        let step = parse_text(&classes, text, archive, s, words, store);
+        let step = parse_text(&classes, text, archive, depth, s, words, store);
         match step {
             Step::Go(next) => {
                 // field by field: a copy of the whole would load two fields that were just stored in one load, and wait for them

@@ -38,6 +38,7 @@ pub fn write_help(fd: i32) {
         \x20 --shared            says on standard error which keys come through two files that TEXT includes\n\
         \x20 --list              a line for each resource that aligns: number, file, key and value\n\
         \x20 --write             the resources themselves, as a text that gives every query the same answer\n\
+        \x20 --depth N           reads includes up to depth N, 0 to 100; without it 20, in a chain 100\n\
         \x20 --status-fd N       writes the status to descriptor N, 3 to 9\n\
         \x20 --help              prints this\n\
         \n\

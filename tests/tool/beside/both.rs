@@ -34,11 +34,6 @@ impl Counts {
         *self.left_out.entry(why).or_default() += 1;
     }
 
-    /// An error if no file that was struck off changed an answer.
-    pub fn some_moved(&self) -> Result<(), String> {
-        (self.moved > 0).then_some(()).ok_or("no answer moved with a file struck off".to_string())
-    }
-
     /// What was compared; an error if nothing was.
     pub fn report(&self) -> Result<String, String> {
         if self.readings + self.lookups == 0 {
@@ -68,6 +63,8 @@ pub struct Read {
 
 pub struct Both {
     room: Room,
+    /// That of all readings.
+    depth: u64,
     contents: Vec<u16>,
     bodies: Vec<u8>,
     /// The source of which a file was struck off last: most often another of its files is next.
@@ -76,13 +73,22 @@ pub struct Both {
 }
 
 impl Both {
-    pub fn new(room: Room) -> Self {
+    pub fn new(room: Room, depth: u64) -> Self {
         let (contents, bodies) = records::buffers();
-        Self { room, contents, bodies, whole: None, counts: Counts::default() }
+        Self { room, depth, contents, bodies, whole: None, counts: Counts::default() }
+    }
+
+    /// An error if no file that was struck off changed an answer; at depth 0 none may.
+    pub fn some_moved(&self) -> Result<(), String> {
+        if self.depth == 0 {
+            return (self.counts.moved == 0).then_some(()).ok_or("an answer moved at depth 0".to_string());
+        }
+        (self.counts.moved > 0).then_some(()).ok_or("no answer moved with a file struck off".to_string())
     }
 
     /// Compares entries and opens. Gives what the Rust read, or none if the source is left out.
     pub fn read(&mut self, source: &Source) -> Result<Option<Read>, String> {
+        let source = &source.at(self.depth);
         let reading = match admitted_reading(source) {
             Ok(reading) => reading,
             Err(why) => {
@@ -112,7 +118,7 @@ impl Both {
 
     /// Compares what a process of its own reads of a chain, laid before it like this.
     pub fn start(&mut self, start_up: &StartUp, archive: &[u8], setting: Setting) -> Result<(), String> {
-        let case = Case::read(Source::chain(start_up.clone(), archive.to_vec()));
+        let case = Case::read(Source::chain(start_up.clone(), archive.to_vec()).at(self.depth));
         let answer = records::model_answer(&case).map_err(|refusal| format!("refused {}", refusal.number()))?;
         let reading = admitted_reading(&case.source)?;
         let said = self.room.start(start_up, &case.source, &reading, setting);
@@ -128,6 +134,7 @@ impl Both {
 
     /// Compares a source, the image that the model makes of it, and the answers to the queries.
     pub fn ask(&mut self, source: &Source, queries: &[Query]) -> Result<(), String> {
+        let source = &source.at(self.depth);
         let Some(read) = self.read(source)? else { return Ok(()) };
         self.take_image(source, &read)?;
         queries.iter().try_for_each(|query| self.look_up(&read.database, source, query))
@@ -135,6 +142,7 @@ impl Both {
 
     /// As `ask`, by bytes alone, for very many queries that are known to be small.
     pub fn ask_bytes(&mut self, source: &Source, queries: &[Query]) -> Result<(), String> {
+        let source = &source.at(self.depth);
         let Some(read) = self.read(source)? else { return Ok(()) };
         self.take_image(source, &read)?;
         queries.iter().try_for_each(|query| self.find(&read.database, source, query))
@@ -142,7 +150,7 @@ impl Both {
 
     /// Has the model write its image, which must hold what the Rust read, for the lookups that follow.
     fn take_image(&mut self, source: &Source, read: &Read) -> Result<(), String> {
-        let accepted = image::read(&mut self.contents, &mut self.bodies, &source.texts(), &source.archive);
+        let accepted = image::read(&mut self.contents, &mut self.bodies, &source.texts(), &source.archive, source.depth);
         let same = accepted == Ok(image::Accepted { entries: read.entries.len(), opens: read.opens });
         if !same || records::listed(&self.contents, &self.bodies) != read.entries {
             return Err(self.difference(&Case::read(source.clone())));

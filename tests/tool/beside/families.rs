@@ -46,6 +46,10 @@ const FAMILIES: [(&str, Family); 27] = [
     ("chains-struck-off", chains_struck_off),
 ];
 
+/// Those whose includes nest.
+pub const NESTED: [&str; 8] =
+    ["limits", "archives", "dotted-ways", "struck-off", "chains-by-name", "chain-limits", "chains", "chains-struck-off"];
+
 pub fn names() -> Vec<&'static str> {
     FAMILIES.iter().map(|(name, _)| *name).collect()
 }
@@ -221,7 +225,7 @@ fn random_dotted_ways(both: &mut Both, seed: u64) -> Result<(), String> {
 fn dotted_struck_off(both: &mut Both, seed: u64) -> Result<(), String> {
     let (_, family) = struck::FAMILIES.iter().find(|(name, _)| *name == "dotted").ok_or("no such family")?;
     family(Extent { seed, times: 1 }, &mut |source, which, queries| both.strike(source, which, queries))?;
-    both.counts.some_moved()
+    both.some_moved()
 }
 
 fn like_real_files(both: &mut Both, seed: u64) -> Result<(), String> {
@@ -286,7 +290,7 @@ fn struck_off(both: &mut Both, seed: u64) -> Result<(), String> {
         let count = judge(&source.archive).expect("a good archive").files.len();
         (0..count).try_for_each(|which| both.strike(&source, which, &queries))
     })?;
-    both.counts.some_moved()
+    both.some_moved()
 }
 
 /// The texts of all images, which must read as the entries that they were written for. Those over 32,768 bytes are left out.
@@ -363,5 +367,5 @@ fn chains_struck_off(both: &mut Both, seed: u64) -> Result<(), String> {
     chains::STRIKES
         .iter()
         .try_for_each(|(_, family)| family(extent, &mut |source, which, queries| both.strike(source, which, queries)))?;
-    both.counts.some_moved()
+    both.some_moved()
 }

@@ -9,7 +9,8 @@ use model::lookup::Number;
 use model::paths::PATH_BYTES;
 use model::reading::Reading;
 use model::startup::StartUp;
-use oracle::resource_manager::{entries_of, Database};
+use oracle::altered::{Entries, Reader, READERS};
+use oracle::resource_manager::{database_of, entries_of, Database, DEPTH};
 use records::{answer_fields, hex, Answer, Case, Kind, Query, Source, Start};
 use start::{lay_out, start_here, Setting};
 use std::collections::BTreeSet;
@@ -63,19 +64,20 @@ impl Room {
         }
     }
 
-    /// The Rust's reading of a source, and its opens, where the model's reading says which folders must be there. Chains are
-    /// set up in one way after the other.
+    /// The Rust's reading of a source and its opens, where the model's reading says which folders must be there. Chains are set up in one
+    /// way after the other.
     pub fn read(&mut self, source: &Source, reading: &Reading) -> (Database, usize) {
         match &source.start {
             Start::Text(text) => {
                 let directory = self.directory(&source.archive, &reading.folders);
-                oracle::count_opens(|| Database::new_from_data_with_base_directory(text, &directory))
+                let plain = || Database::new_from_data_with_base_directory(text, &directory);
+                read_at(source.depth, plain, |reader| (reader.read)(text, &directory))
             }
             Start::Chain(start_up) => {
                 self.chains += 1;
                 let setting = Setting::nth(self.chains, start_up);
                 let directory = self.chains_directory(start_up, source, reading, setting);
-                let read = start_here(start_up, &directory, setting);
+                let read = start_here(source.depth, start_up, &directory, setting);
                 self.clear();
                 read
             }
@@ -89,13 +91,13 @@ impl Room {
         directory
     }
 
-    /// What a process of its own says of a chain: this program, begun as `start FORMAT PROPERTY` in the chain's directory,
+    /// What a process of its own says of a chain: this program, begun as `start DEPTH FORMAT PROPERTY` in the chain's directory,
     /// with HOME and XENVIRONMENT alone in its environment.
     pub fn start(&mut self, start_up: &StartUp, source: &Source, reading: &Reading, setting: Setting) -> String {
         let directory = self.chains_directory(start_up, source, reading, setting);
         let environment = setting.environment(start_up, &directory);
         let mut command = Command::new(std::env::current_exe().expect("this program"));
-        command.args(["start", &start_up.format.to_string(), &hex(&start_up.property)]).env_clear();
+        command.args(["start", &source.depth.to_string(), &start_up.format.to_string(), &hex(&start_up.property)]).env_clear();
         command.envs(environment.into_iter().filter_map(|(name, value)| Some((name, value?))));
         let output = command.current_dir(directory).output().expect("a process");
         self.clear();
@@ -124,9 +126,29 @@ impl Drop for Room {
     }
 }
 
+/// The Rust that was altered to read at a depth.
+fn altered(depth: u64) -> Option<&'static Reader> {
+    READERS.iter().find(|reader| u64::from(reader.depth) == depth)
+}
+
+/// Whether there is a Rust for a depth: its own, or one that it was altered to.
+pub fn reads_at(depth: u64) -> bool {
+    depth == DEPTH.into() || altered(depth).is_some()
+}
+
+/// What the Rust reads at a depth, and its opens: as it is at its own; else the Rust that was altered to it, whose entries are put into a
+/// database of the Rust as it is, for the lookups.
+fn read_at(depth: u64, plain: impl FnOnce() -> Database, by: impl FnOnce(&Reader) -> Entries) -> (Database, usize) {
+    assert!(reads_at(depth), "no Rust for depth {depth}");
+    match altered(depth) {
+        None => oracle::count_opens(DEPTH, plain),
+        Some(reader) => oracle::count_opens(reader.depth, || database_of(by(reader))),
+    }
+}
+
 /// What the process of a chain says: opens, and the entries.
-pub fn said_of_start(format: u8, property: &[u8]) -> String {
-    let (database, opens) = oracle::count_opens(|| start::start(format, property));
+pub fn said_of_start(depth: u64, format: u8, property: &[u8]) -> String {
+    let (database, opens) = start::start(depth, format, property);
     answer_fields(&Answer::Read { opens, entries: listed(&database) }).join(" ")
 }
 

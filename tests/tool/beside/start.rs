@@ -3,6 +3,7 @@
 //!
 //! Environment and current directory are the process's, which must have no other thread.
 
+use super::read_at;
 use cases::chains::OWN_FILES;
 use model::startup::StartUp;
 use oracle::protocol::xproto::GetPropertyReply;
@@ -94,14 +95,15 @@ pub fn lay_out(start_up: &StartUp, directory: &Path, setting: Setting) {
     }
 }
 
-/// What the Rust reads with the environment and the current directory as they are.
-pub fn start(format: u8, property: &[u8]) -> Database {
-    let host = OWN_FILES[3].strip_prefix(".Xdefaults-").expect("the host's file");
-    Database::new_from_default(&GetPropertyReply { format, value: property.to_vec() }, host.into())
+/// What the Rust reads at a depth with the environment and the current directory as they are, and its opens.
+pub fn start(depth: u64, format: u8, property: &[u8]) -> (Database, usize) {
+    let host = || OWN_FILES[3].strip_prefix(".Xdefaults-").expect("the host's file").into();
+    let reply = GetPropertyReply { format, value: property.to_vec() };
+    read_at(depth, || Database::new_from_default(&reply, host()), |reader| (reader.start)(&reply, host()))
 }
 
 /// Sets this process up for a start-up whose files are laid out, has the Rust read, and goes back.
-pub fn start_here(start_up: &StartUp, directory: &Path, setting: Setting) -> (Database, usize) {
+pub fn start_here(depth: u64, start_up: &StartUp, directory: &Path, setting: Setting) -> (Database, usize) {
     for (name, value) in setting.environment(start_up, directory) {
         match value {
             Some(value) => env::set_var(name, value),
@@ -110,7 +112,7 @@ pub fn start_here(start_up: &StartUp, directory: &Path, setting: Setting) -> (Da
     }
     let back = env::current_dir().expect("a current directory");
     env::set_current_dir(directory).expect("a directory");
-    let read = oracle::count_opens(|| start(start_up.format, &start_up.property));
+    let read = start(depth, start_up.format, &start_up.property);
     env::set_current_dir(back).expect("the directory before");
     read
 }

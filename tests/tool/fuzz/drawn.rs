@@ -30,6 +30,11 @@ pub fn source(draw: &mut Draw) -> (Source, Vec<Query>) {
             (source, query)
         }
     };
+    // A start-up is also read by calls that are given no depth, and have the greatest.
+    let source = match source.start {
+        Start::Text(_) => source.at([100, 100, 100, 20, 20, 3, 2, 1, 0, 101][draw.below(10)]),
+        Start::Chain(_) => source,
+    };
     let other = texts::query(draw);
     let limit = limit_query(draw);
     (source, vec![swapped(&query), query, other, limit])

@@ -48,7 +48,7 @@ type Compared = Result<Option<(Option<Vec<u8>>, Option<Vec<u8>>)>, u8>;
 pub fn compared(source: &Source, which: usize, name: &[u8], class: &[u8]) -> Compared {
     let value = |archive: &[u8]| -> Result<Option<Vec<u8>>, u8> {
         let (mut contents, mut bodies) = records::buffers();
-        image::read(&mut contents, &mut bodies, &source.texts(), archive).map_err(|refusal| refusal.number())?;
+        image::read(&mut contents, &mut bodies, &source.texts(), archive, source.depth).map_err(|refusal| refusal.number())?;
         let found = get_bytes(&contents, &bodies, name, class).map_err(|refusal| refusal.number())?;
         Ok(found.map(|place| place.of(&bodies).to_vec()))
     };

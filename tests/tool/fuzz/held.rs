@@ -153,7 +153,7 @@ impl Held {
     fn read(&mut self, source: &Source) -> Result<Option<Database>, String> {
         let archive = files::archive(source)?;
         let bytes = archive.as_ref().map_or(&source.archive[..], |archive| archive.as_bytes());
-        let models = image::read(&mut self.contents, &mut self.bodies, &source.texts(), &source.archive);
+        let models = image::read(&mut self.contents, &mut self.bodies, &source.texts(), &source.archive, source.depth);
         let models = models.map(|accepted| (accepted.entries, accepted.opens)).map_err(|refusal| refusal.number());
         let mut last = None;
         for read in self.home.readings(source, bytes)? {

@@ -3,7 +3,7 @@
 use crate::both::is_admitted;
 use crate::files;
 use crate::held::same;
-use crate::rust::{listed, Room};
+use crate::rust::{listed, reads_at, Room};
 use cases::admitted::admitted_reading;
 use records::{Case, Kind, Query, Source};
 use resource_manager::Database;
@@ -27,8 +27,11 @@ impl Rusts {
         Self { room: Room::new(room), database: Default::default() }
     }
 
-    /// Compares a reading; false if document 01 leaves it out.
+    /// Compares a reading; false if the Rust was not altered to its depth, or document 01 leaves it out.
     pub fn read(&mut self, source: &Source, crates: &Database) -> Result<bool, String> {
+        if !reads_at(source.depth) {
+            return Ok(false);
+        }
         let Ok(reading) = admitted_reading(source) else { return Ok(false) };
         let (database, opens) = self.room.read(source, &reading);
         same("entries, beside the Rust", files::listed(crates), listed(&database))?;
@@ -40,7 +43,7 @@ impl Rusts {
     /// Compares lookups in what was read last; false if document 01 leaves them out.
     pub fn look_up(&mut self, source: &Source, crates: &Database, name: &str, class: &str) -> Result<bool, String> {
         let query = Query::new(name.as_bytes(), class.as_bytes());
-        if !is_admitted(&Case::ask(Kind::Bytes, source.clone(), query)) {
+        if !reads_at(source.depth) || !is_admitted(&Case::ask(Kind::Bytes, source.clone(), query)) {
             return Ok(false);
         }
         let rusts = &self.database;
@@ -58,7 +61,7 @@ impl Rusts {
     pub fn compare(&mut self, case: &Struck, with_file: Option<Vec<u8>>, without_file: Option<Vec<u8>>) -> Result<bool, String> {
         let Struck { source, which, name, class } = *case;
         let query = Query::new(name.as_bytes(), class.as_bytes());
-        if !is_admitted(&Case::ask(Kind::Bytes, source.clone(), query)) {
+        if !reads_at(source.depth) || !is_admitted(&Case::ask(Kind::Bytes, source.clone(), query)) {
             return Ok(false);
         }
         let values = [source, &source.struck(which)].map(|source| {

@@ -4,6 +4,7 @@
 use crate::held::same;
 use cases::chains::OWN_FILES;
 use model::image;
+use model::limits::DEFAULT_DEPTH;
 use model::startup::StartUp as Chain;
 use records::{Source, Start};
 use resource_manager::{Archive, Comparison, Database, Error, GetPropertyReply, StartUp};
@@ -28,11 +29,19 @@ impl Home {
     /// Every reading that the crate has for a source. All must give the same.
     pub fn readings(&mut self, source: &Source, archive: &[u8]) -> Result<Vec<Result<Database, Error>>, String> {
         match &source.start {
-            Start::Text(text) => Ok(vec![Database::new_from_data_with_archive(text, archive)]),
+            Start::Text(text) => {
+                let mut readings = vec![Database::new_from_data_at_depth(text, archive, source.depth)];
+                if source.depth == DEFAULT_DEPTH {
+                    readings.push(Database::new_from_data_with_archive(text, archive));
+                }
+                Ok(readings)
+            }
             Start::Chain(chain) => {
                 texts_used(chain)?;
                 property_alone(chain)?;
-                Ok(vec![Database::new_from_start_up(&given(chain), archive), self.start(chain, archive)])
+                let chain_given = given(chain);
+                let at_depth = Database::new_from_start_up_at_depth(&chain_given, archive, source.depth);
+                Ok(vec![at_depth, Database::new_from_start_up(&chain_given, archive), self.start(chain, archive)])
             }
         }
     }
@@ -104,7 +113,7 @@ fn property_alone(chain: &Chain) -> Result<(), String> {
     let entries = read.map(|database| database.map(|database| database.entries().len()));
     let alone = Chain { format: chain.format, property: chain.property.clone(), ..Chain::default() };
     let (mut contents, mut bodies) = records::buffers();
-    let models = image::read(&mut contents, &mut bodies, &alone.texts(), Archive::new().as_bytes());
+    let models = image::read(&mut contents, &mut bodies, &alone.texts(), Archive::new().as_bytes(), DEFAULT_DEPTH);
     let models = models.map(|accepted| (!alone.texts().is_empty()).then_some(accepted.entries));
     same("the property alone", entries, models.map_err(|refusal| refusal.number()))
 }
@@ -112,7 +121,8 @@ fn property_alone(chain: &Chain) -> Result<(), String> {
 /// What a file of an archive changes, by the crate's comparing call for the source.
 pub fn compare(source: &Source, archive: &Archive, file: &str, name: &str, class: &str) -> Result<Option<Comparison>, Error> {
     match &source.start {
-        Start::Text(text) => Database::compare_without(text, archive, file, name, class),
+        Start::Text(text) if source.depth == DEFAULT_DEPTH => Database::compare_without(text, archive, file, name, class),
+        Start::Text(text) => Database::compare_without_at_depth(text, archive, source.depth, file, name, class),
         Start::Chain(chain) => Database::compare_default_without(&given(chain), archive, file, name, class),
     }
 }

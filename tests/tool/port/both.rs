@@ -5,24 +5,39 @@ use crate::fenced::Fenced;
 use crate::lending::{holds, Edit, StartUpRoom};
 use cases::draw::Draw;
 use model::image;
-use model::limits::{BODIES_BYTES, CONTENTS_WORDS, ROW_WORDS};
+use model::limits::{BODIES_BYTES, CONTENTS_WORDS, DEFAULT_DEPTH, GREATEST_DEPTH, ROW_WORDS};
 use port::StartUp;
 use records::{Source, Start};
 use std::ops::Range;
 
 pub type Read = fn(&[u8], &[u8], &mut [u16], &mut [u8]) -> u64;
 pub type ReadDefault = fn(&StartUp, &[u8], &mut [u16], &mut [u8]) -> u64;
+pub type ReadDepth = fn(&[u8], &[u8], u64, &mut [u16], &mut [u8]) -> u64;
+pub type ReadDefaultDepth = fn(&StartUp, &[u8], u64, &mut [u16], &mut [u8]) -> u64;
 
 /// The reading calls of the port, or faulty ones in their place.
 #[derive(Clone, Copy)]
 pub struct Calls {
+    /// At the Rust's depth.
     pub read: Read,
     pub read_default: ReadDefault,
+    /// At any other.
+    pub read_depth: ReadDepth,
+    pub read_default_depth: ReadDefaultDepth,
+    /// With no depth given.
+    pub read_plain: Read,
     /// What is done to a start-up before it is read: nothing, but for a faulty port.
     pub edit: Edit,
 }
 
-pub const PORTS: Calls = Calls { read: port::read_word, read_default: port::read_default_word, edit: |start_up| start_up };
+pub const PORTS: Calls = Calls {
+    read: port::read_word,
+    read_default: port::read_default_word,
+    read_depth: port::read_depth_word,
+    read_default_depth: port::read_default_depth_word,
+    read_plain: port::read_plain_word,
+    edit: |start_up| start_up,
+};
 
 /// Entries and opens, or the refusal's number.
 pub type Answer = Result<(usize, usize), u8>;
@@ -146,7 +161,7 @@ impl Both {
     pub fn models_read(&mut self, source: &Source) -> Answer {
         let (words, bytes) = (self.lent.words(), self.lent.bytes());
         let (contents, bodies) = (&mut self.models_contents[words], &mut self.models_bodies[bytes]);
-        match image::read(contents, bodies, &source.texts(), &source.archive) {
+        match image::read(contents, bodies, &source.texts(), &source.archive, source.depth) {
             Ok(accepted) => Ok((accepted.entries, accepted.opens)),
             Err(refusal) => Err(refusal.number()),
         }
@@ -175,11 +190,20 @@ impl Both {
         let (word, is_same) = match &source.start {
             Start::Text(bytes) => {
                 let text = self.text.copy(bytes, shape.at_end).unwrap_or(bytes);
-                ((self.calls.read)(text, archive, contents, bodies), text == &bytes[..])
+                let word = match source.depth {
+                    GREATEST_DEPTH => (self.calls.read)(text, archive, contents, bodies),
+                    DEFAULT_DEPTH if self.turn % 2 == 0 => (self.calls.read_plain)(text, archive, contents, bodies),
+                    depth => (self.calls.read_depth)(text, archive, depth, contents, bodies),
+                };
+                (word, text == &bytes[..])
             }
             Start::Chain(start_up) => {
                 let lent = self.start_up.lend(start_up, shape.at_end);
-                let word = (self.calls.read_default)(&(self.calls.edit)(lent), archive, contents, bodies);
+                let edited = (self.calls.edit)(lent);
+                let word = match source.depth {
+                    GREATEST_DEPTH => (self.calls.read_default)(&edited, archive, contents, bodies),
+                    depth => (self.calls.read_default_depth)(&edited, archive, depth, contents, bodies),
+                };
                 (word, holds(&lent, start_up))
             }
         };

@@ -8,10 +8,10 @@ use crate::lending::{holds, Edit, StartUpRoom};
 use crate::run::{describe, shown};
 use crate::third::{case_of, Counts};
 use model::archive::judge;
-use model::limits::{BODIES_BYTES, CONTENTS_WORDS};
+use model::limits::{BODIES_BYTES, CONTENTS_WORDS, DEFAULT_DEPTH};
 use model::lookup;
 use model::reading::read;
-use port::{compare_default_without_word, compare_without_word, Lent};
+use port::{compare_default_without_word, compare_plain_without_word, compare_without_word, Lent};
 use records::{Query, Source, Start};
 
 /// A comparing call with its texts, archive and query, of which the number of a file and what it writes are left.
@@ -92,7 +92,7 @@ impl Comparing {
         }
         let answers = (found(with_it, &mut self.with_it)?, found(without, &mut self.without)?);
         let archive = judge(&source.archive).expect("the archive of an accepted reading");
-        let entries = read(&source.texts(), &archive).expect("an accepted reading").entries;
+        let entries = read(&source.texts(), &archive, source.depth).expect("an accepted reading").entries;
         let case = case_of(&entries, &archive.files[which].name, query);
         case.holds(&answers).map_err(why)?;
         self.counts.files += 1;
@@ -149,7 +149,10 @@ impl Comparing {
         let (word, is_same) = match &source.start {
             Start::Text(bytes) => {
                 let text = self.text.copy(bytes, at_end).unwrap_or(bytes);
-                let call = |file, lent: Lent| compare_without_word(text, archive, file, name, class, lent);
+                let call = |file, lent: Lent| match source.depth {
+                    DEFAULT_DEPTH if self.turn % 2 == 0 => compare_plain_without_word(text, archive, file, name, class, lent),
+                    depth => compare_without_word(text, archive, depth, file, name, class, lent),
+                };
                 (around(&call, which, lent), text == &bytes[..])
             }
             Start::Chain(start_up) => {

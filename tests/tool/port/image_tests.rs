@@ -7,7 +7,7 @@ use cases::draw::Draw;
 use cases::texts;
 use cases::words::each_word;
 use model::image;
-use model::limits::{BODIES_BYTES, CONTENTS_WORDS, ENTRIES, KEY_PARTS, ROW_WORDS};
+use model::limits::{BODIES_BYTES, CONTENTS_WORDS, DEFAULT_DEPTH, ENTRIES, KEY_PARTS, ROW_WORDS};
 use records::Query;
 
 pub const TESTS: [(&str, Test); 6] = [
@@ -22,7 +22,7 @@ pub const TESTS: [(&str, Test); 6] = [
 /// An image of a text, in buffers that are just long enough.
 pub fn image_of(text: &[u8]) -> (Vec<u16>, Vec<u8>) {
     let (mut contents, mut bodies) = records::buffers();
-    image::read(&mut contents, &mut bodies, &[text], &[0, 0]).expect("a text within limits");
+    image::read(&mut contents, &mut bodies, &[text], &[0, 0], DEFAULT_DEPTH).expect("a text within limits");
     (contents, bodies)
 }
 
@@ -158,7 +158,7 @@ fn changed_bytes(lookups: Lookups) -> Result<String, String> {
     for _ in 0..30_000 {
         let (mut contents, mut bodies) = records::buffers();
         let query = texts::query(draw);
-        if image::read(&mut contents, &mut bodies, &[&texts::text(draw, 8, &query)], &[0, 0]).is_err() {
+        if image::read(&mut contents, &mut bodies, &[&texts::text(draw, 8, &query)], &[0, 0], DEFAULT_DEPTH).is_err() {
             continue;
         }
         let (rows, used) = (2 + ROW_WORDS * usize::from(contents[0]), usize::from(contents[1]));

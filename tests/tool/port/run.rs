@@ -12,7 +12,7 @@ use std::rc::Rc;
 #[cfg(feature = "rust")]
 use crate::both::shown as shown_word;
 #[cfg(feature = "rust")]
-use crate::rust::{listed, Room};
+use crate::rust::{listed, reads_at, Room};
 #[cfg(feature = "rust")]
 use cases::admitted::admitted_reading;
 #[cfg(feature = "rust")]
@@ -106,6 +106,9 @@ impl Run {
     /// Compares what the port returned and left.
     #[cfg(feature = "rust")]
     fn compare_with_the_rust(&mut self, source: &Source, word: u64) -> Result<Result<Rusts, LeftOut>, String> {
+        if !reads_at(source.depth) {
+            return Ok(Err("readings at depths that the Rust was not altered to".to_string()));
+        }
         let reading = match admitted_reading(source) {
             Ok(reading) => reading,
             Err(why) => return Ok(Err(why)),
@@ -156,8 +159,8 @@ pub fn smaller(mut source: Source, mut why: String, mut differ: impl FnMut(&Sour
 
 /// The source with a piece of a text or of a file left out, or without a file, the larger pieces first.
 fn shorter(source: &Source) -> impl Iterator<Item = Source> + '_ {
-    let with = |archive: Vec<u8>| Source { start: source.start.clone(), archive };
-    let texts = shorter_starts(&source.start).map(|start| Source { start, archive: source.archive.clone() });
+    let with = |archive: Vec<u8>| Source { archive, ..source.clone() };
+    let texts = shorter_starts(&source.start).map(|start| Source { start, ..source.clone() });
     let bad = judge(&source.archive).is_none().then_some(&source.archive[..]);
     let bad = bad.into_iter().flat_map(without_a_piece).map(with);
     let files = judge(&source.archive).unwrap_or_default().files;
@@ -226,6 +229,7 @@ pub fn describe(source: &Source) -> String {
         Start::Text(text) => format!("text {}", shown(text)),
         Start::Chain(start_up) => described(start_up),
     };
+    let start = format!("{start}, depth {}", source.depth);
     let Some(archive) = judge(&source.archive) else {
         return format!("{start}, archive {}", shown(&source.archive));
     };

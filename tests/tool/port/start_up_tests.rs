@@ -11,7 +11,7 @@ use cases::draw::Draw;
 use cases::named_chains::named;
 use cases::readings::{at_limits, Extent};
 use model::image;
-use model::limits::{BODIES_BYTES, CONTENTS_WORDS, TEXT_BYTES};
+use model::limits::{BODIES_BYTES, CONTENTS_WORDS, GREATEST_DEPTH, TEXT_BYTES};
 use model::startup::StartUp;
 use port::Text;
 use records::{Source, Start};
@@ -208,7 +208,7 @@ fn texts_within_the_archive(calls: Calls) -> Result<String, String> {
         let mut ports = (vec![7; CONTENTS_WORDS], vec![7; BODIES_BYTES]);
         let mut models = ports.clone();
         let word = (calls.read_default)(&lent, &archive, &mut ports.0, &mut ports.1);
-        let read = image::read(&mut models.0, &mut models.1, &start_up.texts(), &archive);
+        let read = image::read(&mut models.0, &mut models.1, &start_up.texts(), &archive, GREATEST_DEPTH);
         let answer = read.map(|accepted| (accepted.entries, accepted.opens)).map_err(|refusal| refusal.number());
         if word != word_of(answer) || ports != models {
             return Err(format!("{start_up:?} within \"{}\"", archive.escape_ascii()));

@@ -7,7 +7,7 @@ use crate::faults;
 use crate::fenced::zero_bytes;
 use crate::run::Run;
 use crate::{
-    board_faults, board_tests, boards, comparing, comparing_faults, comparing_tests, lookup_faults, lookup_tests,
+    board_faults, board_tests, boards, comparing, comparing_faults, comparing_tests, depth_tests, lookup_faults, lookup_tests,
     migrating_faults, migrating_tests, path_faults, start_up_faults, start_up_tests, walking, walking_faults, walking_tests,
     window_faults, window_tests, writing_faults, writing_tests,
 };
@@ -17,17 +17,18 @@ use cases::limits::Edge;
 use cases::named_chains;
 use cases::readings::{at_limits, Extent, Family, FAMILIES};
 use model::image;
-use model::limits::{ARCHIVE_BYTES, BODIES_BYTES, CONTENTS_WORDS, TEXT_BYTES};
+use model::limits::{ARCHIVE_BYTES, BODIES_BYTES, CONTENTS_WORDS, GREATEST_DEPTH, TEXT_BYTES};
 use records::Source;
 
 pub type Test = fn(Calls) -> Result<String, String>;
 
-const TESTS: [(&str, Test); 5] = [
+const TESTS: [(&str, Test); 6] = [
     ("limits", limits),
     ("short buffers", short_buffers),
     ("long texts and archives", long_texts),
     ("order of refusals", order_of_refusals),
     ("text within the archive", text_within_the_archive),
+    ("depths", depth_tests::depths),
 ];
 
 /// Cases at the limits, and sentences of document 02 (iii), that have a line of their own.
@@ -93,7 +94,11 @@ fn edges() -> Vec<Edge> {
 }
 
 pub fn names() -> Vec<&'static str> {
-    let readings = NAMED.into_iter().chain(TESTS.map(|(name, _)| name)).chain(["faults", "faults of names with dots"]);
+    let readings = NAMED.into_iter().chain(TESTS.map(|(name, _)| name)).chain([
+        "faults",
+        "faults of names with dots",
+        "faults of the depth",
+    ]);
     let start_ups = start_up_tests::names().chain(["faults of start-ups"]);
     let lookups = lookup_tests::names().into_iter().chain(["faults of lookups"]);
     let window = window_tests::names().into_iter().chain(["faults of the window"]);
@@ -112,6 +117,9 @@ pub fn test(name: &str, room: &str) -> Result<String, String> {
     }
     if name == "faults of names with dots" {
         return path_faults::all_seen(room);
+    }
+    if name == "faults of the depth" {
+        return depth_tests::faults_seen();
     }
     if name == "faults of start-ups" {
         return start_up_faults::all_seen(room);
@@ -288,7 +296,7 @@ fn text_within_the_archive(calls: Calls) -> Result<String, String> {
         let mut ports = (vec![7; CONTENTS_WORDS], vec![7; BODIES_BYTES]);
         let mut models = ports.clone();
         let word = (calls.read)(text, &archive, &mut ports.0, &mut ports.1);
-        let read = image::read(&mut models.0, &mut models.1, &[text], &archive);
+        let read = image::read(&mut models.0, &mut models.1, &[text], &archive, GREATEST_DEPTH);
         let answer = read.map(|accepted| (accepted.entries, accepted.opens)).map_err(|refusal| refusal.number());
         if word != word_of(answer) || ports != models {
             return Err(format!("\"{}\" within \"{}\"", text.escape_ascii(), archive.escape_ascii()));

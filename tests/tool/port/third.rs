@@ -99,7 +99,7 @@ impl Third {
         }
         self.counts.files += 1;
         let archive = judge(&source.archive).expect("the archive of an accepted reading");
-        let entries = read(&source.texts(), &archive).expect("an accepted reading").entries;
+        let entries = read(&source.texts(), &archive, source.depth).expect("an accepted reading").entries;
         for query in queries {
             let case = case_of(&entries, &archive.files[which].name, query);
             self.judge(case, query)

@@ -15,7 +15,7 @@ unfolding zeroes
 tell-requires c κs =
     let lookup = c .before .before .before .before in
     let s = lookup .before .before .before .before .before .before .before in
-    (looked (map now (s .args .texts .now)) (s .args .archive .now) (s .args .name .now) (s .args .class .now) (zeroes contentsWords) (zeroes bodyBytes) _ _ _ (lookup .look-up .ensures) .1, omega (arith, lookup .look-up .kept .1 .1 .1 .1 .1 .0), s .pre)
+    (looked (s .args .depth) (map now (s .args .texts .now)) (s .args .archive .now) (s .args .name .now) (s .args .class .now) (zeroes contentsWords) (zeroes bodyBytes) _ _ _ (lookup .look-up .ensures) .1, omega (arith, lookup .look-up .kept .1 .1 .1 .1 .1 .1 .0), s .pre)
 
 returns : tie.Need-returns
 unfolding zeroes
@@ -23,7 +23,7 @@ returns c =
     let t2 = c .before .before in
     let lookup = t2 .before .before .before .before .before in
     let s = lookup .before .before .before .before .before .before .before in
-    answer-told (map now (s .args .texts .now)) (s .args .archive .now) (s .args .name .now) (s .args .class .now) (lookup .look-up .ensures) (t2 .tell .ensures)
+    answer-told (s .args .depth) (map now (s .args .texts .now)) (s .args .archive .now) (s .args .name .now) (s .args .class .now) (lookup .look-up .ensures) (t2 .tell .ensures)
 
 pub answer-spec : {M : Type 1} → statement M
 answer-spec =

@@ -8,13 +8,13 @@ returns : tie.Need-returns
 returns c =
     let answer = c .before in
     let read = answer .before .before .before .before .before .before in
-    refused-looks _ _ _ _ _ _ _ _ _ (rw (answer .answer .given .1) at (read .read-texts .ensures))
+    refused-looks _ _ _ _ _ _ _ _ _ _ (rw (answer .answer .given .1) at (read .read-texts .ensures))
 
 returns-2 : tie.Need-returns-2
 returns-2 c =
     let enumtold = c .before .before .before in
     let read = enumtold .before .before .before .before .before .before in
-    accepted-looks _ _ _ _ _ _ _ _ _ _ _ (rw (enumtold .enum-told .given .1) at (read .read-texts .ensures)) (c .get-bytes .ensures)
+    accepted-looks _ _ _ _ _ _ _ _ _ _ _ _ (rw (enumtold .enum-told .given .1) at (read .read-texts .ensures)) (c .get-bytes .ensures)
 
 pub look-up-spec : {M : Type 1} → statement M
 look-up-spec =

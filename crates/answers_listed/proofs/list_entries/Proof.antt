@@ -16,7 +16,7 @@ list-image-requires c κs =
     let x = c .before .before .before in
     let w = x .before .before .before .before in
     let s = start-of w in
-    let i = read-image (map now (s .args .texts .now)) (s .args .archive .now) (s .args .name .now) (s .args .class .now) _ _ (rw (x .enum-told .given .1) at (w .read-texts .ensures)) in
+    let i = read-image (s .args .depth) (map now (s .args .texts .now)) (s .args .archive .now) (s .args .name .now) (s .args .class .now) _ _ (rw (x .enum-told .given .1) at (w .read-texts .ensures)) in
     (i .0, i .1, s .pre)
 
 returns : tie.Need-returns
@@ -26,7 +26,7 @@ returns c =
     let x = t .before .before .before .before in
     let w = x .before .before .before .before in
     let s = start-of w in
-    list-told (map now (s .args .texts .now)) (s .args .archive .now) (s .args .name .now) (s .args .class .now) _ _ (rw (x .enum-told .given .1) at (w .read-texts .ensures)) (t .list-image .ensures)
+    list-told (s .args .depth) (map now (s .args .texts .now)) (s .args .archive .now) (s .args .name .now) (s .args .class .now) _ _ (rw (x .enum-told .given .1) at (w .read-texts .ensures)) (t .list-image .ensures)
 
 returns-2 : tie.Need-returns-2
 unfolding zeroes
@@ -35,7 +35,7 @@ returns-2 c =
     let x = t .before .before .before in
     let w = x .before .before .before .before in
     let s = start-of w in
-    refused-told (map now (s .args .texts .now)) (s .args .archive .now) (s .args .name .now) (s .args .class .now) _ (rw (x .answer .given .1) at (w .read-texts .ensures)) (t .refuse .ensures)
+    refused-told (s .args .depth) (map now (s .args .texts .now)) (s .args .archive .now) (s .args .name .now) (s .args .class .now) _ (rw (x .answer .given .1) at (w .read-texts .ensures)) (t .refuse .ensures)
 
 pub list-entries-spec : {M : Type 1} → statement M
 list-entries-spec =

@@ -17,7 +17,7 @@ tell-both-requires c κs =
     let w = x .before .before .before .before .before .before .before in
     let i = both-inside _ _ _ _ _ _ _ (x .compared .given .0 .0) (x .compared .given .0 .1 .0) (x .compared .given .0 .1 .1 .0) (rw (x .compared .given .1) at (w .compare-without .ensures .equals)) in
     let kept = w .compare-without .kept in
-    (start-of w .pre .0, i .0, omega (arith, kept .1 .1 .1 .1 .1 .1 .1 .0), i .1, omega (arith, kept .1 .1 .1 .1 .1 .1 .1 .1 .1 .0), start-of w .pre .1)
+    (start-of w .pre .0, i .0, omega (arith, kept .1 .1 .1 .1 .1 .1 .1 .1 .0), i .1, omega (arith, kept .1 .1 .1 .1 .1 .1 .1 .1 .1 .1 .0), start-of w .pre .1)
 
 no-file-requires : tie.Need-no-file-requires
 no-file-requires c κs = start-of (c .before .before .before .before .before .before .before .before) .pre
@@ -32,7 +32,7 @@ returns c =
     let x = t .before .before .before .before .before in
     let w = x .before .before .before .before .before .before .before in
     let s = start-of w in
-    both-told (map now (s .args .texts .now)) (s .args .archive .now) (s .args .number) (s .args .file .now) (s .args .name .now) (s .args .class .now) (x .compared .given .0 .0) (x .compared .given .0 .1 .0) (x .compared .given .0 .1 .1 .0) (rw (x .compared .given .1) at (w .compare-without .ensures .equals)) (t .tell-both .ensures)
+    both-told (s .args .depth) (map now (s .args .texts .now)) (s .args .archive .now) (s .args .number) (s .args .file .now) (s .args .name .now) (s .args .class .now) (x .compared .given .0 .0) (x .compared .given .0 .1 .0) (x .compared .given .0 .1 .1 .0) (rw (x .compared .given .1) at (w .compare-without .ensures .equals)) (t .tell-both .ensures)
 
 returns-2 : tie.Need-returns-2
 unfolding zeroes
@@ -41,7 +41,7 @@ returns-2 c =
     let x = t .before .before in
     let w = x .before .before .before .before .before .before .before in
     let s = start-of w in
-    none-told (map now (s .args .texts .now)) (s .args .archive .now) (s .args .number) (s .args .file .now) (s .args .name .now) (s .args .class .now) (rw (x .enum-told .given .1) at (w .compare-without .ensures .equals)) (t .no-file .ensures)
+    none-told (s .args .depth) (map now (s .args .texts .now)) (s .args .archive .now) (s .args .number) (s .args .file .now) (s .args .name .now) (s .args .class .now) (rw (x .enum-told .given .1) at (w .compare-without .ensures .equals)) (t .no-file .ensures)
 
 returns-3 : tie.Need-returns-3
 unfolding zeroes
@@ -50,7 +50,7 @@ returns-3 c =
     let x = r2 .before .before .before in
     let w = x .before .before .before .before .before .before .before in
     let s = start-of w in
-    refused-told (map now (s .args .texts .now)) (s .args .archive .now) (s .args .number) (s .args .file .now) (s .args .name .now) (s .args .class .now) _ (rw (x .compared2 .given .1) at (w .compare-without .ensures .equals)) (r2 .refuse .ensures)
+    refused-told (s .args .depth) (map now (s .args .texts .now)) (s .args .archive .now) (s .args .number) (s .args .file .now) (s .args .name .now) (s .args .class .now) _ (rw (x .compared2 .given .1) at (w .compare-without .ensures .equals)) (r2 .refuse .ensures)
 
 pub compare-file-spec : {M : Type 1} → statement M
 compare-file-spec =

@@ -20,7 +20,7 @@ begun c = c .before .before .before .before .before .before .before .before
 abbrev case : tie.After-slice-known5 → Case
 case c =
     let a = begun c .args in
-    asked (map now (a .texts .now)) (a .archive .now) (a .file) (a .name .now) (a .class .now) (a .contents .now) (a .bodies .now) (a .contents-without .now) (a .bodies-without .now)
+    asked (a .depth) (map now (a .texts .now)) (a .archive .now) (a .file) (a .name .now) (a .class .now) (a .contents .now) (a .bodies .now) (a .contents-without .now) (a .bodies-without .now)
 
 -- the tests of room are behind
 abbrev tested : tie.After-read-texts → tie.After-slice-known5
@@ -33,11 +33,11 @@ room c = let e = c .before .before .before in record { archive = e .before .befo
 abbrev was-read : tie.After-enum-told → tie.After-read-texts
 was-read c = c .before .before .before .before .before .before
 
-read-with : (c : tie.After-enum-told) → (let r = was-read c .read-texts in outcome (accepted (c .enum-told .given .0 .0) (c .enum-told .given .0 .1 .0)) (r .last .1 .1 .0) (r .last .1 .1 .1 .0) ≡ withFile (case (tested (was-read c))))
+read-with : (c : tie.After-enum-told) → (let r = was-read c .read-texts in outcome (accepted (c .enum-told .given .0 .0) (c .enum-told .given .0 .1 .0)) (r .last .1 .1 .1 .0) (r .last .1 .1 .1 .1 .0) ≡ withFile (case (tested (was-read c))))
 read-with c = read-is (was-read c .read-texts .result) _ _ _ _ (was-read c .read-texts .ensures) (c .enum-told .given .1)
 
 laid : (c : tie.After-enum-told) → laidOut (case (tested (was-read c)) .archive) ≡ true
-laid c = read-laidOut _ _ _ _ _ _ _ _ (read-with c)
+laid c = read-laidOut _ _ _ _ _ _ _ _ _ (read-with c)
 
 returns : tie.Need-returns
 returns c = promised _ _ _ (short-struck _ _ (c .if1 .taken))

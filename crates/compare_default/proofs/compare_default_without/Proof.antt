@@ -10,7 +10,7 @@ returns c =
     let second-here = compared-here .before .before .before .before .before .before .before in
     let first-here = second-here .before in
     let a = first-here .before .before .before .before .before .before .before .before .before .before .before .before .before .before .args in
-    started (a .archive .now) (a .file) (a .name .now) (a .class .now) (a .contents .now) (a .bodies .now) (a .contents-without .now) (a .bodies-without .now) (a .struck .now)
+    started (a .depth) (a .archive .now) (a .file) (a .name .now) (a .class .now) (a .contents .now) (a .bodies .now) (a .contents-without .now) (a .bodies-without .now) (a .struck .now)
     _ _ _ (first-here .first-text .ensures .0) (second-here .second-text .ensures .0) _ (compared-here .compare-without .ensures)
 
 pub compare-default-without-spec : {M : Type 1} → statement M

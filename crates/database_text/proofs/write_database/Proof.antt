@@ -16,7 +16,7 @@ write-image-requires c κs =
     let x = c .before .before .before in
     let w = x .before .before .before .before in
     let s = start-of w in
-    (read-image (map now (s .args .texts .now)) (s .args .archive .now) _ _ (rw (x .enum-told .given .1) at (w .read-texts .ensures)), s .pre)
+    (read-image (s .args .depth) (map now (s .args .texts .now)) (s .args .archive .now) _ _ (rw (x .enum-told .given .1) at (w .read-texts .ensures)), s .pre)
 
 returns : tie.Need-returns
 unfolding zeroes
@@ -25,7 +25,7 @@ returns c =
     let x = t .before .before .before .before in
     let w = x .before .before .before .before in
     let s = start-of w in
-    text-told (map now (s .args .texts .now)) (s .args .archive .now) _ _ (rw (x .enum-told .given .1) at (w .read-texts .ensures)) (t .write-image .ensures)
+    text-told (s .args .depth) (map now (s .args .texts .now)) (s .args .archive .now) _ _ (rw (x .enum-told .given .1) at (w .read-texts .ensures)) (t .write-image .ensures)
 
 returns-2 : tie.Need-returns-2
 unfolding zeroes
@@ -34,7 +34,7 @@ returns-2 c =
     let x = t .before .before .before in
     let w = x .before .before .before .before in
     let s = start-of w in
-    refused-told (map now (s .args .texts .now)) (s .args .archive .now) _ (rw (x .answer .given .1) at (w .read-texts .ensures)) (t .refuse .ensures)
+    refused-told (s .args .depth) (map now (s .args .texts .now)) (s .args .archive .now) _ (rw (x .answer .given .1) at (w .read-texts .ensures)) (t .refuse .ensures)
 
 pub write-database-spec : {M : Type 1} → statement M
 write-database-spec =

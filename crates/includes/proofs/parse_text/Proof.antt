@@ -5,7 +5,6 @@ use native.Mathlib.Omega.{arith}
 use lib.ListN.{length, take, drop}
 use Prim.Native.Nat.{_-_}
 use borrow.Author.Needs.{needs}
-use Rattle.definition.specs.Limits.{deepest}
 use Rattle.definition.specs.Archive.{filesOf}
 use Rattle.laws.proofs.Lists.{length-part-rest}
 use Rattle.image.specs.Running.{world}
@@ -19,7 +18,7 @@ here : (c : tie.After-slice-known4) → (
     let a = c .before .before .before .before .before .before .before .before .before .before .before .args in
     let call = c .before .before .before .before .plain-lines in
     let n = call .result .taken in
-    Reading 0 deepest (filesOf (a .archive .now)) [] (a .text .now) (world (a .totals) (a .words .now) (a .store .now))
+    Reading 0 (a .depth) (filesOf (a .archive .now)) [] (a .text .now) (world (a .totals) (a .words .now) (a .store .now))
     (ahead (a .totals) (call .result)) (call .last .1 .1 .1 .0) (call .last .1 .1 .1 .1 .0) (take (length (a .text .now) - n) (drop n (a .text .now)))
     )
 here c =

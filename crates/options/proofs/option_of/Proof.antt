@@ -34,6 +34,9 @@ up₇ c = c .before .before .before
 abbrev up₈ : tie.Else9 → tie.Else8
 up₈ c = c .before .before .before
 
+abbrev up₉ : tie.Else10 → tie.Else9
+up₉ c = c .before .before .before
+
 abbrev given : tie.Else1 → List ℕ
 given c = c .before .before .before .before .args .argument .now
 
@@ -64,6 +67,9 @@ not-list c = sym (c .before .is-word8 .ensures) ∙ c .if8 .left
 
 not-shared : (c : tie.Else9) → same (given (up₁ (up₂ (up₃ (up₄ (up₅ (up₆ (up₇ (up₈ c))))))))) (ascii "--shared") ≡ false
 not-shared c = sym (c .before .is-word9 .ensures) ∙ c .if9 .left
+
+not-depth : (c : tie.Else10) → same (given (up₁ (up₂ (up₃ (up₄ (up₅ (up₆ (up₇ (up₈ (up₉ c)))))))))) (ascii "--depth") ≡ false
+not-depth c = sym (c .before .is-word10 .ensures) ∙ c .if10 .left
 
 returns : tie.Need-returns
 unfolding optionOf
@@ -131,16 +137,28 @@ returns-9 c =
 returns-10 : tie.Need-returns-10
 unfolding optionOf
 returns-10 c =
-    let s : tie.Else9 = c .before in
+    let s : tie.Else9 = c .before .before .before in
     let l : tie.Else8 = up₈ s in
     let w : tie.Else7 = up₇ l in
     let e : tie.Else6 = up₆ w in
     rw
-    (not-file (up₁ (up₂ (up₃ (up₄ (up₅ e))))), not-without (up₂ (up₃ (up₄ (up₅ e)))), not-status (up₃ (up₄ (up₅ e))), not-help (up₄ (up₅ e)), not-rest (up₅ e), not-missing e, not-write w, not-list l, not-shared s)
+    (not-file (up₁ (up₂ (up₃ (up₄ (up₅ e))))), not-without (up₂ (up₃ (up₄ (up₅ e)))), not-status (up₃ (up₄ (up₅ e))), not-help (up₄ (up₅ e)), not-rest (up₅ e), not-missing e, not-write w, not-list l, not-shared s, ← c .before .is-word10 .ensures, c .if10 .taken)
+    refl
+
+returns-11 : tie.Need-returns-11
+unfolding optionOf
+returns-11 c =
+    let d : tie.Else10 = c .before in
+    let s : tie.Else9 = up₉ d in
+    let l : tie.Else8 = up₈ s in
+    let w : tie.Else7 = up₇ l in
+    let e : tie.Else6 = up₆ w in
+    rw
+    (not-file (up₁ (up₂ (up₃ (up₄ (up₅ e))))), not-without (up₂ (up₃ (up₄ (up₅ e)))), not-status (up₃ (up₄ (up₅ e))), not-help (up₄ (up₅ e)), not-rest (up₅ e), not-missing e, not-write w, not-list l, not-shared s, not-depth d)
     (c .chain-option .ensures)
 
 pub option-of-spec : {M : Type 1} → statement M
 option-of-spec =
     tie.close
     (tie.spec
-    (λ c. search needs) (λ c κs. search needs) returns (λ c. search needs) (λ c κs. search needs) returns-2 (λ c. search needs) (λ c κs. search needs) returns-3 (λ c. search needs) (λ c κs. search needs) returns-4 (λ c. search needs) (λ c κs. search needs) returns-5 (λ c. search needs) (λ c κs. search needs) returns-6 (λ c. search needs) (λ c κs. search needs) returns-7 (λ c. search needs) (λ c κs. search needs) returns-8 (λ c. search needs) (λ c κs. search needs) returns-9 (λ c κs. search needs) returns-10)
+    (λ c. search needs) (λ c κs. search needs) returns (λ c. search needs) (λ c κs. search needs) returns-2 (λ c. search needs) (λ c κs. search needs) returns-3 (λ c. search needs) (λ c κs. search needs) returns-4 (λ c. search needs) (λ c κs. search needs) returns-5 (λ c. search needs) (λ c κs. search needs) returns-6 (λ c. search needs) (λ c κs. search needs) returns-7 (λ c. search needs) (λ c κs. search needs) returns-8 (λ c. search needs) (λ c κs. search needs) returns-9 (λ c. search needs) (λ c κs. search needs) returns-10 (λ c κs. search needs) returns-11)

@@ -35,7 +35,7 @@ returns : tie.Need-returns
 returns c =
     let read-here = c .before .before .before .before in
     let strike-off-here = read-here .before .before .before .before .before .before in
-    second-read (read-here .read-texts .result) _ _ _ _ _ _ _ _ _ _ (fits (begun strike-off-here)) (strike-off-here .strike-off .ensures .0) (strike-off-here .strike-off .ensures .1) (read-here .read-texts .ensures)
+    second-read (read-here .read-texts .result) _ _ _ _ _ _ _ _ _ _ _ (fits (begun strike-off-here)) (strike-off-here .strike-off .ensures .0) (strike-off-here .strike-off .ensures .1) (read-here .read-texts .ensures)
 
 pub read-without-spec : {M : Type 1} → statement M
 read-without-spec =

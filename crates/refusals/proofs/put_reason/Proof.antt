@@ -63,14 +63,18 @@ returns-14 c = rw (c .before .before .before .before .before .match .keys14) (c 
 
 returns-15 : tie.Need-returns-15
 unfolding refusalOf
-returns-15 c =
-    let put15 = c .before .before in
-    let m5 = put15 .before .before .before in
+returns-15 c = rw (c .before .before .before .before .before .match .keys15) (c .before .before .put15 .ensures)
+
+returns-16 : tie.Need-returns-16
+unfolding refusalOf
+returns-16 c =
+    let put16 = c .before .before in
+    let m5 = put16 .before .before .before in
     let s = m5 .before .before in
-    rw (ne-eqb (s .args .number) 1 (m5 .match .rest .0 .0 .0 .0 .0 .0 .0 .0 .0 .0 .0 .0 .0 .1), ne-eqb (s .args .number) 2 (m5 .match .rest .0 .0 .0 .0 .0 .0 .0 .0 .0 .0 .0 .0 .1), ne-eqb (s .args .number) 3 (m5 .match .rest .0 .0 .0 .0 .0 .0 .0 .0 .0 .0 .0 .1), ne-eqb (s .args .number) 4 (m5 .match .rest .0 .0 .0 .0 .0 .0 .0 .0 .0 .0 .1), ne-eqb (s .args .number) 5 (m5 .match .rest .0 .0 .0 .0 .0 .0 .0 .0 .0 .1), ne-eqb (s .args .number) 6 (m5 .match .rest .0 .0 .0 .0 .0 .0 .0 .0 .1), ne-eqb (s .args .number) 7 (m5 .match .rest .0 .0 .0 .0 .0 .0 .0 .1), ne-eqb (s .args .number) 8 (m5 .match .rest .0 .0 .0 .0 .0 .0 .1), ne-eqb (s .args .number) 9 (m5 .match .rest .0 .0 .0 .0 .0 .1), ne-eqb (s .args .number) 10 (m5 .match .rest .0 .0 .0 .0 .1), ne-eqb (s .args .number) 11 (m5 .match .rest .0 .0 .0 .1), ne-eqb (s .args .number) 12 (m5 .match .rest .0 .0 .1), ne-eqb (s .args .number) 13 (m5 .match .rest .0 .1), ne-eqb (s .args .number) 14 (m5 .match .rest .1)) (put15 .put15 .ensures)
+    rw (ne-eqb (s .args .number) 1 (m5 .match .rest .0 .0 .0 .0 .0 .0 .0 .0 .0 .0 .0 .0 .0 .0 .1), ne-eqb (s .args .number) 2 (m5 .match .rest .0 .0 .0 .0 .0 .0 .0 .0 .0 .0 .0 .0 .0 .1), ne-eqb (s .args .number) 3 (m5 .match .rest .0 .0 .0 .0 .0 .0 .0 .0 .0 .0 .0 .0 .1), ne-eqb (s .args .number) 4 (m5 .match .rest .0 .0 .0 .0 .0 .0 .0 .0 .0 .0 .0 .1), ne-eqb (s .args .number) 5 (m5 .match .rest .0 .0 .0 .0 .0 .0 .0 .0 .0 .0 .1), ne-eqb (s .args .number) 6 (m5 .match .rest .0 .0 .0 .0 .0 .0 .0 .0 .0 .1), ne-eqb (s .args .number) 7 (m5 .match .rest .0 .0 .0 .0 .0 .0 .0 .0 .1), ne-eqb (s .args .number) 8 (m5 .match .rest .0 .0 .0 .0 .0 .0 .0 .1), ne-eqb (s .args .number) 9 (m5 .match .rest .0 .0 .0 .0 .0 .0 .1), ne-eqb (s .args .number) 10 (m5 .match .rest .0 .0 .0 .0 .0 .1), ne-eqb (s .args .number) 11 (m5 .match .rest .0 .0 .0 .0 .1), ne-eqb (s .args .number) 12 (m5 .match .rest .0 .0 .0 .1), ne-eqb (s .args .number) 13 (m5 .match .rest .0 .0 .1), ne-eqb (s .args .number) 14 (m5 .match .rest .0 .1), ne-eqb (s .args .number) 15 (m5 .match .rest .1)) (put16 .put16 .ensures)
 
 pub put-reason-spec : {M : Type 1} → statement M
 put-reason-spec =
     tie.close
     (tie.spec
-    (λ c. search needs) (λ c κs. search needs) (λ c. search needs) (λ c κs. search needs) (λ c. search needs) (λ c κs. search needs) (λ c. search needs) (λ c κs. search needs) (λ c. search needs) (λ c κs. search needs) (λ c. search needs) (λ c κs. search needs) (λ c. search needs) (λ c κs. search needs) (λ c. search needs) (λ c κs. search needs) (λ c. search needs) (λ c κs. search needs) (λ c. search needs) (λ c κs. search needs) (λ c. search needs) (λ c κs. search needs) (λ c. search needs) (λ c κs. search needs) (λ c. search needs) (λ c κs. search needs) (λ c. search needs) (λ c κs. search needs) (λ c. search needs) (λ c κs. search needs) (λ c. search needs) returns (λ c. search needs) returns-2 (λ c. search needs) returns-3 (λ c. search needs) returns-4 (λ c. search needs) returns-5 (λ c. search needs) returns-6 (λ c. search needs) returns-7 (λ c. search needs) returns-8 (λ c. search needs) returns-9 (λ c. search needs) returns-10 (λ c. search needs) returns-11 (λ c. search needs) returns-12 (λ c. search needs) returns-13 (λ c. search needs) returns-14 (λ c. search needs) returns-15)
+    (λ c. search needs) (λ c κs. search needs) (λ c. search needs) (λ c κs. search needs) (λ c. search needs) (λ c κs. search needs) (λ c. search needs) (λ c κs. search needs) (λ c. search needs) (λ c κs. search needs) (λ c. search needs) (λ c κs. search needs) (λ c. search needs) (λ c κs. search needs) (λ c. search needs) (λ c κs. search needs) (λ c. search needs) (λ c κs. search needs) (λ c. search needs) (λ c κs. search needs) (λ c. search needs) (λ c κs. search needs) (λ c. search needs) (λ c κs. search needs) (λ c. search needs) (λ c κs. search needs) (λ c. search needs) (λ c κs. search needs) (λ c. search needs) (λ c κs. search needs) (λ c. search needs) (λ c κs. search needs) (λ c. search needs) returns (λ c. search needs) returns-2 (λ c. search needs) returns-3 (λ c. search needs) returns-4 (λ c. search needs) returns-5 (λ c. search needs) returns-6 (λ c. search needs) returns-7 (λ c. search needs) returns-8 (λ c. search needs) returns-9 (λ c. search needs) returns-10 (λ c. search needs) returns-11 (λ c. search needs) returns-12 (λ c. search needs) returns-13 (λ c. search needs) returns-14 (λ c. search needs) returns-15 (λ c. search needs) returns-16)

@@ -5,7 +5,7 @@ use Rattle.resource_manager.proofs.resource_manager_read.Statement.{sta
 use Rattle.resource_manager.proofs.resource_manager_read.Tie as tie
 
 read-code-requires : tie.Need-read-code-requires
-read-code-requires c κs = let read-here = c .before .before .before .before in read-few _ _ _ _ _ _ (read-here .read .result) (read-here .read .ensures)
+read-code-requires c κs = let read-here = c .before .before .before .before in read-few _ _ _ _ _ _ _ (read-here .read .result) (read-here .read .ensures)
 
 returns : tie.Need-returns
 returns c =

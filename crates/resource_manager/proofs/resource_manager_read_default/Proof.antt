@@ -5,7 +5,7 @@ use Rattle.resource_manager.proofs.resource_manager_read_default.Statem
 use Rattle.resource_manager.proofs.resource_manager_read_default.Tie as tie
 
 read-code-requires : tie.Need-read-code-requires
-read-code-requires c κs = let read-here = c .before .before .before .before in read-few _ _ _ _ _ _ (read-here .read-default .result) (read-here .read-default .ensures)
+read-code-requires c κs = let read-here = c .before .before .before .before in read-few _ _ _ _ _ _ _ (read-here .read-default .result) (read-here .read-default .ensures)
 
 returns : tie.Need-returns
 returns c =

@@ -16,7 +16,7 @@ returns c =
     (a .xenvironment-set) (lending (a .xenvironment-read) (a .xenvironment .now)) (lending (a .host-read) (a .host .now))
     in
     c .before .before .before .before .read-texts .ensures
-    ∙ reads-start s _ _ (second-here .before .first-text .ensures .0) (second-here .second-text .ensures .0) (a .archive .now) (a .contents .now) (a .bodies .now)
+    ∙ reads-start s (a .depth) _ _ (second-here .before .first-text .ensures .0) (second-here .second-text .ensures .0) (a .archive .now) (a .contents .now) (a .bodies .now)
 
 pub read-default-spec : {M : Type 1} → statement M
 read-default-spec = tie.close (tie.spec (λ c κs. search needs) (λ c κs. search needs) (λ c. search needs) (λ c κs. search needs) (λ c. search needs) (λ c. search needs) returns)

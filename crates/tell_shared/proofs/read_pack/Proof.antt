@@ -13,7 +13,7 @@ slice-aggregate-read : tie.Need-slice-aggregate-read
 slice-aggregate-read c = sym (length-take-le _ _ (omega (arith, c .before .before .before .before .before .before .before .before .before .before .before .before .before .before .before .before .pre, c .before .before .before .before .before .before .before .before .before .put .ensures .ends, piece-long (c .before .before .before .before .before .before .before .before .before .put .ensures), c .before .before .before .before .before .before .put2 .ensures .ends, piece-long (c .before .before .before .before .before .before .put2 .ensures), c .before .before .put3 .ensures .ends, piece-long (c .before .before .put3 .ensures))))
 
 returns : tie.Need-returns
-returns c = λ t. read-holds _ _ _ _ _ _ _ _ (rw (c .enum-told .given .1) at (c .before .before .before .before .before .before .read .ensures)) .0
+returns c = λ t. read-holds _ _ _ _ _ _ _ _ _ (rw (c .enum-told .given .1) at (c .before .before .before .before .before .before .read .ensures)) .0
 
 returns-2 : tie.Need-returns-2
 returns-2 c = λ t. absurd (not-both t refl)

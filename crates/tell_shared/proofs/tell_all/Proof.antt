@@ -7,10 +7,10 @@ use Rattle.tell_shared.proofs.tell_all.Statement.{statement}
 use Rattle.tell_shared.proofs.tell_all.Tie as tie
 
 abbrev Inv-loop : tie.InvT-loop
-Inv-loop archive reached i₀ i = Unit {0}
+Inv-loop archive depth reached i₀ i = Unit {0}
 
 abbrev μ-loop : tie.MeasureT-loop
-μ-loop archive reached i₀ i = archiveFiles - i
+μ-loop archive depth reached i₀ i = archiveFiles - i
 
 pub tell-all-spec : {M : Type 1} → statement M
 tell-all-spec =

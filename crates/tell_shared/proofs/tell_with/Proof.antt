@@ -9,10 +9,10 @@ use Rattle.tell_shared.proofs.tell_with.Statement.{statement}
 use Rattle.tell_shared.proofs.tell_with.Tie as tie
 
 abbrev Inv-loop : tie.InvT-loop
-Inv-loop archive reached first one i₀ i = Unit {0}
+Inv-loop archive depth reached first one i₀ i = Unit {0}
 
 abbrev μ-loop : tie.MeasureT-loop
-μ-loop archive reached first one i₀ i = archiveFiles - i
+μ-loop archive depth reached first one i₀ i = archiveFiles - i
 
 tell-files-requires : tie.Need-tell-files-requires Inv-loop μ-loop
 tell-files-requires c κs =

@@ -9,10 +9,10 @@ use Rattle.texts.proofs.parse_texts.Statement.{statement}
 use Rattle.texts.proofs.parse_texts.Tie as tie
 
 abbrev Inv-loop : tie.InvT-loop
-Inv-loop texts archive words₀ store₀ classes s₀ i₀ words store s i = Reading now archive texts words₀ store₀ s words store i
+Inv-loop texts archive depth words₀ store₀ classes s₀ i₀ words store s i = Reading now depth archive texts words₀ store₀ s words store i
 
 abbrev μ-loop : tie.MeasureT-loop
-μ-loop texts archive words₀ store₀ classes s₀ i₀ words store s i = length texts - i
+μ-loop texts archive depth words₀ store₀ classes s₀ i₀ words store s i = length texts - i
 
 loop-holds : tie.Need-loop-holds Inv-loop μ-loop
 loop-holds c =
@@ -25,15 +25,15 @@ parse-text-requires c κs = (c .before .before .before .before .before .loop .in
 loop-again : tie.Need-loop-again Inv-loop μ-loop
 loop-again c =
     let call-here = c .before .before .before .before .before .before .before in
-    let kept = call-here .parse-text .kept .1 .1 .1 .1 in
+    let kept = call-here .parse-text .kept .1 .1 .1 .1 .1 in
     reading-text now (call-here .before .before .before .before .before .before .loop .inv) _ (call-here .before .before .before .before .before .loop-test .taken) _ _ _
     (rw (c .before .step .given .1) at (call-here .parse-text .ensures)) (kept .0) (kept .1 .0)
 
 same-length : tie.Need-same-length Inv-loop μ-loop
-same-length c = c .before .before .before .before .before .before .before .parse-text .kept .1 .1 .1 .1 .0 ∙ c .before .before .before .before .before .before .before .before .before .before .before .before .before .loop .inv .words-same
+same-length c = c .before .before .before .before .before .before .before .parse-text .kept .1 .1 .1 .1 .1 .0 ∙ c .before .before .before .before .before .before .before .before .before .before .before .before .before .loop .inv .words-same
 
 same-length-2 : tie.Need-same-length-2 Inv-loop μ-loop
-same-length-2 c = c .before .before .before .before .before .before .before .parse-text .kept .1 .1 .1 .1 .1 .0 ∙ c .before .before .before .before .before .before .before .before .before .before .before .before .before .loop .inv .bytes-same
+same-length-2 c = c .before .before .before .before .before .before .before .parse-text .kept .1 .1 .1 .1 .1 .1 .0 ∙ c .before .before .before .before .before .before .before .before .before .before .before .before .before .loop .inv .bytes-same
 
 returns : tie.Need-returns Inv-loop μ-loop
 returns c =
