@@ -479,7 +479,8 @@ uint64_t resource_manager_compare_without(const uint8_t *text, size_t text_count
                                           size_t contents_without_count, uint8_t *bodies_without,
                                           size_t bodies_without_count, uint64_t *with_it, uint64_t *without);
 
-/* The same at a depth of the caller's, which is that of both readings, with 15 as the first reading is refused by it. */
+/* The same at a depth of the caller's, which is that of both readings: 15 as resource_manager_read_depth gives it, before
+ * the file is looked for; nothing lent changes then. */
 uint64_t resource_manager_compare_without_depth(
     const uint8_t *text, size_t text_count, const uint8_t *shelf, size_t shelf_count, uint64_t depth, size_t file,
     const uint8_t *name, size_t name_count, const uint8_t *class_name, size_t class_count, uint8_t *struck,

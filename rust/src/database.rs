@@ -438,7 +438,7 @@ impl Database {
     }
 
     /// What one file of an archive changes: the value of a query as it is read with the file, and as it is read with the
-    /// file struck off. None if the archive has no such file.
+    /// file struck off, both at depth [`DEFAULT_DEPTH`](crate::limits::DEFAULT_DEPTH). None if the archive has no such file.
     ///
     /// ```
     /// # use resource_manager::{Archive, Comparison, Database};

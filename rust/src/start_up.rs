@@ -151,7 +151,8 @@ fn text_of(path: impl AsRef<Path>) -> Option<Vec<u8>> {
 /// Most programs start so: from the property `RESOURCE_MANAGER` or a file in HOME, and then from a file that XENVIRONMENT
 /// names or that belongs to the host.
 impl Database {
-    /// Reads the texts of the default places: [`StartUp::from_environment`] finds them. An include finds nothing.
+    /// Reads the texts of the default places: [`StartUp::from_environment`] finds them. An include finds nothing. What it has
+    /// found is read at another depth than x11rb's by [`new_from_start_up_at_depth`](Self::new_from_start_up_at_depth).
     ///
     /// ```
     /// # std::env::set_var("HOME", "/no/such/directory");

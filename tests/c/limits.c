@@ -509,6 +509,32 @@ static void opens(void)
     expect("what it leaves", lent_contents()[0], 0);
 }
 
+/* Fills memory with sevens, and counts the bytes that are none any more. */
+static void fill(void *start, size_t bytes)
+{
+    memset(start, 7, bytes);
+}
+
+static size_t changed(const void *start, size_t bytes)
+{
+    const uint8_t *at = start;
+    size_t n, count = 0;
+    for (n = 0; n < bytes; n++) {
+        count += at[n] != 7;
+    }
+    return count;
+}
+
+/* A depth over the greatest, whatever its low bits, changes no word and no byte. */
+static void too_deep(uint64_t depth)
+{
+    fill(lent_contents(), 2 * contents_count);
+    fill(lent_bodies(), bodies_count);
+    expect("a depth over the greatest", read_depth(depth), RESOURCE_MANAGER_TOO_DEEP);
+    expect("its contents", changed(lent_contents(), 2 * contents_count), 0);
+    expect("its bodies", changed(lent_bodies(), bodies_count), 0);
+}
+
 static void depth(void)
 {
     struct file file = {"p", "#include \"p\"\na:1"};
@@ -516,20 +542,26 @@ static void depth(void)
     set_shelf(&file, 1);
     expect("the deepest include", read_depth(RESOURCE_MANAGER_GREATEST_DEPTH),
            accepted(RESOURCE_MANAGER_GREATEST_DEPTH, RESOURCE_MANAGER_GREATEST_DEPTH));
-    expect("at depth 3", read_depth(3), accepted(3, 3));
+    expect("one less", read_depth(RESOURCE_MANAGER_GREATEST_DEPTH - 1),
+           accepted(RESOURCE_MANAGER_GREATEST_DEPTH - 1, RESOURCE_MANAGER_GREATEST_DEPTH - 1));
+    expect("at depth 1", read_depth(1), accepted(1, 1));
     expect("at depth 0 nothing is opened", read_depth(0), accepted(0, 0));
     expect("where none is given", read_it(), accepted(no_depth(), no_depth()));
-    memset(lent_contents(), 7, 2 * contents_count);
-    memset(lent_bodies(), 7, bodies_count);
-    expect("a depth more", read_depth(RESOURCE_MANAGER_GREATEST_DEPTH + 1), RESOURCE_MANAGER_TOO_DEEP);
-    expect("the greatest number", read_depth(UINT64_MAX), RESOURCE_MANAGER_TOO_DEEP);
-    expect("its contents are as they were", lent_contents()[0] == 0x0707 && lent_contents()[contents_count - 1] == 0x0707, 1);
-    expect("and its bodies", lent_bodies()[0] == 7 && lent_bodies()[bodies_count - 1] == 7, 1);
+    expect("a comparison where none is given", compare(0, "a"), RESOURCE_MANAGER_OK);
+    expect("the entries with the file", lent_contents()[0], no_depth());
+    too_deep(RESOURCE_MANAGER_GREATEST_DEPTH + 1);
+    too_deep(((uint64_t)1 << 32) + 5);
+    too_deep(UINT64_MAX);
     set_text("", 0, parts(RESOURCE_MANAGER_ENTRY_PARTS + 1, ":"));
     expect("a depth more before a part more", read_depth(RESOURCE_MANAGER_GREATEST_DEPTH + 1), RESOURCE_MANAGER_TOO_DEEP);
     shelf_count = 0;
     expect("a shelf of no bytes before a depth more", read_depth(RESOURCE_MANAGER_GREATEST_DEPTH + 1),
            RESOURCE_MANAGER_BAD_SHELF);
+    set_text("\n", RESOURCE_MANAGER_TEXT_BYTES + 1, "");
+    expect("a byte more before that", read_depth(RESOURCE_MANAGER_GREATEST_DEPTH + 1), RESOURCE_MANAGER_LONG_TEXT);
+    contents_count--;
+    expect("a word less before that", read_depth(RESOURCE_MANAGER_GREATEST_DEPTH + 1), RESOURCE_MANAGER_SHORT_BUFFERS);
+    contents_count++;
 }
 
 /* The path of an include is on the stack too. */
@@ -769,7 +801,7 @@ static void refused_comparisons(void)
 static void depth_of_comparisons(void)
 {
     const struct file files[] = {{"p", "#include \"q\"\nb:"}, {"q", "a:2"}};
-    size_t last = 1;
+    size_t last = 1, words = RESOURCE_MANAGER_CONTENTS_WORDS, bytes = RESOURCE_MANAGER_BODIES_BYTES;
     set_shelf(files, 2);
     set_text("a:\n", 1, "#include \"p\"");
     expect("depth 1 of two", compare_depth(1, last, "a"), RESOURCE_MANAGER_OK);
@@ -782,9 +814,19 @@ static void depth_of_comparisons(void)
     expect("no value with it", with_it, RESOURCE_MANAGER_NONE);
     expect("nor without it", without, RESOURCE_MANAGER_NONE);
     expect("the greatest depth", compare_depth(RESOURCE_MANAGER_GREATEST_DEPTH, last, "a"), RESOURCE_MANAGER_OK);
+    fill(struck_end - shelf_count, shelf_count);
+    fill(lent_contents(), 2 * contents_count);
+    fill(lent_bodies(), bodies_count);
+    fill(contents_without_end - 2 * words, 2 * words);
+    fill(bodies_without_end - bytes, bytes);
     expect("a depth more", compare_depth(RESOURCE_MANAGER_GREATEST_DEPTH + 1, last, "a"), RESOURCE_MANAGER_TOO_DEEP);
     expect("the first answer", with_it, 77);
     expect("the second answer", without, 77);
+    expect("the room for a shelf", changed(struck_end - shelf_count, shelf_count), 0);
+    expect("the first contents", changed(lent_contents(), 2 * contents_count), 0);
+    expect("the first bodies", changed(lent_bodies(), bodies_count), 0);
+    expect("the second contents", changed(contents_without_end - 2 * words, 2 * words), 0);
+    expect("the second bodies", changed(bodies_without_end - bytes, bytes), 0);
     expect("a depth more before a file too few", compare_depth(UINT64_MAX, 2, "a"), RESOURCE_MANAGER_TOO_DEEP);
     shelf_count = 0;
     expect("a shelf of no bytes before a depth more", compare_depth(UINT64_MAX, last, "a"), RESOURCE_MANAGER_BAD_SHELF);

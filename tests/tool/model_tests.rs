@@ -259,12 +259,15 @@ fn depths() -> Result<String, String> {
     }
     let wide = Source::plain(&[&b"a.".repeat(16)[..], b"a:"].concat());
     let bad = Source { archive: vec![], ..source.clone() };
+    let long = Source::text(vec![b'\n'; TEXT_BYTES + 1], vec![]);
     for depth in [GREATEST_DEPTH + 1, 256, 1 << 32, u64::MAX] {
-        for (source, number) in [(&source, 15), (&wide, 15), (&bad, 3)] {
+        for (source, number) in [(&source, 15), (&wide, 15), (&bad, 3), (&long, 2)] {
             let mut lent = Lent::new();
             same("a depth over 100", lent.read(&source.at(depth)), Err(number))?;
             same("buffers", lent.is_untouched(), true)?;
         }
+        let short = image::read(&mut [], &mut [7; BODIES_BYTES], &long.texts(), &long.archive, depth);
+        same("short buffers at a depth over 100", short.map_err(|refusal| refusal.number()).err(), Some(1))?;
     }
     // Striking off is at one depth for both readings.
     for depth in [0, 1, 2, 7] {

@@ -245,7 +245,8 @@ fn strike_depths(family: &str, seed: &str, times: &str) -> Result<String, String
             Start::Chain(_) => Ok(()),
         }
     })?;
-    third.counts.report()
+    let by_two = third.counts.report()?;
+    Ok(format!("{by_two}; {} by the comparing call too", comparing.counts.files))
 }
 
 fn ask(lookups: Lookups, family: &str, seed: &str, times: &str, room: &str) -> Result<String, String> {

@@ -17,10 +17,9 @@ use database_text::write_database;
 use io::write_all;
 use libc::STDERR_FILENO;
 use libc::STDOUT_FILENO;
-use limits::DEFAULT_DEPTH;
-use limits::GREATEST_DEPTH;
 use limits::WRITTEN_BYTES;
 use plans::Plan;
+use plans::depth_unasked;
 use plans::given;
 use reports::REPORT_BYTES;
 use reports::Report;
@@ -36,7 +35,7 @@ fn class_argument(i: usize, buffer: &mut [u8]) -> usize
     argument(i, buffer)
 }
 
-// The depth of the reading: the one that is asked for; else that of a call that is given none, which for a chain is the greatest.
+// The depth of the reading: the one that is asked for, or that of a plan that asks for none.
 pub fn depth_asked(plan: Plan) -> u64 {
     let i = given(plan, options::DEPTH);
     if i != 0 {
@@ -44,10 +43,7 @@ pub fn depth_asked(plan: Plan) -> u64 {
         let n = argument(i, &mut word);
         return depth_of(&word[..n]);
     }
-    if plan.chain {
-        return GREATEST_DEPTH;
-    }
-    DEFAULT_DEPTH
+    depth_unasked(plan)
 }
 
 // What is told of the query; with the file that an argument names and without it, if there is one.

@@ -14,7 +14,7 @@ archiveFiles = 64
 abbrev pub fileNameBytes : ℕ
 fileNameBytes = 96
 
--- the depth of a reading: the deepest text that it reads, where a text of the reading is at depth 0. The greatest that a caller may give is
+-- the depth of a reading: how deep a text it reads, where a text of the reading is at depth 0. The greatest that a caller may give is
 -- document 01's (Xlib has the same number; the manual is silent), and the other holds where the caller gives none (document 02 (x))
 abbrev pub greatestDepth : ℕ
 greatestDepth = 100

@@ -10,7 +10,8 @@ use Rattle.definition.specs.Lists.{any, filter}
 use Rattle.definition.specs.Archive.{File, filesOf, bodyOf, folderOf, pathOf}
 use Rattle.definition.specs.Text.{Line, skipped, include, entry, linesOf}
 use Rattle.definition.specs.Including.{Event, chainOf}
-use Rattle.definition.specs.Reading.{Outcome, met, reading}
+use Rattle.definition.specs.Image.{tooShort}
+use Rattle.definition.specs.Reading.{met, tooDeep, reading}
 use Rattle.definition.specs.ThirdTerm.{isAccepted}
 
 -- an open or an entry with a chain of at most d files
@@ -26,7 +27,7 @@ MeetsWithin =
 
 -- ---- Where a greater depth adds nothing
 
--- the body of a file that was looked for, if it is there and the test holds of it
+-- a file that was looked for is there, and its body passes the test
 unfoldable pub opens : (List ℕ → Bool) → Option (List ℕ) → Bool
 opens test none = false
 opens test (some body) = test body
@@ -55,11 +56,22 @@ MeetsAll =
     → any (findsAt d (filesOf archive) []) texts ≡ false
     → met d texts archive ≡ met e texts archive
 
--- ---- A reading accepted at a depth is accepted at every smaller one
-
-abbrev pub AcceptedBelow : Type 0
-AcceptedBelow =
+-- so at both depths, none over the greatest, the reading is the same: its answer, and every word and byte that it leaves
+abbrev pub ReadsAll : Type 0
+ReadsAll =
     (d e : ℕ) (texts : List (List ℕ)) (archive contents bodies : List ℕ)
     → d ≤ e
+    → tooDeep e ≡ false
+    → any (findsAt d (filesOf archive) []) texts ≡ false
+    → reading d texts archive contents bodies ≡ reading e texts archive contents bodies
+
+-- ---- A reading accepted at a depth is accepted at every smaller one
+
+-- into any buffers that are long enough
+abbrev pub AcceptedBelow : Type 0
+AcceptedBelow =
+    (d e : ℕ) (texts : List (List ℕ)) (archive contents bodies contents′ bodies′ : List ℕ)
+    → d ≤ e
+    → tooShort contents′ bodies′ ≡ false
     → isAccepted (reading e texts archive contents bodies .answer) ≡ true
-    → isAccepted (reading d texts archive contents bodies .answer) ≡ true
+    → isAccepted (reading d texts archive contents′ bodies′ .answer) ≡ true

@@ -13,8 +13,8 @@ use Rattle.definition.specs.Limits.{greatestDepth}
 use Rattle.definition.specs.Archive.{File, filesOf, bodyOf, folderOf, pathOf}
 use Rattle.definition.specs.Text.{Line, skipped, include, entry, linesOf}
 use Rattle.definition.specs.Including.{Chain, Event, opened, entered, eventsOf, opening, seeking, including, events, eventsOfAll, chainOf}
-use Rattle.definition.specs.Reading.{met, start, tooDeep}
-use Rattle.definition.specs.Nesting.{isWithin, MeetsWithin, opens, finds, includesWhere, findsAt, MeetsAll, AcceptedBelow}
+use Rattle.definition.specs.Reading.{met, start, tooDeep, reading}
+use Rattle.definition.specs.Nesting.{isWithin, MeetsWithin, opens, finds, includesWhere, findsAt, MeetsAll, ReadsAll, AcceptedBelow}
 use Rattle.laws.proofs.Lists.{not-both, filter-append}
 use Rattle.laws.proofs.Struck.{body-events, file-events}
 use Rattle.laws.proofs.Limits.{limits-fewer}
@@ -186,21 +186,25 @@ module _ (fs : List File) where
 pub meets-all : MeetsAll
 meets-all d e texts archive l h = eventsOfAll-same (filesOf archive) d e texts l h
 
--- ---- Accepted at a depth, so at every smaller one
-
 shallower : (d e : ℕ) → d ≤ e → tooDeep e ≡ false → tooDeep d ≡ false
 shallower d e l h = le-ltb greatestDepth d (omega (arith, ltb-false greatestDepth e h))
 
+pub reads-all : ReadsAll
+unfolding reading
+reads-all d e texts archive contents bodies l k h = rw (meets-all d e texts archive l h, k, shallower d e l k) refl
+
+-- ---- Accepted at a depth, so at every smaller one
+
 pub accepted-below : AcceptedBelow
-accepted-below d e texts archive contents bodies l h =
+accepted-below d e texts archive contents bodies contents′ bodies′ l enough h =
     let r = accepted-reads e texts archive contents bodies h in
-    let s : Reads d texts archive contents bodies =
+    let s : Reads d texts archive contents′ bodies′ =
     record {
-      long = r .long;
+      long = enough;
       fit = r .fit;
       isLaidOut = r .isLaidOut;
       shallow = shallower d e l (r .shallow);
       limits = rw (meets-within d e texts archive l) (limits-fewer (isWithin d) start (met e texts archive) (r .limits));
     }
     in
-    rw (reads-outcome d texts archive contents bodies s) refl
+    rw (reads-outcome d texts archive contents′ bodies′ s) refl

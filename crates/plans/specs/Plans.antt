@@ -5,6 +5,7 @@ use Prim.Native.Nat.{ℕ}
 use lib.Dec.{eqb, ltb}
 use lib.ListN.{getD, set, replicate}
 use Rattle.definition.specs.Lists.{if_then_else_}
+use Rattle.definition.specs.Limits.{greatestDepth, defaultDepth}
 use Rattle.options.specs.Options.{text, name, class, without, anything, operand}
 use Rattle.plans.specs.declared.Plan.{Plan}
 
@@ -50,6 +51,10 @@ module _ (p : Plan) where
 -- the argument that was given for something
 unfoldable pub givenFor : Plan → ℕ → ℕ
 givenFor p what = if ltb what 12 then getD (p .given) what 0 else 0
+
+-- the depth of a reading for which none is asked (document 02 (x))
+unfoldable pub depthUnasked : Plan → ℕ
+depthUnasked p = if p .chain then greatestDepth else defaultDepth
 
 -- the first argument that is not understood counts
 unfoldable pub misunderstood : Plan → ℕ → Plan

@@ -1,7 +1,9 @@
 // What getres is to do, as its arguments say it: a plan.
 ghost use mathlib.Core.Path.{_≡_};
 ghost use Prim.Native.Nat.{_<_};
-ghost use Rattle.plans.specs.Plans.{nothingAsked, givenFor, misunderstood, once, placed, uncompared, unasked, settled, hasOperands, isWhole};
+ghost use Rattle.plans.specs.Plans.{nothingAsked, givenFor, depthUnasked, misunderstood, once, placed, uncompared, unasked, settled, hasOperands, isWhole};
+use limits::DEFAULT_DEPTH;
+use limits::GREATEST_DEPTH;
 use options::ANY;
 use options::CLASS;
 use options::NAME;
@@ -49,6 +51,16 @@ pub fn given(plan: Plan, what: usize) -> usize
         return plan.given[what];
     }
     0
+}
+
+// The depth of a reading for which none is asked: that of a call that is given none, which for a chain is the greatest.
+pub fn depth_unasked(plan: Plan) -> u64
+    ensures { λ r. ⌜ r ≡ depthUnasked plan ⌝ }
+{
+    if plan.chain {
+        return GREATEST_DEPTH;
+    }
+    DEFAULT_DEPTH
 }
 
 pub fn misunderstood(plan: Plan, i: usize) -> Plan

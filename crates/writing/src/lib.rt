@@ -19,18 +19,19 @@ pub fn complain(what: &[u8], why: &[u8]) {
 pub fn write_help(fd: i32) {
     write_all(
         fd,
-        b"usage: getres [--file [NAME=]PATH].. [--without NAME] [--missing] [--shared] [--] TEXT NAME [CLASS]\n\
-        \x20      getres [--file [NAME=]PATH].. [--without NAME] [--missing] [--shared] CHAIN.. [--] NAME [CLASS]\n\
-        \x20      getres [--file [NAME=]PATH].. --list [--missing] [--shared] [--] TEXT NAME [CLASS]\n\
-        \x20      getres [--file [NAME=]PATH].. --list [--missing] [--shared] CHAIN.. [--] NAME [CLASS]\n\
-        \x20      getres [--file [NAME=]PATH].. --write [--missing] [--shared] [--] TEXT\n\
-        \x20      getres [--file [NAME=]PATH].. --write [--missing] [--shared] CHAIN..\n\
+        b"usage: getres [OPTION].. [--without NAME] [--] TEXT NAME [CLASS]\n\
+        \x20      getres [OPTION].. [--without NAME] CHAIN.. [--] NAME [CLASS]\n\
+        \x20      getres [OPTION].. --list [--] TEXT NAME [CLASS]\n\
+        \x20      getres [OPTION].. --list CHAIN.. [--] NAME [CLASS]\n\
+        \x20      getres [OPTION].. --write [--] TEXT\n\
+        \x20      getres [OPTION].. --write CHAIN..\n\
         \n\
         Prints the value that the X resources of the file TEXT give to a name and a class; or those of a\n\
         start-up chain, with a line for each of its two steps that says which text is used.\n\
         With --list prints every resource that aligns with them, and not only the one whose value counts.\n\
         With --write prints all these resources, those of included files among them, as one resource text.\n\
         A TEXT, or a PATH of a chain, of - is standard input.\n\
+        An OPTION is --file, as often as there are files, --depth, --missing, --shared or --status-fd.\n\
         \n\
         \x20 --file [NAME=]PATH  a file that includes find by NAME, or else by PATH as it is written\n\
         \x20 --without NAME      two answers, with that file and without it, and whether they differ\n\

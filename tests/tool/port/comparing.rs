@@ -22,9 +22,17 @@ pub type Call<'a> = &'a dyn Fn(usize, Lent) -> u64;
 pub struct Calls {
     pub around: fn(Call, usize, Lent) -> u64,
     pub edit: Edit,
+    /// The depth that is asked for, as it is given; and the call that is given none.
+    pub depth: fn(u64) -> u64,
+    pub plain: fn(&[u8], &[u8], usize, &[u8], &[u8], Lent) -> u64,
 }
 
-pub const PORTS: Calls = Calls { around: |call, file, lent| call(file, lent), edit: |start_up| start_up };
+pub const PORTS: Calls = Calls {
+    around: |call, file, lent| call(file, lent),
+    edit: |start_up| start_up,
+    depth: |depth| depth,
+    plain: compare_plain_without_word,
+};
 
 pub const NO_FILE: u64 = 65_535;
 
@@ -145,13 +153,13 @@ impl Comparing {
         let archive = self.archive.copy(&source.archive, at_end).unwrap_or(&source.archive);
         let name = self.name.copy(&query.name, at_end).unwrap_or(&query.name);
         let class = self.class.copy(&query.class, at_end).unwrap_or(&query.class);
-        let Calls { around, edit } = self.calls;
+        let Calls { around, edit, depth, plain } = self.calls;
         let (word, is_same) = match &source.start {
             Start::Text(bytes) => {
                 let text = self.text.copy(bytes, at_end).unwrap_or(bytes);
                 let call = |file, lent: Lent| match source.depth {
-                    DEFAULT_DEPTH if self.turn % 2 == 0 => compare_plain_without_word(text, archive, file, name, class, lent),
-                    depth => compare_without_word(text, archive, depth, file, name, class, lent),
+                    DEFAULT_DEPTH if self.turn % 2 == 0 => plain(text, archive, file, name, class, lent),
+                    asked => compare_without_word(text, archive, depth(asked), file, name, class, lent),
                 };
                 (around(&call, which, lent), text == &bytes[..])
             }

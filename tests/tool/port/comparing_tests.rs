@@ -6,7 +6,7 @@ use cases::dotted;
 use cases::limits::{edges, Edge};
 use cases::named_chains;
 use model::archive::judge;
-use model::limits::{BODIES_BYTES, CONTENTS_WORDS, TEXT_BYTES};
+use model::limits::{BODIES_BYTES, CONTENTS_WORDS, DEFAULT_DEPTH, GREATEST_DEPTH, TEXT_BYTES};
 use model::startup::StartUp;
 use records::{archive_of, Query, Source};
 
@@ -20,10 +20,11 @@ pub struct Asked {
 
 type Test = fn(Calls, &Asked) -> Result<String, String>;
 
-const MAIN_TEXTS: [(&str, Test); 3] = [
+const MAIN_TEXTS: [(&str, Test); 4] = [
     ("comparing call in short buffers", short_buffers),
     ("comparing call at the limits", limits),
     ("comparing call and its queries", queries),
+    ("comparing call at depths", depths),
 ];
 
 const START_UPS: [(&str, Test); 4] = [
@@ -141,6 +142,35 @@ fn queries(calls: Calls, asked: &Asked) -> Result<String, String> {
         }
         gives(&mut comparing, &asked.source, 2, query, ROOM, NO_FILE)?;
         count += 1;
+    }
+    Ok(format!("{count} calls"))
+}
+
+/// Depths within the limit, one of them where none is given, and over it, which is refused by 15: after 1, 2 and 3, and before a number that
+/// is no file's.
+fn depths(calls: Calls, asked: &Asked) -> Result<String, String> {
+    let mut comparing = Comparing::new(calls);
+    let query = Query::new(b"a", b"");
+    let endless = Source::with(b"#include \"p\"", &[(b"p", b"#include \"p\"\na:1")]);
+    let bad = Source::text(b"a:1".to_vec(), vec![]);
+    let short = Room { without: Shape { words: CONTENTS_WORDS - 1, ..SHAPES[1] }, ..ROOM };
+    let mut count = 0;
+    let mut expect = |source: Source, file, room, word| {
+        count += 1;
+        gives(&mut comparing, &source, file, &query, room, word).map_err(|why| format!("at depth {}: {why}", source.depth))
+    };
+    for depth in [0, 1, 2, 19, DEFAULT_DEPTH, 21, 99, GREATEST_DEPTH] {
+        expect(endless.at(depth), 0, ROOM, 0)?;
+        expect(endless.at(depth), 1, ROOM, NO_FILE)?;
+        expect(asked.source.at(depth), 1, ROOM, 0)?;
+    }
+    for depth in [101, 127, 256, 65_536 + 20, (1 << 32) + 5, 1 << 63, u64::MAX] {
+        for file in [0, 1, 2, usize::MAX] {
+            expect(asked.source.at(depth), file, ROOM, 15)?;
+        }
+        expect(bad.at(depth), 0, ROOM, 3)?;
+        expect(asked.long.at(depth), 0, ROOM, 2)?;
+        expect(asked.source.at(depth), 0, short, 1)?;
     }
     Ok(format!("{count} calls"))
 }

@@ -17,7 +17,7 @@ use cases::limits::Edge;
 use cases::named_chains;
 use cases::readings::{at_limits, Extent, Family, FAMILIES};
 use model::image;
-use model::limits::{ARCHIVE_BYTES, BODIES_BYTES, CONTENTS_WORDS, GREATEST_DEPTH, TEXT_BYTES};
+use model::limits::{ARCHIVE_BYTES, BODIES_BYTES, CONTENTS_WORDS, DEFAULT_DEPTH, GREATEST_DEPTH, TEXT_BYTES};
 use records::Source;
 
 pub type Test = fn(Calls) -> Result<String, String>;
@@ -261,26 +261,24 @@ fn long_texts(calls: Calls) -> Result<String, String> {
     Ok(format!("{count} lengths of up to 33 bits"))
 }
 
-/// 1, then 2, then 3, then what the text meets.
+/// 1, then 2, then 3, then 15, then what the text meets; at 20 by the call that is given no depth.
 fn order_of_refusals(calls: Calls) -> Result<String, String> {
     let mut both = Both::new(calls);
     let mut count = 0;
-    for short in [false, true] {
-        for long in [false, true] {
-            for bad in [false, true] {
-                for wide in [false, true] {
-                    let line: &[u8] = if wide { b"?????????????????a:\n" } else { b"a:\n" };
-                    let text = [line, &vec![b'\n'; if long { TEXT_BYTES } else { 9 }]].concat();
-                    let source = Source::text(text, if bad { vec![0] } else { vec![0, 0] });
-                    let shape = if short { Shape { words: 0, ..SHAPES[0] } } else { SHAPES[0] };
-                    let met = [(short, 1), (long, 2), (bad, 3), (wide, 5)].into_iter().find(|(is, _)| *is);
-                    let answer = both.compare_in(&source, shape)?;
-                    if answer.err() != met.map(|(_, number)| number) {
-                        return Err(format!("short {short}, long {long}, bad {bad}, wide {wide}: {answer:?}"));
-                    }
-                    count += 1;
-                }
+    for depth in [DEFAULT_DEPTH, GREATEST_DEPTH, GREATEST_DEPTH + 1] {
+        for bits in 0..16 {
+            let [short, long, bad, wide] = [1, 2, 4, 8].map(|bit| bits & bit != 0);
+            let line: &[u8] = if wide { b"?????????????????a:\n" } else { b"a:\n" };
+            let text = [line, &vec![b'\n'; if long { TEXT_BYTES } else { 9 }]].concat();
+            let source = Source::text(text, if bad { vec![0] } else { vec![0, 0] }).at(depth);
+            let shape = if short { Shape { words: 0, ..SHAPES[0] } } else { SHAPES[0] };
+            let deep = depth > GREATEST_DEPTH;
+            let met = [(short, 1), (long, 2), (bad, 3), (deep, 15), (wide, 5)].into_iter().find(|(is, _)| *is);
+            let answer = both.compare_in(&source, shape)?;
+            if answer.err() != met.map(|(_, number)| number) {
+                return Err(format!("depth {depth}, short {short}, long {long}, bad {bad}, wide {wide}: {answer:?}"));
             }
+            count += 1;
         }
     }
     Ok(format!("{count} readings"))
