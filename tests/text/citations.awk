@@ -18,7 +18,7 @@ BEGIN {
     for (i in words)
         citing[words[i]] = 1
     # files of examples, which are cited with the line that is meant
-    split("Examples Manual Numbers NameBytes Starts Depths Walks Orderings Boards bounds/Bounds bounds/Lookups bounds/Walks bounds/Boards " \
+    split("Examples Manual Numbers NameBytes Starts Depths Walks Orderings Boards bounds/Bounds bounds/Lookups bounds/Walks board_bounds/Boards " \
         "listing/Examples arguments/Examples answers_listed/Examples", words, " ")
     for (i in words)
         examples[words[i]] = 1

@@ -1,6 +1,5 @@
 -- Examples of the definition at document 01's limits.
-mod Lookups
+pub mod Lookups
 mod Walks
 mod Origins
-mod Boards
 mod Bounds

@@ -6,7 +6,7 @@ use mathlib.Core.Path.{_≡_, refl}
 use Prim.Native.Nat.{ℕ}
 use Prim.Native.String.{String}
 use lib.ListN.{length, replicate}
-use Rattle.definition.specs.Lists.{ascii, filter}
+use Rattle.definition.specs.Lists.{ascii, any, filter}
 use Rattle.definition.specs.Limits.{greatestDepth, defaultDepth, contentsWords, bodyBytes}
 use Rattle.definition.specs.Archive.{archiveOf, filesOf, struckOff}
 use Rattle.definition.specs.Including.{opensOf}
@@ -75,8 +75,11 @@ found :
     -- from the file's own folder
     × (findsAt 1 (filesOf (archiveOf (file "d/p" "#include \"q\"" ∷ file "q" "" ∷ []))) [] (ascii "#include \"d/p\"") ≡ false)
     × (findsAt 1 (filesOf (archiveOf (file "d/p" "#include \"../q\"" ∷ file "q" "" ∷ []))) [] (ascii "#include \"d/p\"") ≡ true)
+    -- one of two texts is enough
+    × (any (findsAt 2 (filesOf three) []) (ascii "a:1" ∷ ascii "#include \"p\"" ∷ []) ≡ true)
+    × (any (findsAt 2 (filesOf three) []) (ascii "a:1" ∷ ascii "#include \"q\"" ∷ []) ≡ false)
 unfolding definition three includes
-found = (refl, refl, refl, refl, refl)
+found = (refl, refl, refl, refl, refl, refl, refl)
 
 -- ---- Runaway includes: `p` that includes itself and then has an entry
 
