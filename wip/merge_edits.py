@@ -73,7 +73,7 @@ for d in sorted(glob.glob(repo+'/crates/*/must-fail')):
                     for q,cand in zip(u.progs,decls(u)):
                         k=next(k for k in cand if all(not clash(k,v) for v in g if v is not u))
                         q['proof'],q['decl']=k; progs.append(q)
-                names=sorted(os.path.basename(u.path) for u in g if os.path.basename(u.path).startswith('programs_'))
+                names=sorted(os.path.basename(u.path) for u in g if re.match(r'(programs|definitions)_',os.path.basename(u.path)))
                 used={os.path.basename(u.path) for u in us}
                 name=names[0] if names else next(f'programs_{i}.edit' for i in range(1,20) if f'programs_{i}.edit' not in used)
                 out='# Wrong programs, each refused at its own proof.\n'; at=None
