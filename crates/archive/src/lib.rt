@@ -11,7 +11,7 @@ use limits::{ARCHIVE_BYTES, ARCHIVE_FILES};
 pub const LENGTHS_BYTES: usize = 4;
 
 // A file as it stands in an archive: its number from 0, where its name starts, where its body starts, and where that ends.
-#[derive(Drop)]
+#[derive(Clone, Copy)]
 pub struct Member {
     pub number: usize,
     pub start: usize,

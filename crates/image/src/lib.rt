@@ -7,7 +7,7 @@ ghost use Rattle.image.specs.Running.{Room, closed_words, closed_bytes};
 use limits::ROW_WORDS;
 
 // What a reading has met so far: document 01's limits are laid over these.
-#[derive(Drop)]
+#[derive(Clone, Copy)]
 pub struct Totals {
     pub opens: usize,
     pub entries: usize,

@@ -8,7 +8,7 @@ use paths::{folder_of, is_dot, is_dot_dot};
 
 // What is kept of a path so far: its first `size` bytes, which stand in a buffer of 96, and the number of its parts after these. With the
 // first of them the path has more than 96 bytes, so that no file has such a name until a `..` has removed it. And was the last part `.` or `..`?
-#[derive(Drop)]
+#[derive(Clone, Copy)]
 pub struct Kept {
     pub size: usize,
     pub over: usize,

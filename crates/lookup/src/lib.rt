@@ -22,7 +22,7 @@ use positions::{last_part, longer};
 use query::{Shape, Split, both, parse_query, split_names};
 
 // What a lookup answers: the value's place in the bodies and its length, none, or the number that refuses it.
-#[derive(Drop)]
+#[derive(Clone, Copy)]
 pub enum Lookup {
     Found(usize, usize),
     Nothing,

@@ -16,7 +16,7 @@ const FIRST_TWO: usize = 22;
 // A row of marks, one for each position passed, if there is one. Each mark is a digit of base 7: 11 are in `high`, the next 11 in `middle`, those
 // after them in `low`, where a digit 1 leads them: without a row `low` is 0. So a row of 32 marks is 12 bytes, and of two rows the numbers
 // tell which is lower.
-#[derive(Drop)]
+#[derive(Clone, Copy)]
 pub struct Marks {
     pub high: u32,
     pub middle: u32,

@@ -10,7 +10,7 @@ use std::num::wrapping_add_usize;
 
 // What was seen of a file. `differs` is the number of the first line that differs, or 0. No file has so many lines that a
 // count wraps.
-#[derive(Drop)]
+#[derive(Clone, Copy)]
 pub struct Tally {
     pub lines: usize,
     pub equal: usize,
