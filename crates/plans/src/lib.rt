@@ -9,7 +9,7 @@ use options::{ANY, CLASS, NAME, OPERAND, TEXT, WITHOUT};
 // from TEXT to HOST; `wrong` is the first that is not understood; `next` is what the next one is for; `help`, `missing`, the includes that
 // find no file, `write`, the database written out, `list`, the entries that align, `shared`, the keys that two included files share, and
 // `chain`, a start-up chain, are asked for or not.
-#[derive(Drop)]
+#[derive(Clone, Copy)]
 pub struct Plan {
     pub given: [usize; 12],
     pub wrong: usize,
