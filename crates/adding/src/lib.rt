@@ -1,4 +1,6 @@
 // An addition: a text's only entry, put behind those of an image.
+#![tactic(auto)]
+
 ghost use Rattle.std.specs.Prelude.{◌≡◌, [], ◌∷◌, true, ◌≤◌, length, drop};
 ghost use Rattle.definition.specs.Limits.{body_bytes};
 ghost use Rattle.definition.specs.Text.{lines_of};

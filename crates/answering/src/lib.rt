@@ -1,5 +1,7 @@
 // What the arguments of getres ask, answered: what is told of a query is in `answers` and `answers_without`, of the entries that align with
 // it in `answers_listed`, and of a database that is written out in `database_text`; it is written here.
+#![tactic(auto)]
+
 ghost use Rattle.std.specs.Prelude.{◌≡◌, true, ◌≤◌, length};
 ghost use Rattle.definition.specs.Archive.{laid_out};
 ghost use Rattle.io.specs.Counts.{IsPrefixLen};

@@ -1,4 +1,6 @@
 // What getres tells of a query: the value that it gets, none or a refusal.
+#![tactic(auto)]
+
 ghost use Rattle.std.specs.Prelude.{map, ◌≤◌, length};
 ghost use Rattle.reports.specs.Telling.{Reports, report_bytes};
 ghost use Rattle.answers.specs.Answering.{LooksUp, answer_told};

@@ -1,4 +1,6 @@
 // What getres tells of the entries that align with a query: a line for each, none or a refusal.
+#![tactic(auto)]
+
 ghost use Rattle.std.specs.Prelude.{◌≡◌, true, map, ◌≤◌, length};
 ghost use Rattle.definition.specs.Archive.{files_of, laid_out};
 ghost use Rattle.definition.specs.Image.{is_image};

@@ -1,4 +1,6 @@
 // What getres tells of a query with a file on the archive (document 01's shelf) and with it struck off.
+#![tactic(auto)]
+
 ghost use Rattle.std.specs.Prelude.{◌≡◌, true, map, ◌≤◌, length};
 ghost use Rattle.definition.specs.Archive.{files_of, laid_out, file_number};
 ghost use Rattle.reports.specs.Telling.{Reports, report_bytes, argument_bytes};

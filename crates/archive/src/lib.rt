@@ -1,4 +1,6 @@
 // Document 01's shelf: the walk over its files, and whether it is laid out.
+#![tactic(auto)]
+
 ghost use Rattle.std.specs.Prelude.{◌≡◌, true, [], ◌+◌, ◌≤◌, ◌<◌, length};
 ghost use Rattle.definition.specs.Archive.{number_at, files_of, laid_out};
 ghost use Rattle.laws.proofs.Walked.{fits};

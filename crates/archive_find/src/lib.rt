@@ -1,4 +1,6 @@
 // Document 01's shelf, once it is judged: the search.
+#![tactic(auto)]
+
 ghost use Rattle.std.specs.Prelude.{◌≡◌, true};
 ghost use Rattle.definition.specs.Archive.{files_of, laid_out, path_of, file_number};
 ghost use Rattle.archive_find.specs.Finding.{find_in, sought_in};

@@ -1,4 +1,6 @@
 // The place of a name among the files of document 01's shelf.
+#![tactic(auto)]
+
 ghost use Rattle.std.specs.Prelude.{◌≡◌, true};
 ghost use Rattle.definition.specs.Archive.{laid_out};
 ghost use Rattle.archive_slot.specs.Slots.{slot_for};

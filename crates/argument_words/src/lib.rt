@@ -1,4 +1,6 @@
 // What is told of an argument of getres from its bytes alone: a descriptor, a format, a depth, whether it is an option.
+#![tactic(auto)]
+
 ghost use Rattle.std.specs.Prelude.{◌≡◌};
 ghost use Rattle.definition.specs.Lists.{same};
 ghost use Rattle.argument_words.specs.Words.{descriptor, format_of, depth_of, is_option};

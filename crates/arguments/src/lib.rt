@@ -1,4 +1,6 @@
 // What getres's arguments ask for, taken one at a time.
+#![tactic(auto)]
+
 ghost use Rattle.std.specs.Prelude.{◌≡◌};
 ghost use Rattle.arguments.specs.Planning.{with_operand, with_value, with_flag, with_option, with_argument, NameEnds};
 

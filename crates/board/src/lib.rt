@@ -1,4 +1,6 @@
 // A board of packs: made, a query watched, a pack that arrives or leaves. Document 02 (ix).
+#![tactic(auto)]
+
 ghost use Rattle.std.specs.Prelude.{◌≡◌, true, ◌≤◌, ◌<◌, length};
 ghost use Rattle.definition.specs.Limits.{query_bytes, most_packs, most_queries, board_words, board_bytes};
 ghost use Rattle.definition.specs.Image.{is_image};

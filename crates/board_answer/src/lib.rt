@@ -1,4 +1,6 @@
 // The answer of a watched query. Document 02 (ix).
+#![tactic(auto)]
+
 ghost use Rattle.std.specs.Prelude.{true, ◌≡◌, [], ◌≤◌, ◌<◌, ◌*◌, length};
 ghost use Rattle.definition.specs.Limits.{most_entries, most_packs, board_words};
 ghost use Rattle.definition.specs.Lookup.{given};

@@ -1,4 +1,6 @@
 // All watched answers by one call, which judges the board once. Document 02 (ix).
+#![tactic(auto)]
+
 ghost use Rattle.std.specs.Prelude.{true, ◌≡◌, length};
 ghost use Rattle.definition.specs.Limits.{most_queries};
 ghost use Rattle.definition.specs.Board.{watched_answers, lent, board_in, is_board, board_answers};

@@ -1,1 +1,2 @@
 // The examples of a board in whole buffers have no code: they stand in specs/, apart because they take long to evaluate.
+#![tactic(auto)]

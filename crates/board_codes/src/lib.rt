@@ -1,4 +1,6 @@
 // The answers of a board's calls as numbers of 64 bits, as the boundary to C gives them.
+#![tactic(auto)]
+
 ghost use Rattle.std.specs.Prelude.{◌≡◌};
 ghost use Rattle.board.specs.Replies.{replied};
 ghost use Rattle.board_answer.specs.Replies.{answered};

@@ -1,4 +1,6 @@
 // Do two lent buffers hold a board? Every call but the making asks this, so each image is judged once, where it lies.
+#![tactic(auto)]
+
 ghost use Rattle.std.specs.Prelude.{◌≡◌, [], ◌≤◌, ◌<◌, length};
 ghost use Rattle.definition.specs.Lists.{all};
 ghost use Rattle.definition.specs.Limits.{most_packs, most_queries, board_words, board_bytes};

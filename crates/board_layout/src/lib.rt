@@ -1,4 +1,6 @@
 // Where the parts of a board stand in its words and bytes, and these parts.
+#![tactic(auto)]
+
 ghost use Rattle.std.specs.Prelude.{◌≡◌, [], true, ◌≤◌, ◌<◌, length, get_or};
 ghost use Rattle.definition.specs.Limits.{most_packs, most_queries, board_words, board_bytes};
 ghost use Rattle.definition.specs.Board.{lent, lengths_start, slot_start, text_start, body_start, slot_at, name_length, class_length, query_at, have_room};

@@ -1,4 +1,6 @@
 // What the leaving of a pack would change, told beforehand. Document 02 (ix).
+#![tactic(auto)]
+
 ghost use Rattle.std.specs.Prelude.{◌≡◌, true, not, ◌+◌, ◌*◌, ◌≤◌, ◌<◌, get_or};
 ghost use Rattle.definition.specs.Lists.{if◌then◌else◌, same};
 ghost use Rattle.definition.specs.Board.{each, changes, bits_of, lent, pack_count, query_count, slot_start, board_in, is_board, board_report};

@@ -1,4 +1,6 @@
 // A watched query looked for in the packs of a board. Each image was judged with the board, and is not judged again.
+#![tactic(auto)]
+
 ghost use Rattle.std.specs.Prelude.{◌≡◌, true, ◌≤◌, ◌<◌};
 ghost use Rattle.definition.specs.Limits.{most_entries, most_packs};
 ghost use Rattle.definition.specs.Ranking.{no_entry};

@@ -1,4 +1,6 @@
 // A value's bytes as a boolean: the Rust's `to_bool`.
+#![tactic(auto)]
+
 ghost use Rattle.std.specs.Prelude.{◌≡◌, [], ◌∷◌, map};
 ghost use Rattle.definition.specs.Lists.{any, same};
 ghost use Rattle.definition.specs.Value.{lowercase, word_of, to_bool};

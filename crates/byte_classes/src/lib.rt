@@ -1,5 +1,7 @@
 // What a byte may be, by a table: the tests of the Rust's parser on a byte.
 // A constant has no place in memory: where it is used it is written anew. So a loop is lent the table, and does not ask the constant.
+#![tactic(auto)]
+
 ghost use Rattle.std.specs.Prelude.{◌≡◌};
 ghost use Rattle.definition.specs.Bytes.{is_name, is_octal, is_blank, is_binding};
 ghost use Rattle.byte_classes.specs.Classes.{byte_classes};

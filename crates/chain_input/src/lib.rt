@@ -1,4 +1,6 @@
 // The texts of a start-up chain, read as the arguments of getres name them; which of them its steps use, told.
+#![tactic(auto)]
+
 ghost use Rattle.io.specs.Counts.{IsPrefixLen};
 
 use argument_words::format_of;

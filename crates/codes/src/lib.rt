@@ -1,4 +1,6 @@
 // Answers as numbers of 64 bits, as the boundary to C gives them.
+#![tactic(auto)]
+
 ghost use Rattle.std.specs.Prelude.{◌≡◌, ℕ};
 ghost use Rattle.definition.specs.Walking.{walk};
 ghost use Rattle.adding.specs.Appending.{replied as addReplied};

@@ -1,4 +1,6 @@
 // The arguments of the process, and the plan that they make.
+#![tactic(auto)]
+
 ghost use Rattle.io.specs.Counts.{IsPrefixLen};
 
 use arguments::with_argument;

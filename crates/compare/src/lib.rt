@@ -1,4 +1,6 @@
 // The buyer's third term as a call: one query, asked with a file on the archive and with it struck off.
+#![tactic(auto)]
+
 ghost use Rattle.std.specs.Prelude.{map};
 ghost use Rattle.compare.specs.Comparing.{asked, leaving, Promise};
 

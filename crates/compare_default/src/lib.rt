@@ -1,4 +1,6 @@
 // The comparing call of a start-up: one query, asked with a file on the archive and with it struck off.
+#![tactic(auto)]
+
 ghost use Rattle.definition.specs.StartUp.{texts_used};
 ghost use Rattle.sources.specs.Lending.{lending, start_up};
 ghost use Rattle.compare.specs.Comparing.{asked, leaving, Promise};

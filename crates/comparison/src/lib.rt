@@ -1,4 +1,6 @@
 // What a query with a file on the archive, and with it struck off, is answered.
+#![tactic(auto)]
+
 ghost use Rattle.std.specs.Prelude.{◌≡◌};
 ghost use Rattle.comparison.specs.Answering.{compared, answering};
 ghost use Rattle.definition.specs.Lookup.{get_bytes};

@@ -1,5 +1,7 @@
 // The parts at the front of a line: `parse_binding`, `next_component_name` and `parse_components` of the Rust's parser.
 // A part is left where it stands in the text. The key is written afterwards: it is the text itself in most lines, and else a second pass writes it.
+#![tactic(auto)]
+
 ghost use Rattle.std.specs.Prelude.{◌≡◌, true, ◌+◌, ◌≤◌, ◌<◌, length};
 ghost use Rattle.std.proofs.Math.Seq.{paste};
 ghost use Rattle.definition.specs.Image.{binding_byte};

@@ -1,4 +1,6 @@
 // What getres tells of a database that is written out: its text, or a refusal.
+#![tactic(auto)]
+
 ghost use Rattle.std.specs.Prelude.{◌≡◌, true, map, ◌≤◌, length};
 ghost use Rattle.definition.specs.Image.{is_image};
 ghost use Rattle.definition.specs.Limits.{written_bytes};

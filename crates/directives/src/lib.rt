@@ -1,4 +1,6 @@
 // Include directives: what follows a `#`.
+#![tactic(auto)]
+
 ghost use Rattle.std.specs.Prelude.{◌≡◌, length};
 ghost use Rattle.definition.specs.Lists.{take_while};
 ghost use Rattle.definition.specs.Text.{in_quotes};

@@ -1,4 +1,6 @@
 // The text of an entry: its key, `: `, its value and a newline.
+#![tactic(auto)]
+
 ghost use Rattle.std.specs.Prelude.{◌≡◌, false, ◌+◌, ◌-◌, ◌≤◌, length};
 ghost use Rattle.definition.specs.Writing.{escaped, begins_blank};
 ghost use Rattle.copies.specs.Appended.{Appends};

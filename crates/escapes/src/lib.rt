@@ -1,4 +1,6 @@
 // The escapes of a value: what follows a backslash.
+#![tactic(auto)]
+
 ghost use Rattle.std.specs.Prelude.{◌≡◌, ◌*◌, ◌%◌, true, [], ◌∷◌, length, take};
 ghost use Rattle.definition.specs.Lists.{take_while};
 ghost use Rattle.definition.specs.Bytes.{is_octal};

@@ -1,5 +1,7 @@
 // The fields of a recorded line: each stands after one space. Bytes are two lower-case hexadecimal digits each, or `-` for none. Whoever
 // takes a field looks for the space before it, so that a field with more in it than it should have stops the next.
+#![tactic(auto)]
+
 ghost use Rattle.std.specs.Prelude.{◌≡◌, true, ◌++◌, ◌≤◌, length};
 ghost use Rattle.definition.specs.Image.{is_image, rows_in};
 ghost use Rattle.printing.specs.Putting.{decimal};

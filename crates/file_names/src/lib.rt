@@ -1,4 +1,6 @@
 // The names of files on document 01's shelf: what one is, and which of two stands first.
+#![tactic(auto)]
+
 ghost use Rattle.std.specs.Prelude.{◌≡◌};
 ghost use Rattle.definition.specs.Lists.{lower};
 ghost use Rattle.definition.specs.Archive.{is_file_name};

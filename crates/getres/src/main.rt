@@ -1,6 +1,8 @@
 // getres: the value that a query gets from a main text or a start-up chain and their files, and whether striking a file off changes
 // it; the entries that align with it; or the whole database that these give, written out. Its arguments come from `command_line`, what
 // they name from `loading` and `chain_input`; `answering`, `tell_missing` and `tell_shared` tell what there is to tell.
+#![tactic(auto)]
+
 ghost use Rattle.std.specs.Prelude.{◌≡◌, true};
 ghost use Rattle.definition.specs.Archive.{laid_out};
 

@@ -1,4 +1,6 @@
 // The two lent buffers of a database image, as a reading writes them.
+#![tactic(auto)]
+
 ghost use Rattle.std.specs.Prelude.{◌≡◌, ◌++◌, ◌+◌, ◌-◌, ◌≤◌, ◌<◌, length, take, get_or};
 ghost use Rattle.definition.specs.Lists.{zeroes};
 ghost use Rattle.image.specs.Rows.{row_start_by, row_start, origin_at, with_row, row_of, InWords, RowIsBy, RowIs};

@@ -1,5 +1,7 @@
 // Do two lent buffers hold a database image? Every lookup asks this first, so it goes once over the bytes of the keys and looks at no
 // byte of a value. An old image, whose rows have three words, is judged by the same code.
+#![tactic(auto)]
+
 ghost use Rattle.std.specs.Prelude.{◌≡◌, ◌+◌, ◌*◌, ◌≤◌, length, drop};
 ghost use Rattle.definition.specs.Lists.{all};
 ghost use Rattle.definition.specs.Limits.{old_row_words, row_words};

@@ -1,4 +1,6 @@
 // The includes of a text, one after another, with nothing stored of the entries between them.
+#![tactic(auto)]
+
 ghost use Rattle.std.specs.Prelude.{◌≡◌, ◌<◌, ◌≤◌, ◌-◌, length, drop};
 ghost use Rattle.byte_classes.specs.Classes.{byte_classes};
 ghost use Rattle.values.specs.Decoded.{rest_at};

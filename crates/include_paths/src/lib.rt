@@ -1,4 +1,6 @@
 // The path that an include looks for, `parse_data_with_base_directory`'s join of folder and name, reduced as document 02 (iii) says.
+#![tactic(auto)]
+
 ghost use Rattle.std.specs.Prelude.{◌≡◌, length};
 ghost use Rattle.definition.specs.Limits.{file_name_bytes};
 ghost use Rattle.definition.specs.Archive.{split, joined, path_of};

@@ -1,4 +1,6 @@
 // Lines and includes: `parse_data_with_base_directory` and `parse_database` of the Rust. They call each other, and the depths left fall.
+#![tactic(auto)]
+
 ghost use Rattle.std.specs.Prelude.{◌≡◌, [], true};
 ghost use Rattle.definition.specs.Archive.{laid_out, files_of};
 ghost use Rattle.definition.specs.Including.{Chain, including, origin_of};

@@ -1,4 +1,6 @@
 // A descriptor read to its end.
+#![tactic(auto)]
+
 ghost use Rattle.io.specs.Counts.{IsPrefixLen};
 
 // How many bytes were read, or that the descriptor cannot be read.

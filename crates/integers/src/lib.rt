@@ -1,4 +1,6 @@
 // A value's bytes as a number: the Rust's `i64::from_str`.
+#![tactic(auto)]
+
 ghost use Rattle.std.specs.Prelude.{◌≡◌, ◌≤◌, ◌^◌};
 ghost use Rattle.std.proofs.Math.Option.{some};
 ghost use Rattle.definition.specs.Value.{natural_of, signed, i64_of};

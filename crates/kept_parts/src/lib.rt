@@ -1,4 +1,6 @@
 // What is kept of the path that an include looks for, as its parts are taken, in a buffer of 96 bytes.
+#![tactic(auto)]
+
 ghost use Rattle.std.specs.Prelude.{◌≡◌, ◌+◌, ◌≤◌, ◌<◌, length};
 ghost use Rattle.kept_parts.specs.Keeping.{Fits, end_below, put_below, has_room, with_part, bytes_with, without_part, did, taken_part};
 

@@ -1,4 +1,6 @@
 // A key split into its parts: where each begins and ends in the key's bytes.
+#![tactic(auto)]
+
 ghost use Rattle.std.specs.Prelude.{◌≡◌, true, suc, ◌+◌, ◌≤◌, length, drop};
 ghost use Rattle.definition.specs.Lists.{take_while};
 ghost use Rattle.definition.specs.Limits.{most_parts, body_bytes};

@@ -1,4 +1,6 @@
 // Whether a key may match a query at all, told from its end.
+#![tactic(auto)]
+
 ghost use Rattle.std.specs.Prelude.{◌≡◌};
 ghost use Rattle.key_end.specs.Ends.{ends_in, may_match};
 

@@ -1,4 +1,6 @@
 // Is it a key? One to 16 parts, each a binding and `?` or a name, of which the last is a name.
+#![tactic(auto)]
+
 ghost use Rattle.std.specs.Prelude.{◌≡◌, true, ℕ, ◌+◌, ◌≤◌, ◌<◌, length, get_or};
 ghost use Rattle.definition.specs.Bytes.{is_binding, is_name};
 ghost use Rattle.definition.specs.Image.{is_key};

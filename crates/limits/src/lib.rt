@@ -1,5 +1,6 @@
 // Document 01's limits, each under the name that Limits.antt of the definition has for it. A contract holds code to the definition's
 // number, so that a slip here is refused where the number is used; a test holds the two lists to each other.
+#![tactic(auto)]
 
 // A text of a reading (document 01's main text is one) and the archive (its shelf), in bytes.
 pub const TEXT_BYTES: usize = 32768;

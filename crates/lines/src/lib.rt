@@ -1,4 +1,6 @@
 // What stands at the front of a text: the Rust's `parse_database` for one line.
+#![tactic(auto)]
+
 ghost use Rattle.std.specs.Prelude.{◌≡◌, ◌<◌, length, get_or};
 ghost use Rattle.definition.specs.Bytes.{hash};
 ghost use Rattle.definition.specs.Text.{assigned};

@@ -1,4 +1,6 @@
 // Document 01's list program: reads a main text from standard input with an archive of no files, and writes what it was read into.
+#![tactic(auto)]
+
 use input::{Input, read_all};
 use libc::{STDIN_FILENO, STDOUT_FILENO};
 use listing::{list, refuse_long};

@@ -1,4 +1,6 @@
 // The lines that the list program writes.
+#![tactic(auto)]
+
 ghost use Rattle.std.specs.Prelude.{◌+◌, ◌≤◌, length};
 ghost use Rattle.definition.specs.Image.{rows_in};
 ghost use Rattle.printing.specs.Putting.{Appends};

@@ -1,4 +1,6 @@
 // What the list program writes for a text.
+#![tactic(auto)]
+
 ghost use Rattle.std.specs.Prelude.{◌≤◌, length};
 ghost use Rattle.listing.specs.Listing.{list_bytes, Lists, RefusesLong};
 

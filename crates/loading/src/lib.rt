@@ -1,4 +1,6 @@
 // What the arguments of getres name, read: a text, and the files, as an archive.
+#![tactic(auto)]
+
 ghost use Rattle.std.specs.Prelude.{◌≡◌, length};
 ghost use Rattle.definition.specs.Limits.{archive_bytes};
 ghost use Rattle.io.specs.Counts.{IsPrefixLen};

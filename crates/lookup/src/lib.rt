@@ -1,4 +1,6 @@
 // Lookups: `match_entry` and `Database::get_bytes` of the Rust.
+#![tactic(auto)]
+
 ghost use Rattle.std.specs.Prelude.{◌≡◌, true, ◌≤◌, min, max, length};
 ghost use Rattle.definition.specs.Limits.{body_bytes};
 ghost use Rattle.definition.specs.Image.{count_of, key_parts, is_key, is_image};

@@ -1,4 +1,6 @@
 // Rows of marks, how they go on over a position, and which of two wins: one turn of the Rust's `check_match`, and its `compare_matches`.
+#![tactic(auto)]
+
 ghost use Rattle.std.specs.Prelude.{◌≡◌, [], ◌+◌, ◌<◌, length, get_or};
 ghost use Rattle.std.proofs.Math.Option.{some, none};
 ghost use Rattle.definition.specs.Matching.{mark_at};

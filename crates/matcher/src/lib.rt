@@ -1,4 +1,6 @@
 // The highest row of a key against a query: the Rust's `check_match`, and `match_entry` for one entry.
+#![tactic(auto)]
+
 ghost use Rattle.std.specs.Prelude.{◌≡◌, true, ◌≤◌, length};
 ghost use Rattle.definition.specs.Limits.{body_bytes};
 ghost use Rattle.definition.specs.Image.{key_parts, is_key};

@@ -1,4 +1,6 @@
 // Carrying an old image over into new buffers, without reading again: the rows of an old image do not say where a line stands.
+#![tactic(auto)]
+
 ghost use Rattle.std.specs.Prelude.{◌≡◌, true, ◌≤◌, length};
 ghost use Rattle.definition.specs.Limits.{old_row_words, contents_words, body_bytes};
 ghost use Rattle.definition.specs.Image.{rows_by, count_of, is_image_by};

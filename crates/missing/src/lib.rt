@@ -1,4 +1,6 @@
 // What an include looks for and finds, and which files are reached through includes.
+#![tactic(auto)]
+
 ghost use Rattle.std.specs.Prelude.{◌≡◌, true, length};
 ghost use Rattle.definition.specs.Archive.{laid_out};
 ghost use Rattle.definition.specs.Limits.{file_name_bytes};

@@ -1,4 +1,6 @@
 // What getres tells of an include that finds no file: a line, in which no name can steer a terminal.
+#![tactic(auto)]
+
 ghost use Rattle.std.specs.Prelude.{◌≡◌, ◌≤◌, length};
 ghost use Rattle.printing.specs.Putting.{Appends};
 ghost use Rattle.missing_lines.specs.Lines.{include_of, absent_line, nowhere_line, Fits, Tells};

@@ -1,4 +1,6 @@
 // Words copied into a buffer, and words and bytes moved towards the front of theirs.
+#![tactic(auto)]
+
 ghost use Rattle.std.specs.Prelude.{◌≡◌, ◌+◌, ◌≤◌, length};
 ghost use Rattle.std.proofs.Math.Seq.{slice};
 ghost use Rattle.definition.specs.Adding.{over};

@@ -1,4 +1,6 @@
 // What an argument of getres says by itself: which option it is, and whether it is a value that an option takes.
+#![tactic(auto)]
+
 ghost use Rattle.std.specs.Prelude.{◌≡◌};
 ghost use Rattle.options.specs.Options.{takes, chain_option, option_of};
 

@@ -1,4 +1,6 @@
 // Entries: the Rust's `parse_entry`, and the row that it makes.
+#![tactic(auto)]
+
 ghost use Rattle.std.specs.Prelude.{◌≡◌};
 ghost use Rattle.byte_classes.specs.Classes.{byte_classes};
 ghost use Rattle.image.specs.Running.{world};

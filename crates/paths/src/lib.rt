@@ -1,4 +1,6 @@
 // The parts of a path: a name's folder, the next part of a text, and the parts `.` and `..`.
+#![tactic(auto)]
+
 ghost use Rattle.std.specs.Prelude.{◌≡◌, length};
 ghost use Rattle.definition.specs.Lists.{ascii, same, take_while};
 ghost use Rattle.definition.specs.Archive.{folder_of};

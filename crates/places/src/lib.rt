@@ -1,4 +1,6 @@
 // Where the line of an entry stands, in words: the main text, or a file of the archive by its name. Document 02 (viii).
+#![tactic(auto)]
+
 ghost use Rattle.std.specs.Prelude.{◌≡◌, true, ◌+◌, ◌≤◌, length};
 ghost use Rattle.definition.specs.Archive.{files_of, laid_out};
 ghost use Rattle.printing.specs.Putting.{Appends};

@@ -1,4 +1,6 @@
 // A line of the common form: names with one binding between them, `:`, and a value. Its key and its value are stored in one pass.
+#![tactic(auto)]
+
 ghost use Rattle.std.specs.Prelude.{◌≡◌, ◌+◌, ◌≤◌, length};
 ghost use Rattle.byte_classes.specs.Classes.{byte_classes};
 ghost use Rattle.plain_keys.specs.Ended.{Ended};

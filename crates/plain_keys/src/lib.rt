@@ -1,5 +1,7 @@
 // Keys of lines of the common form: names with one binding between them, and `:`. The text ends with a newline, and no loop here passes
 // one: so no byte's place is tested.
+#![tactic(auto)]
+
 ghost use Rattle.std.specs.Prelude.{◌≡◌, ◌<◌, length};
 ghost use Rattle.definition.specs.Lists.{take_while};
 ghost use Rattle.definition.specs.Bytes.{is_name};

@@ -1,5 +1,7 @@
 // Lines of the common form, one after another, with the empty lines and comments among them; any other line is left to the code that
 // has all forms. The text ends with a newline and surely has room: so no byte's place is tested.
+#![tactic(auto)]
+
 ghost use Rattle.std.specs.Prelude.{◌≡◌, ◌<◌, length};
 ghost use Rattle.byte_classes.specs.Classes.{byte_classes};
 ghost use Rattle.image.specs.Running.{Room};

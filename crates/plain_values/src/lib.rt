@@ -1,5 +1,7 @@
 // Values of lines of the common form: most are short and plain. The text ends with a newline, and no loop here passes one: so no byte's
 // place is tested.
+#![tactic(auto)]
+
 ghost use Rattle.std.specs.Prelude.{◌≡◌, false, ◌+◌, ◌-◌, ◌≤◌, length, drop, get_or};
 ghost use Rattle.definition.specs.Bytes.{is_blank};
 ghost use Rattle.definition.specs.Text.{after_blanks};

@@ -1,4 +1,6 @@
 // What getres is to do, as its arguments say it: a plan.
+#![tactic(auto)]
+
 ghost use Rattle.std.specs.Prelude.{◌≡◌, ◌<◌};
 ghost use Rattle.plans.specs.Plans.{nothing_asked, given_for, depth_unasked, misunderstood, once, placed, uncompared, unasked, settled, has_operands, is_whole};
 

@@ -1,4 +1,6 @@
 // Bytes put one after another into a lent buffer.
+#![tactic(auto)]
+
 ghost use Rattle.std.specs.Prelude.{◌+◌, ◌≤◌, length};
 ghost use Rattle.printing.specs.Putting.{Appends, decimal};
 

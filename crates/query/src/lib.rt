@@ -1,4 +1,6 @@
 // A query's text split into its names: the Rust's `parse_query`.
+#![tactic(auto)]
+
 ghost use Rattle.std.specs.Prelude.{◌≡◌, ◌≤◌, length};
 ghost use Rattle.definition.specs.Limits.{query_bytes};
 ghost use Rattle.query.specs.Shapes.{bounds_of, parsed_names, kept_starts, kept_lengths, split_names, both_shapes};

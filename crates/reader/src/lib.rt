@@ -1,4 +1,6 @@
 // The reading call.
+#![tactic(auto)]
+
 ghost use Rattle.std.specs.Prelude.{◌≡◌, true, [], ◌∷◌, map, length};
 ghost use Rattle.definition.specs.Limits.{contents_words, body_bytes};
 ghost use Rattle.definition.specs.Archive.{laid_out};

@@ -1,4 +1,6 @@
 // Texts read with a file struck off their archive.
+#![tactic(auto)]
+
 ghost use Rattle.std.specs.Prelude.{◌≡◌, true, map, ◌≤◌, ◌<◌, length};
 ghost use Rattle.definition.specs.Archive.{laid_out, files_of};
 ghost use Rattle.reader_without.specs.Second.{SecondOf};

@@ -1,4 +1,6 @@
 // The readings of a value that a lookup finds: `get_string`, `get_bool` and `get_value` of the Rust, and the value or a default.
+#![tactic(auto)]
+
 ghost use Rattle.std.specs.Prelude.{◌≡◌, ◌+◌, ◌≤◌, length};
 ghost use Rattle.definition.specs.Query.{window};
 ghost use Rattle.definition.specs.Lookup.{get_bytes_within, get_bytes, bytes_at};

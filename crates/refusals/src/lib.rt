@@ -1,4 +1,6 @@
 // The refusals of document 01's table, those of document 02 among them, in words.
+#![tactic(auto)]
+
 ghost use Rattle.std.specs.Prelude.{◌+◌, ◌≤◌, length};
 ghost use Rattle.printing.specs.Putting.{Appends};
 ghost use Rattle.refusals.specs.Refusals.{refusal_of};

@@ -2,6 +2,8 @@
 //
 // For each file it writes the name, how many lines are equal, and the first that differs, if one does. A line that is not built
 // as the README says differs, and so does one that does not end.
+#![tactic(auto)]
+
 mod cases;
 
 use cases::replay_case;

@@ -2,6 +2,8 @@
 //
 // It writes how many lines are equal, and the first that differs, if one does. A line that is not built as it should be differs, and
 // so does one that does not end.
+#![tactic(auto)]
+
 mod cases;
 
 use cases::replay_case;

@@ -1,4 +1,6 @@
 // What getres tells of an answer: the bytes, where they go, and the status.
+#![tactic(auto)]
+
 ghost use Rattle.std.specs.Prelude.{◌≡◌, ◌≤◌, length};
 ghost use Rattle.definition.specs.Limits.{body_bytes};
 ghost use Rattle.lookup.specs.Replies.{LiesIn};

@@ -1,4 +1,6 @@
 // The calls for C, Rust and the tests to link. A slice passes as a pointer and an element count.
+#![tactic(auto)]
+
 mod boards;
 mod comparing;
 mod nesting;

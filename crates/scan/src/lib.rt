@@ -1,4 +1,6 @@
 // Runs of name bytes, and a word at the front of a text: common helpers of the Rust's parser.
+#![tactic(auto)]
+
 ghost use Rattle.std.specs.Prelude.{◌≡◌, length};
 ghost use Rattle.definition.specs.Lists.{take_while};
 ghost use Rattle.definition.specs.Bytes.{is_name};

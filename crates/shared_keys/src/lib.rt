@@ -1,4 +1,6 @@
 // Entries of two images with equal keys. Document 02 (vii).
+#![tactic(auto)]
+
 ghost use Rattle.std.specs.Prelude.{◌≡◌, true, ◌<◌, drop};
 ghost use Rattle.definition.specs.Image.{key_parts, count_of, is_key, is_image};
 ghost use Rattle.definition.specs.Writing.{entries_of_image};

@@ -1,4 +1,6 @@
 // What getres tells of a key that two files of a text have: a line, in which no value can steer a terminal.
+#![tactic(auto)]
+
 ghost use Rattle.std.specs.Prelude.{◌≡◌, ◌≤◌, length};
 ghost use Rattle.printing.specs.Putting.{Appends};
 ghost use Rattle.shared_lines.specs.Lines.{key_of, shared_line, Fits, Room, Tells};

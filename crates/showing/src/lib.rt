@@ -1,4 +1,6 @@
 // An answer as getres shows it: its line, and whether two are the same.
+#![tactic(auto)]
+
 ghost use Rattle.std.specs.Prelude.{◌≡◌, ◌+◌, ◌≤◌, length};
 ghost use Rattle.printing.specs.Putting.{Appends};
 ghost use Rattle.lookup.specs.Replies.{LiesIn};

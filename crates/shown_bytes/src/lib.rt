@@ -1,4 +1,6 @@
 // Bytes put as a terminal may show them, so that no name can steer it.
+#![tactic(auto)]
+
 ghost use Rattle.std.specs.Prelude.{◌≡◌, ◌+◌, ◌≤◌, length};
 ghost use Rattle.printing.specs.Putting.{Appends};
 ghost use Rattle.shown_bytes.specs.Shown.{is_shown, shown_byte, shown};

@@ -1,4 +1,6 @@
 // What is passed over: a line up to its newline, and bytes of one kind. The skippers of the Rust's parser.
+#![tactic(auto)]
+
 ghost use Rattle.std.specs.Prelude.{◌≡◌, ◌+◌, ◌≤◌, eqb, length, drop};
 ghost use Rattle.definition.specs.Lists.{take_while, drop_while};
 ghost use Rattle.definition.specs.Bytes.{is_space, not_newline};

@@ -1,4 +1,6 @@
 // The texts that a reader starts with, chosen from all that it is lent.
+#![tactic(auto)]
+
 ghost use Rattle.std.specs.Prelude.{◌≡◌};
 ghost use Rattle.definition.specs.StartUp.{first_text, second_text};
 ghost use Rattle.sources.specs.Lending.{lending, or_empty, is_text, first_source, second_source, first_at, second_at};

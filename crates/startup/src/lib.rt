@@ -1,4 +1,6 @@
 // What a reader starts with, read: `new_from_default` of the Rust, with all that it reads lent.
+#![tactic(auto)]
+
 ghost use Rattle.std.specs.Prelude.{◌≡◌};
 ghost use Rattle.definition.specs.Reading.{outcome};
 ghost use Rattle.definition.specs.StartUp.{starting};

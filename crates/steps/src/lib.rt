@@ -1,4 +1,6 @@
 // Which text each step of a start-up chain uses, in words.
+#![tactic(auto)]
+
 ghost use Rattle.std.specs.Prelude.{◌+◌, ◌≤◌, length};
 ghost use Rattle.printing.specs.Putting.{Appends};
 ghost use Rattle.steps.specs.Steps.{first_line, second_line, steps_of, steps_bytes, Steps};

@@ -1,4 +1,6 @@
 // Files of recorded answers: read, counted line by line, and told.
+#![tactic(auto)]
+
 ghost use Rattle.std.specs.Prelude.{◌≡◌, length};
 ghost use Rattle.io.specs.Counts.{IsPrefixLen};
 ghost use Rattle.definition.specs.Lists.{zeroes};

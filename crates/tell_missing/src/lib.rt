@@ -1,4 +1,6 @@
 // The includes that find no file, told on standard error: those of the texts of a reading, and of each file that is reached from them.
+#![tactic(auto)]
+
 ghost use Rattle.std.specs.Prelude.{◌≡◌, true, ◌≤◌, length};
 ghost use Rattle.definition.specs.Archive.{laid_out};
 ghost use Rattle.definition.specs.Limits.{archive_bytes};

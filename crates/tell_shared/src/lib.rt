@@ -1,4 +1,6 @@
 // The keys that come through two of the files that the texts of a reading include, told on standard error.
+#![tactic(auto)]
+
 ghost use Rattle.std.specs.Prelude.{◌≡◌, true, ◌≤◌, ◌<◌, length};
 ghost use Rattle.definition.specs.Archive.{laid_out};
 ghost use Rattle.definition.specs.Image.{count_of, is_image};

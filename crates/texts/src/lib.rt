@@ -1,4 +1,6 @@
 // The texts of a reading: whether one is too long, and all of them read one after another.
+#![tactic(auto)]
+
 ghost use Rattle.std.specs.Prelude.{◌≡◌, true, map, length};
 ghost use Rattle.definition.specs.Limits.{contents_words, body_bytes};
 ghost use Rattle.definition.specs.Lists.{any};

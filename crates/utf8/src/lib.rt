@@ -1,4 +1,6 @@
 // Well-formed UTF-8: the Rust's `str::from_utf8`.
+#![tactic(auto)]
+
 ghost use Rattle.std.specs.Prelude.{◌≡◌, List, ◌∷◌, ℕ, ◌≤◌, ◌<◌, length, drop, replicate};
 ghost use Rattle.std.proofs.Math.Option.{some, none};
 ghost use Rattle.definition.specs.Lists.{if◌then◌else◌};

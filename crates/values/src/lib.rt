@@ -1,4 +1,6 @@
 // The value of an entry: the part of the Rust's `parse_entry` after the `:`.
+#![tactic(auto)]
+
 ghost use Rattle.std.specs.Prelude.{◌≡◌, ◌+◌, ◌≤◌, min, length};
 ghost use Rattle.definition.specs.Text.{after_blanks};
 ghost use Rattle.byte_classes.specs.Classes.{byte_classes};

@@ -1,4 +1,6 @@
 // A walk: the entries that align with a query, lowest number first, a step at a time. Document 02 (v).
+#![tactic(auto)]
+
 ghost use Rattle.std.specs.Prelude.{◌≡◌};
 ghost use Rattle.definition.specs.Walking.{walk, walk_start, walk_step};
 ghost use Rattle.walk.specs.Replies.{start_replied, step_replied};

@@ -1,4 +1,6 @@
 // The lines of the entries that a walk lists: number, where the line stands, key and value, where no value can steer a terminal.
+#![tactic(auto)]
+
 ghost use Rattle.std.specs.Prelude.{◌≡◌, true, ◌+◌, ◌≤◌, length};
 ghost use Rattle.definition.specs.Archive.{files_of, laid_out};
 ghost use Rattle.definition.specs.Query.{query_of};

@@ -1,4 +1,6 @@
 // A database written out as a text: document 02 (iv).
+#![tactic(auto)]
+
 ghost use Rattle.std.specs.Prelude.{◌≡◌, true, ◌≤◌, leb, length};
 ghost use Rattle.definition.specs.Image.{is_image};
 ghost use Rattle.definition.specs.Writing.{image_text, filled, writing};

@@ -1,4 +1,6 @@
 // What getres writes beside answers: what went wrong, its help and its status.
+#![tactic(auto)]
+
 use io::write_all;
 use libc::STDERR_FILENO;
 

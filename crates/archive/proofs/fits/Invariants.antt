@@ -1,0 +1,14 @@
+-- `archive::fits` meets its contract. The invariant: the archive fits if the files from j on do. Assumes nothing.
+use mathlib.Core.Path.{◌≡◌, sym, ◌∙◌}
+use Prim.Native.Nat.{◌-◌}
+use native.Mathlib.Omega.{arith}
+use borrow.Author.Rules.{rules}
+use Rattle.laws.proofs.Walked.{fits}
+use Rattle.archive.proofs.Walk.{Standing, fits_left, fits_none, fits_few, fits_first, fits_over, fits_on, fits_end}
+use Rattle.archive.proofs.fits.Given as goal
+
+abbrev pub invariant-loop-j : goal.invariant-loop-j
+invariant-loop-j l = Standing l.archive l.count l.at l.j × (fits l.archive ≡ fits_left l.archive l.count l.at l.j)
+
+abbrev pub decreases-loop-j : goal.decreases-loop-j
+decreases-loop-j l = l.count - l.j

@@ -1,0 +1,22 @@
+-- `blocks::block_has` meets its contract: what the first i bytes have is known. Assumes nothing.
+use mathlib.Core.Path.{◌≡◌, refl}
+use Prim.Native.Nat.{◌-◌, ◌≤◌}
+use native.Mathlib.Omega.{arith}
+use lib.ListN.{take, drop}
+use borrow.Author.Rules.{rules}
+use Rattle.definition.specs.Lists.{any}
+use Rattle.blocks.specs.Either.{either}
+use Rattle.blocks.proofs.Blocks.{bit_of, bit_is, block_more}
+use Rattle.blocks.proofs.block_has.Goals as goal
+
+pub loop-i-init : goal.loop-i-init
+unfolding any
+loop-i-init c = (omega arith, refl)
+
+pub loop-i-preserved : goal.loop-i-preserved
+loop-i-preserved c = (omega arith, block_more c.args.text.now c.args.at c.args.a c.args.b c.loop-i.found c.bit-found.result c.loop-i.i (omega arith) c.loop-i.invariant.1 c.bit-found.ensures)
+
+pub returns : goal.returns
+returns c =
+    let e : c.loop-i.i ≡ 8 = omega arith in
+    rw (c.loop-i.invariant.1, e) (bit_is _)

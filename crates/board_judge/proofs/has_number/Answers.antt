@@ -1,0 +1,21 @@
+-- `board_judge::has_number` meets its contract. The invariant: the slots from i on decide. Assumes nothing.
+use mathlib.Core.Path.{◌≡◌, refl, sym, ◌∙◌}
+use Prim.Native.Nat.{◌-◌}
+use Rattle.board_judge.specs.Slots.{has_number_from}
+use Rattle.board_judge.proofs.Judging.{number_found, number_on, number_none}
+use borrow.Author.Rules.{rules}
+use Rattle.board_judge.proofs.has_number.Goals as goal
+
+pub returns-then-pack_number-number : goal.returns-then-pack_number-number
+returns-then-pack_number-number c =
+    let e = sym c.pack_number.ensures ∙ c.if-pack_number-number.true in
+    sym (sym c.loop-i.invariant ∙ number_found _ _ c.loop-i.i _ c.loop-i-test.true e)
+
+pub loop-i-preserved : goal.loop-i-preserved
+loop-i-preserved c = sym (number_on _ _ c.loop-i.i _ c.loop-i-test.true (λ z. c.if-pack_number-number.false (c.pack_number.ensures ∙ z))) ∙ c.loop-i.invariant
+
+pub returns : goal.returns
+returns c = sym (sym c.loop-i.invariant ∙ number_none _ _ c.loop-i.i _ c.loop-i-test.false)
+
+pub loop-i-init : goal.loop-i-init
+loop-i-init c = refl

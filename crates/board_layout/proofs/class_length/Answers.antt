@@ -1,0 +1,8 @@
+-- `board_layout::class_length` meets its contract. Assumes nothing.
+use native.Mathlib.Omega.{arith}
+use Rattle.definition.specs.Board.{lengths_start}
+use borrow.Author.Rules.{rules}
+use Rattle.board_layout.proofs.class_length.Goals as goal
+
+pub returns : goal.returns
+returns c = rw c.lengths_start-at.ensures at c.number_at.ensures

@@ -1,0 +1,25 @@
+-- `board_report::bits_of` meets its contract: the bits of the queries from q on. Assumes nothing.
+use mathlib.Core.Path.{◌≡◌, refl, sym, ap, ◌∙◌}
+use Prim.Native.Nat.{◌-◌}
+use native.Mathlib.Omega.{arith}
+use lib.ListN.{get_or}
+use Rattle.definition.specs.Board.{changes, lent, slot_start, board_in}
+use Rattle.board_laws.proofs.Calls.{laid}
+use Rattle.board_report.proofs.Reporting.{Bits, bits_first, bits_more, bits_fit, bits_end}
+use borrow.Author.Rules.{rules}
+use Rattle.board_report.proofs.bits_of.Goals as goal
+
+pub loop-q-init : goal.loop-q-init
+loop-q-init c = bits_first _ _
+
+pub changes-requires : goal.changes-requires
+changes-requires c = (c.requires.0, c.requires.1, omega (arith, c.requires.2, c.loop-q.invariant.most, c.loop-q-test.true))
+
+pub with_bit-bits-requires : goal.with_bit-bits-requires
+with_bit-bits-requires c = bits_fit _ _ _ _ c.loop-q.invariant c.loop-q-test.true (omega (arith, c.requires.2, (laid (lent c.args.words.now c.args.bytes.now) c.requires.0).queries_most))
+
+pub loop-q-preserved : goal.loop-q-preserved
+loop-q-preserved c = bits_more _ _ _ _ c.loop-q.invariant c.loop-q-test.true _ (rw c.changes.ensures at c.with_bit-bits.ensures)
+
+pub returns : goal.returns
+returns c = bits_end _ _ _ _ c.loop-q.invariant c.loop-q-test.false

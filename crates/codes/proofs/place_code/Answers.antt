@@ -1,0 +1,25 @@
+-- `codes::place_code` meets its contract. Assumes nothing.
+use mathlib.Core.Path.{refl}
+use Prim.Native.Nat.{◌+◌, ◌≤◌}
+use native.Mathlib.Omega.{arith}
+use Rattle.definition.specs.Limits.{body_bytes}
+use borrow.Author.Rules.{rules}
+use Rattle.codes.proofs.place_code.Goals as goal
+
+pub returns-in-Found : goal.returns-in-Found
+returns-in-Found c = rw c.in-Found.is refl
+
+pub overflow_mul-result : goal.overflow_mul-result
+overflow_mul-result c =
+    let small : c.in-Found.place + c.in-Found.size ≤ body_bytes = rw c.in-Found.is at c.requires in
+    omega (arith, small)
+
+pub overflow_mul-result-in-Found : goal.overflow_mul-result-in-Found
+overflow_mul-result-in-Found c =
+    let small : c.in-Found.place + c.in-Found.size ≤ body_bytes = rw c.in-Found.is at c.requires in
+    omega (arith, small)
+
+pub overflow_add-result : goal.overflow_add-result
+overflow_add-result c =
+    let small : c.in-Found.place + c.in-Found.size ≤ body_bytes = rw c.in-Found.is at c.requires in
+    omega (arith, small)

@@ -1,0 +1,15 @@
+-- `codes::write_code` meets its contract. Assumes nothing.
+use mathlib.Core.Path.{refl}
+use Prim.Native.Nat.{◌≤◌}
+use native.Mathlib.Omega.{arith}
+use Rattle.definition.specs.Limits.{written_bytes}
+use borrow.Author.Rules.{rules}
+use Rattle.codes.proofs.write_code.Goals as goal
+
+pub returns-in-Done : goal.returns-in-Done
+returns-in-Done c = rw c.in-Done.is refl
+
+pub overflow_mul-result : goal.overflow_mul-result
+overflow_mul-result c =
+    let bounded : c.in-Done.size ≤ written_bytes = rw c.in-Done.is at c.requires in
+    omega (arith, bounded)

@@ -1,0 +1,27 @@
+use mathlib.Core.Logic.{⊎_elim}
+use mathlib.Core.Path.{◌∙◌}
+use native.Mathlib.Omega.{arith}
+use lib.ListN.{length}
+use borrow.Author.Rules.{rules}
+use Rattle.laws.proofs.Lists.{length_part_rest}
+use Rattle.components.proofs.Counting.{Counting, counting_first, counting_next, counting_done}
+use Rattle.components.proofs.Verbatim.{flag_odd, flag_one}
+use Rattle.components.proofs.parse_components.Goals as goal
+
+pub returns-then-end-start : goal.returns-then-end-start
+returns-then-end-start c = counting_done c.loop-next.invariant c.next_part-next.ensures c.if-end-start.true
+
+pub loop-next-smaller : goal.loop-next-smaller
+loop-next-smaller c = omega (arith, length_part_rest c.loop-next.rest.now c.next_part-next.result.end, c.next_part-next.ensures.inside)
+
+pub loop-next-preserved : goal.loop-next-preserved
+loop-next-preserved c =
+    counting_next c.loop-next.invariant c.next_part-next.ensures c.if-end-start.false _
+    (⊎_elim (λ w. w.1 ∙ flag_odd c.loop-next.verbatim c.loop-next.count c.next_part-next.result.start w.0.taken) (λ w. w.1 ∙ flag_one c.loop-next.verbatim c.loop-next.count c.next_part-next.result.start w.0.left)
+    c.if-start-ne1.branch-raw)
+
+pub loop-next-init : goal.loop-next-init
+loop-next-init c = counting_first _
+
+pub overflow_sub-result : goal.overflow_sub-result
+overflow_sub-result c = c.loop-next.invariant.left.most

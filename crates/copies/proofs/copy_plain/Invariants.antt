@@ -1,0 +1,19 @@
+-- `copies::copy_plain` meets its contract. Assumes nothing.
+use mathlib.Core.List.{List}
+use mathlib.Core.Path.{◌≡◌, refl}
+use Prim.Native.Nat.{ℕ, ◌+◌, ◌-◌, ◌≤◌}
+use lib.ListN.{length, length-set}
+use borrow.Author.Rules.{rules}
+use Rattle.scan.proofs.Runs.{Passed, passed_more, passed_stop, passed_end}
+use Rattle.copies.specs.Plain.{is_plain}
+use Rattle.copies.proofs.Copying.{Copied, copied_to, copied_byte, plain_byte, newline_ends, backslash_ends}
+use Rattle.copies.proofs.copy_plain.Given as goal
+
+-- what was copied before the loop, whatever it was copied into, is copied further
+abbrev pub invariant-loop-i : goal.invariant-loop-i
+invariant-loop-i l =
+    ((d : List ℕ) → l.at + length l.text ≤ length d → Copied d l.at l.text l.initial.store l.initial.i → Copied d l.at l.text l.store l.i)
+    × Passed is_plain l.text l.i × (length l.store ≡ length l.initial.store)
+
+abbrev pub decreases-loop-i : goal.decreases-loop-i
+decreases-loop-i l = length l.text - l.i

@@ -1,0 +1,12 @@
+-- `escapes::octal_digits` meets its contract. Assumes nothing.
+use Rattle.std.proofs.Common.{◌-◌, ◌≤◌, take, sym, ◌∙◌, arith, rules, ltb-false, ltb-true}
+use Rattle.definition.specs.Bytes.{is_octal}
+use Rattle.scan.proofs.Runs.{Passed, passed_none}
+use Rattle.escapes.proofs.Escapes.{digits_short, digits_stop, digits_more, digits_end}
+use Rattle.escapes.proofs.octal_digits.Given as goal
+
+abbrev pub invariant-loop-n : goal.invariant-loop-n
+invariant-loop-n l = (l.n ≤ 3) × Passed is_octal (take 3 l.text) l.n
+
+abbrev pub decreases-loop-n : goal.decreases-loop-n
+decreases-loop-n l = 3 - l.n

@@ -1,0 +1,18 @@
+-- `image::clear_words` meets its contract. Assumes nothing.
+use Prim.Native.Nat.{◌-◌}
+use borrow.Author.Rules.{rules}
+use lib.ListN.{length}
+use Rattle.image.proofs.Clearing.{Cleared, cleared_first, cleared_more, cleared_all}
+use Rattle.image.proofs.clear_words.Goals as goal
+
+pub loop-i-init : goal.loop-i-init
+loop-i-init c = cleared_first _ _ c.requires
+
+pub loop-i-preserved : goal.loop-i-preserved
+loop-i-preserved c = cleared_more c.loop-i.invariant c.loop-i-test.true
+
+pub shape_of-words : goal.shape_of-words
+shape_of-words c = c.loop-i.invariant.long
+
+pub returns : goal.returns
+returns c = cleared_all c.loop-i.invariant c.loop-i-test.false

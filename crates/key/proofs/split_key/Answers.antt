@@ -1,0 +1,70 @@
+-- `key::split_key` meets its contract. The invariant is `Bounding`. Assumes nothing.
+use Prim.Native.Nat.{◌-◌, ◌≤◌, ◌<◌}
+use native.Mathlib.Omega.{arith}
+use lib.ListN.{length}
+use Rattle.definition.specs.Limits.{most_parts}
+use Rattle.laws.proofs.Keys.{parts_of}
+use Rattle.key.proofs.Bounding.{Bounding, begun, room, next_inside, more, ended}
+use borrow.Author.Rules.{rules}
+use Rattle.key.proofs.split_key.Goals as goal
+
+pub loop-at-init : goal.loop-at-init
+loop-at-init c = begun (parts_of _ c.requires.0) _ c.requires.2
+
+pub loop-at-preserved : goal.loop-at-preserved
+loop-at-preserved c =
+    more (parts_of _ c.requires.0) c.loop-at.invariant c.loop-at-test.true c.part_end-at.result
+    c.part_end-at.ensures
+
+pub overflow_add-count : goal.overflow_add-count
+overflow_add-count c =
+    let small : (c.loop-at.count < most_parts) × (c.part_end-at.result ≤ length c.args.key.now) =
+    let K = parts_of _ c.requires.0 in
+    let f = room K c.loop-at.invariant c.loop-at-test.true in
+    let g = next_inside K c.loop-at.invariant c.loop-at-test.true in
+    (omega (arith, K.few), omega (arith, c.part_end-at.ensures))
+    in
+    omega (arith, small)
+
+pub overflow_cast-bounds : goal.overflow_cast-bounds
+overflow_cast-bounds c =
+    let small : (c.loop-at.count < most_parts) × (c.part_end-at.result ≤ length c.args.key.now) =
+    let K = parts_of _ c.requires.0 in
+    let f = room K c.loop-at.invariant c.loop-at-test.true in
+    let g = next_inside K c.loop-at.invariant c.loop-at-test.true in
+    (omega (arith, K.few), omega (arith, c.part_end-at.ensures))
+    in
+    omega (arith, small, c.requires.1)
+
+pub offset_bounds-bounds-count : goal.offset_bounds-bounds-count
+offset_bounds-bounds-count c =
+    let small : (c.loop-at.count < most_parts) × (c.part_end-at.result ≤ length c.args.key.now) =
+    let K = parts_of _ c.requires.0 in
+    let f = room K c.loop-at.invariant c.loop-at-test.true in
+    let g = next_inside K c.loop-at.invariant c.loop-at-test.true in
+    (omega (arith, K.few), omega (arith, c.part_end-at.ensures))
+    in
+    omega (arith, small)
+
+pub bounds-bounds-count : goal.bounds-bounds-count
+bounds-bounds-count c =
+    let small : (c.loop-at.count < most_parts) × (c.part_end-at.result ≤ length c.args.key.now) =
+    let K = parts_of _ c.requires.0 in
+    let f = room K c.loop-at.invariant c.loop-at-test.true in
+    let g = next_inside K c.loop-at.invariant c.loop-at-test.true in
+    (omega (arith, K.few), omega (arith, c.part_end-at.ensures))
+    in
+    omega (arith, small)
+
+pub loop-at-smaller : goal.loop-at-smaller
+loop-at-smaller c =
+    let small : (c.loop-at.count < most_parts) × (c.part_end-at.result ≤ length c.args.key.now) =
+    let K = parts_of _ c.requires.0 in
+    let f = room K c.loop-at.invariant c.loop-at-test.true in
+    let g = next_inside K c.loop-at.invariant c.loop-at-test.true in
+    (omega (arith, K.few), omega (arith, c.part_end-at.ensures))
+    in
+    omega (arith, small)
+
+pub returns : goal.returns
+returns c = ended (parts_of _ c.requires.0) c.loop-at.invariant c.loop-at-test.false

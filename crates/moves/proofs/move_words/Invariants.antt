@@ -1,0 +1,15 @@
+-- `moves::move_words` meets its contract. Assumes nothing.
+use mathlib.Core.Path.{◌≡◌, refl, ◌∙◌}
+use Prim.Native.Nat.{◌-◌}
+use native.Mathlib.Omega.{arith}
+use lib.ListN.{length, length-set}
+use lib.Seq.{slice, length-slice}
+use Rattle.moves.proofs.Moving.{Stored, stored_first, stored_more, stored_all, moved_fits, moved_at}
+use borrow.Author.Rules.{rules}
+use Rattle.moves.proofs.move_words.Given as goal
+
+abbrev pub invariant-loop-i : goal.invariant-loop-i
+invariant-loop-i l = Stored l.initial.words l.at (slice l.from l.to l.initial.words) l.words l.i × (length l.words ≡ length l.initial.words) × (length (slice l.from l.to l.initial.words) ≡ l.to - l.from)
+
+abbrev pub decreases-loop-i : goal.decreases-loop-i
+decreases-loop-i l = l.size - l.i

@@ -1,0 +1,15 @@
+-- `positions::same_text` meets its contract: from byte i on the two are the same just where they are from the start. Assumes nothing.
+use mathlib.Core.Path.{◌≡◌, sym, ◌∙◌}
+use Prim.Native.Nat.{◌-◌, ◌≤◌, ◌<◌}
+use native.Mathlib.Omega.{arith}
+use lib.ListN.{length, drop}
+use Rattle.definition.specs.Lists.{same}
+use Rattle.laws.proofs.Lists.{same_from_equal, same_from_other, same_from_end, same_lengths}
+use borrow.Author.Rules.{rules}
+use Rattle.positions.proofs.same_text.Given as goal
+
+abbrev pub invariant-loop-i : goal.invariant-loop-i
+invariant-loop-i l = (l.i ≤ length l.a) × (length l.a ≡ length l.b) × (same (drop l.i l.a) (drop l.i l.b) ≡ same l.a l.b)
+
+abbrev pub decreases-loop-i : goal.decreases-loop-i
+decreases-loop-i l = length l.a - l.i

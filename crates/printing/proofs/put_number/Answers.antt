@@ -1,0 +1,11 @@
+-- `printing::put_number` meets its contract. Assumes nothing.
+use Rattle.printing.proofs.Pieces.{piece_of}
+use Rattle.printing.proofs.Numbers.{decimal_is}
+use borrow.Author.Rules.{rules}
+use Rattle.printing.proofs.put_number.Goals as goal
+
+pub put-requires : goal.put-requires
+put-requires c = rw (decimal_is c.args.n _ _ c.ranges.n.fits c.decimal-k.ensures.digits c.decimal-k.ensures.len) c.requires
+
+pub returns : goal.returns
+returns c = piece_of (decimal_is c.args.n _ _ c.ranges.n.fits c.decimal-k.ensures.digits c.decimal-k.ensures.len) c.put.ensures

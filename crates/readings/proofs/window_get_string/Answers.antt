@@ -1,0 +1,14 @@
+-- `readings::window_get_string` meets its contract. Assumes nothing.
+use mathlib.Core.Path.{ap, ◌∙◌}
+use Rattle.definition.specs.Query.{window}
+use Rattle.definition.specs.Value.{as_string, get_string_by}
+use Rattle.lookup.proofs.Looking.{bytes_within}
+use borrow.Author.Rules.{rules}
+use Rattle.readings.proofs.window_get_string.Goals as goal
+
+pub string_of-requires : goal.string_of-requires
+string_of-requires c = bytes_within window _ _ _ _ c.window_get_bytes-found.result c.window_get_bytes-found.ensures
+
+pub returns : goal.returns
+unfolding get_string_by
+returns c = c.string_of.ensures ∙ ap (as_string _) c.window_get_bytes-found.ensures

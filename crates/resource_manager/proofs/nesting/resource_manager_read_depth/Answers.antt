@@ -1,0 +1,10 @@
+-- `resource_manager::nesting::resource_manager_read_depth` meets its contract. Assumes nothing.
+use Rattle.resource_manager.proofs.Fitting.{read_few, read_crosses}
+use borrow.Author.Rules.{rules}
+use Rattle.resource_manager.proofs.nesting.resource_manager_read_depth.Goals as goal
+
+pub read_code-requires : goal.read_code-requires
+read_code-requires c = read_few _ _ _ _ _ _ _ c.read-answer.result c.read-answer.ensures
+
+pub returns : goal.returns
+returns c = read_crosses c.read-answer.result _ _ _ _ c.read-answer.ensures c.read_code.ensures

@@ -1,0 +1,13 @@
+-- `resource_manager::resource_manager_get_bytes` meets its contract. Assumes nothing.
+use mathlib.Core.Path.{ap, ◌∙◌}
+use Rattle.definition.specs.Query.{shell}
+use Rattle.codes.specs.Codes.{place_code}
+use Rattle.resource_manager.proofs.Fitting.{bytes_small}
+use borrow.Author.Rules.{rules}
+use Rattle.resource_manager.proofs.resource_manager_get_bytes.Goals as goal
+
+pub place_code-requires : goal.place_code-requires
+place_code-requires c = bytes_small shell c.args.contents.now c.args.bodies.now c.args.name.now c.args.class.now c.get_bytes-found.result c.get_bytes-found.ensures
+
+pub returns : goal.returns
+returns c = c.place_code.ensures ∙ ap place_code c.get_bytes-found.ensures

@@ -1,0 +1,10 @@
+-- `resource_manager::resource_manager_read_default` meets its contract. Assumes nothing.
+use Rattle.resource_manager.proofs.Fitting.{read_few, read_crosses}
+use borrow.Author.Rules.{rules}
+use Rattle.resource_manager.proofs.resource_manager_read_default.Goals as goal
+
+pub read_code-requires : goal.read_code-requires
+read_code-requires c = read_few _ _ _ _ _ _ _ c.read_default-answer.result c.read_default-answer.ensures
+
+pub returns : goal.returns
+returns c = read_crosses c.read_default-answer.result _ _ _ _ c.read_default-answer.ensures c.read_code.ensures

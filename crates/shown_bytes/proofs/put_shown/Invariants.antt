@@ -1,0 +1,15 @@
+-- `shown_bytes::put_shown` meets its contract. The invariant: what the bytes from here on show is still to be put. Assumes nothing.
+use Prim.Native.Nat.{◌+◌, ◌-◌}
+use native.Mathlib.Omega.{arith}
+use lib.ListN.{length, drop, get_or}
+use borrow.Author.Rules.{rules}
+use Rattle.printing.proofs.Pieces.{Walk, walk_begun, walk_next, walk_room, walk_ended}
+use Rattle.shown_bytes.specs.Shown.{shown_byte, shown}
+use Rattle.shown_bytes.proofs.Showing.{shown_turn, shown_none}
+use Rattle.shown_bytes.proofs.put_shown.Given as goal
+
+abbrev pub invariant-loop-i : goal.invariant-loop-i
+invariant-loop-i l = Walk (shown l.bytes) l.initial.out l.at (shown (drop l.i l.bytes)) l.out l.end
+
+abbrev pub decreases-loop-i : goal.decreases-loop-i
+decreases-loop-i l = length l.bytes - l.i
