@@ -36,3 +36,6 @@ shape_of-packs c = omega (arith, put_long _ _ _ c.requires.1 c.requires.2 _ _ _ 
 
 pub returns : goal.returns
 returns c = put_all _ _ _ c.requires.1 c.requires.2 _ _ _ c.loop-q.invariant c.loop-q-test.false
+
+pub bounds-packs-q : goal.bounds-packs-q
+bounds-packs-q c = omega (arith, put_long _ _ _ c.requires.1 c.requires.2 _ _ _ c.loop-q.invariant, c.loop-q-test.true)

@@ -3,6 +3,7 @@ use Rattle.std.proofs.Common.{ℕ, ◌≤◌, List, length, ⊎_elim, arith, rul
 use borrow.Author.Tests.{eqb-false}
 use Rattle.escapes.proofs.Escapes.{escape_end, escape_itself, escape_newline, escape_joined, escape_other, escape_octal, escape_dropped, escape_kept, digits_few, digits_inside, three_octal, line_over, line_newline, line_goes_on}
 use Rattle.escapes.proofs.parse_escape.Goals as goal
+use Rattle.escapes.proofs.parse_escape.Goals.{then-n-text-via-then-n-text, then-n-text-via-else-n-text+then-text-n-eq10}
 
 pub returns-then-n-eq0 : goal.returns-then-n-eq0
 returns-then-n-eq0 c = escape_other _ _ (omega (arith, c.if-text-eq0)) c.in_default.in_default-own.rest.0.0.1 c.in_default.in_default-own.rest.0.1 c.in_default.in_default-own.rest.1 c.octal_digits-n.ensures c.if-n-eq0.true
@@ -22,7 +23,10 @@ returns-then-n-text c =
     let t = text in
     let h = few.1 in
     escape_dropped _ _ c.octal_digits-n.ensures c.if-n-eq0.false c.if-n-eq3.false
-    (⊎_elim (λ w. line_over t c.octal_digits-n.result w.taken) (λ w. line_newline t c.octal_digits-n.result (omega (arith, w.0)) (eqb-true _ 10 w.2.taken)) c.then-n-text.branch-raw)
+    (elim c.then-n-text.branch [
+      | then-n-text-via-then-n-text w ↦ line_over t c.octal_digits-n.result w.if-n-text.true
+      | then-n-text-via-else-n-text+then-text-n-eq10 w ↦ line_newline t c.octal_digits-n.result (omega (arith, w.if-n-text.false)) w.if-text-n-eq10.true
+    ])
 
 pub returns : goal.returns
 returns c =

@@ -11,3 +11,6 @@ slice_bounds-result-count c = run_inside (eqb _) _ _ c.leading-n.ensures
 
 pub returns : goal.returns
 returns c = (run_rest (eqb _) c.args.text.now _ c.leading-n.ensures, ap (λ (n : ℕ). (c.args.text.ref_ptr.0, n + c.args.text.ref_ptr.1)) c.leading-n.ensures)
+
+pub slice_bounds-result-start : goal.slice_bounds-result-start
+slice_bounds-result-start c = run_inside (eqb _) _ _ c.leading-n.ensures

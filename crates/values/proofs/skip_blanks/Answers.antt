@@ -11,3 +11,6 @@ slice_bounds-result-count c = omega (arith, c.blanks-n.ensures)
 
 pub returns : goal.returns
 returns c = (blanks_left c.args.text.now _ c.blanks-n.ensures, ap (λ (n : ℕ). (c.args.text.ref_ptr.0, n + c.args.text.ref_ptr.1)) c.blanks-n.ensures)
+
+pub slice_bounds-result-start : goal.slice_bounds-result-start
+slice_bounds-result-start c = omega (arith, c.blanks-n.ensures)
