@@ -14,7 +14,7 @@ use Rattle.definition.specs.Parsing.{Parsed, many}
 use Rattle.definition.specs.Bytes.{dot, star, is_binding}
 use Rattle.definition.specs.Text.{Part, part_at}
 use Rattle.definition.specs.Image.{binding_byte, key_of}
-use Rattle.laws.proofs.Lists.{not_both, eqb_sym, and-true, and_both, same_refl, same_eq, same_append, take_while_drop_while, all_take_while, drop_run, part_rest}
+use Rattle.laws.proofs.Lists.{not_both, eqb_sym, and_true, and_both, same_refl, same_eq, same_append, take_while_drop_while, all_take_while, drop_run, part_rest}
 use Rattle.components.specs.Parts.{parts_of, key_first, binding_if, component_text, Parted, bound_first, is_verbatim}
 use Rattle.components.specs.declared.Next.{Next}
 use Rattle.components.proofs.Turns.{past, parts_over, parts_turn, key_turn, bytes_length}
@@ -53,9 +53,9 @@ step : (bs w k v : List ℕ) → all is_binding bs ≡ true → 0 < length w →
 unfolding same all
 step bs [] k v h s f = absurd (omega arith)
 step [] (c ∷ w) k v h s f = rw (binds_not (binding_byte (binding_if (any (eqb star) []))) c (byte_binds (any (eqb star) [])) f) refl
-step (b ∷ []) (c ∷ w) k v h s f = rw (own_byte b (and-true (is_binding b) true h).0) (after_part (c ∷ w) k v)
+step (b ∷ []) (c ∷ w) k v h s f = rw (own_byte b (and_true (is_binding b) true h).0) (after_part (c ∷ w) k v)
 step (b ∷ d ∷ bs) (c ∷ w) k v h s f =
-    let d-binds = (and-true (is_binding d) (all is_binding bs) (and-true (is_binding b) (is_binding d && all is_binding bs) h).1).0 in
+    let d-binds = (and_true (is_binding d) (all is_binding bs) (and_true (is_binding b) (is_binding d && all is_binding bs) h).1).0 in
     rw (eqb_sym c d, binds_not d c d-binds f, ne_eqb (suc (suc (length bs))) 1 (λ e. omega arith)) (and-false (eqb _ b))
 
 one_or_more : (n : ℕ) → 0 < n → eqb n 1 ≡ leb n 1

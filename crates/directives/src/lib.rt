@@ -18,7 +18,7 @@ pub enum Include {
 
 // How many bytes stand before the next `"` or newline.
 fn quoted_length(text: &[u8]) -> usize
-    ensures { result ≡ length (takeWhile inQuotes text.now) }
+    ensures { result ≡ length (take_while in_quotes text.now) }
 {
     let mut i = 0;
     while i < text.len() {

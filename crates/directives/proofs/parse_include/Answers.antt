@@ -56,3 +56,12 @@ overflow_sub-result c =
     (starts_yes (ascii "\"") _ c.starts_with-2.result c.starts_with-2.ensures (not-false _ c.if-not-starts_with-2.false-raw))
     in
     quote-in.left.most
+
+pub slice_bounds-skip_spaces-start : goal.slice_bounds-skip_spaces-start
+slice_bounds-skip_spaces-start c = (starts_yes (ascii "include") _ c.starts_with.result c.starts_with.ensures (not-false _ c.if-not-starts_with.false-raw)).1
+
+pub slice_bounds-name-start : goal.slice_bounds-name-start
+slice_bounds-name-start c = (starts_yes (ascii "\"") _ c.starts_with-2.result c.starts_with-2.ensures (not-false _ c.if-not-starts_with-2.false-raw)).1
+
+pub slice_bounds-starts_with-start : goal.slice_bounds-starts_with-start
+slice_bounds-starts_with-start c = run_inside in_quotes _ _ c.quoted_length-n.ensures

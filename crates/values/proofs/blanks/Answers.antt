@@ -10,6 +10,7 @@ use borrow.Author.Rules.{rules}
 use Rattle.definition.specs.Bytes.{is_blank}
 use Rattle.values.proofs.Skipping.{Dropping, dropping_none, dropping_blank, dropping_other, dropping_last, dropping_kept, dropping_joined, dropping_end}
 use Rattle.values.proofs.blanks.Goals as goal
+use Rattle.values.proofs.blanks.Goals.{then-c-ne92-via-then-c-ne92, then-c-ne92-via-else-c-ne92+then-text-i-lt2, then-c-ne92-via-else-c-ne92+else-text-i-lt2+then-text-i-ne10}
 
 pub loop-i-preserved-then-is_blank : goal.loop-i-preserved-then-is_blank
 loop-i-preserved-then-is_blank c = dropping_blank c.loop-i.invariant c.loop-i-test.true (sym c.is_blank.ensures ∙ c.if-is_blank.true)
@@ -21,9 +22,12 @@ pub returns-then-c-ne92 : goal.returns-then-c-ne92
 returns-then-c-ne92 c =
     let no-blank : is_blank (get_or c.args.text.now c.loop-i.i 0) ≡ false = sym c.is_blank.ensures ∙ c.if-is_blank.false in
     let b = no-blank in
-    ⊎_elim (λ w. dropping_other c.loop-i.invariant c.loop-i-test.true b w.taken)
-    (⊎_elim (λ w. dropping_last c.loop-i.invariant c.loop-i-test.true b (ltb-true _ 2 w.1.taken)) (λ w. dropping_kept c.loop-i.invariant c.loop-i-test.true b (ltb-false _ 2 w.1.left) (eqb-false _ 10 (not-true _ w.3.taken))))
-    c.then-c-ne92.branch-raw
+    elim c.then-c-ne92.branch [
+      then-c-ne92-via-then-c-ne92 w ↦ dropping_other c.loop-i.invariant c.loop-i-test.true b w.if-c-ne92.true
+    | then-c-ne92-via-else-c-ne92+then-text-i-lt2 w ↦ dropping_last c.loop-i.invariant c.loop-i-test.true b w.if-text-i-lt2.true
+    | then-c-ne92-via-else-c-ne92+else-text-i-lt2+then-text-i-ne10 w ↦
+        dropping_kept c.loop-i.invariant c.loop-i-test.true b w.if-text-i-lt2.false w.if-text-i-ne10.true
+    ]
 
 pub loop-i-preserved : goal.loop-i-preserved
 loop-i-preserved c =

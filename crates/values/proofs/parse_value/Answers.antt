@@ -18,7 +18,7 @@ overflow_add-i-in-Byte c =
     let run : Decoding text c.args.store.now c.args.at c.copy_plain-n.new.store (c.loop-i.end + c.copy_plain-n.result) behind = run_more c.loop-i.invariant _ _ c.smaller-most.ensures c.copy_plain-n.ensures.0 c.copy_plain-n.ensures.1 in
     let piece-in : IsPiece (drop behind text) c.parse_escape-piece.result = rw (escaped _ _ c.if-i-text.false c.if-c-ne92.false) at (answer_piece _ c.parse_escape-piece.ensures) in
     let byte-in : Yields (drop behind text) (c.in-Byte.given ∷ []) c.in-Byte.n × (1 ≤ c.in-Byte.n) = rw c.in-Byte.is at piece-in in
-    omega (arith, piece_fits run byte-in.0, c.good.1.0.0)
+    omega (arith, piece_fits run byte-in.0)
 
 pub loop-i-smaller-in-Byte : goal.loop-i-smaller-in-Byte
 loop-i-smaller-in-Byte c =
@@ -36,7 +36,7 @@ overflow_add-i-in-Drop c =
     let run : Decoding text c.args.store.now c.args.at c.copy_plain-n.new.store (c.loop-i.end + c.copy_plain-n.result) behind = run_more c.loop-i.invariant _ _ c.smaller-most.ensures c.copy_plain-n.ensures.0 c.copy_plain-n.ensures.1 in
     let piece-in : IsPiece (drop behind text) c.parse_escape-piece.result = rw (escaped _ _ c.if-i-text.false c.if-c-ne92.false) at (answer_piece _ c.parse_escape-piece.ensures) in
     let drop-in : Yields (drop behind text) [] c.in-Drop.n × (1 ≤ c.in-Drop.n) = rw c.in-Drop.is at piece-in in
-    omega (arith, piece_fits run drop-in.0, c.good.1.0.0)
+    omega (arith, piece_fits run drop-in.0)
 
 pub loop-i-smaller : goal.loop-i-smaller
 loop-i-smaller c =
