@@ -86,7 +86,7 @@ writings = refl
 no_entries : ℕ → Arrival
 no_entries n = record { number = n; contents = 0 ∷ 0 ∷ contents; bodies = bodies }
 
-noBoards :
+no_boards :
     -- packs have numbers of their own, none of them zero, and images
     (are_slots (no_entries 5 ∷ no_entries 6 ∷ []) ≡ true)
     × (are_slots (no_entries 5 ∷ no_entries 5 ∷ []) ≡ false)
@@ -97,14 +97,14 @@ noBoards :
     × (have_room (lent (0 ∷ 1 ∷ 1025 ∷ 0 ∷ []) []) 0 ≡ false)
     × (have_room (lent (0 ∷ 1 ∷ 0 ∷ 1025 ∷ []) []) 0 ≡ false)
 unfolding definition contents bodies no_image no_entries
-noBoards = (refl, refl, refl, refl, refl, refl, refl)
+no_boards = (refl, refl, refl, refl, refl, refl, refl)
 
 -- so many packs and queries
 many : ℕ → ℕ → Lent
 many p q = lent (p ∷ q ∷ replicate 32880 0) (replicate 589824 7)
 
-tooMany :
+too_many :
     (is_board (many 0 32) ≡ true)
     × (is_board (many 17 0) ≡ false)
 unfolding definition many
-tooMany = (refl, refl)
+too_many = (refl, refl)
