@@ -1,6 +1,5 @@
 -- `board_layout::body_start` meets its contract. Assumes nothing.
 use native.Mathlib.Omega.{arith}
-use borrow.Author.Rules.{rules}
 use Rattle.definition.specs.Board.{body_start}
 use Rattle.board_layout.proofs.body_start.Goals as goal
 

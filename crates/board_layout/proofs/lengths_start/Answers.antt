@@ -1,6 +1,5 @@
 -- `board_layout::lengths_start` meets its contract. Assumes nothing.
 use native.Mathlib.Omega.{arith}
-use borrow.Author.Rules.{rules}
 use Rattle.definition.specs.Board.{lengths_start}
 use Rattle.board_layout.proofs.lengths_start.Goals as goal
 

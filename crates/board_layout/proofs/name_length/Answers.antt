@@ -1,5 +1,4 @@
 -- `board_layout::name_length` meets its contract. Assumes nothing.
-use native.Mathlib.Omega.{arith}
 use Rattle.definition.specs.Board.{lengths_start}
 use borrow.Author.Rules.{rules}
 use Rattle.board_layout.proofs.name_length.Goals as goal

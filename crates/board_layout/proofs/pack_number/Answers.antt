@@ -4,7 +4,6 @@ use Prim.Native.Nat.{ℕ}
 use native.Mathlib.Omega.{arith}
 use lib.ListN.{get_or}
 use Rattle.definition.specs.Board.{slot_start}
-use borrow.Author.Rules.{rules}
 use Rattle.board_layout.proofs.pack_number.Goals as goal
 
 pub offset_bounds-words-at : goal.offset_bounds-words-at

@@ -2,7 +2,6 @@
 use native.Mathlib.Omega.{arith}
 use Rattle.definition.specs.Board.{text_start}
 use Rattle.board_layout.proofs.Parts.{class_part, room_lengths}
-use borrow.Author.Rules.{rules}
 use Rattle.board_layout.proofs.query_class.Goals as goal
 
 pub overflow_add-first : goal.overflow_add-first

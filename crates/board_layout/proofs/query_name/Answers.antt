@@ -2,7 +2,6 @@
 use native.Mathlib.Omega.{arith}
 use Rattle.definition.specs.Board.{text_start}
 use Rattle.board_layout.proofs.Parts.{name_part, room_lengths}
-use borrow.Author.Rules.{rules}
 use Rattle.board_layout.proofs.query_name.Goals as goal
 
 pub overflow_add-next : goal.overflow_add-next

@@ -1,6 +1,5 @@
 -- `board_layout::slot_start` meets its contract. Assumes nothing.
 use native.Mathlib.Omega.{arith}
-use borrow.Author.Rules.{rules}
 use Rattle.definition.specs.Board.{slot_start}
 use Rattle.board_layout.proofs.slot_start.Goals as goal
 

@@ -1,6 +1,5 @@
 -- `board_layout::text_start` meets its contract. Assumes nothing.
 use native.Mathlib.Omega.{arith}
-use borrow.Author.Rules.{rules}
 use Rattle.definition.specs.Board.{text_start}
 use Rattle.board_layout.proofs.text_start.Goals as goal
 
