@@ -1,4 +1,4 @@
-// A reader read to its end; why the system refuses, told in words.
+// A file opened, a reader read to its end; why the system refuses, told in words.
 #![tactic(auto)]
 
 ghost use Rattle.std.specs.Prelude.{◌<◌, ◌≤◌, take, length, IfOk};
@@ -7,13 +7,22 @@ ghost use Rattle.std.specs.Io.KnownBytes.{Consumes, IsAtEnd};
 
 use std::fmt;
 use std::fmt::Write;
-use std::io::{Error, Print, Read, Result};
+use std::fs::File;
+use std::io::{Error, ErrorKind, Print, Read, Result};
 
 // How many bytes were read, or that the input cannot be read.
 #[derive(Drop)]
 pub struct Input {
     pub size: usize,
     pub failed: bool,
+}
+
+// Opens a file for reading. The system's library takes a path as text: one that is not UTF-8 opens nothing.
+pub fn open(rt: &HostRuntime, path: &[u8]) -> Result<File> {
+    match std::str::from_utf8(path) {
+        Ok(path) => File::open(rt, path),
+        Err(_) => Err(Error::from(ErrorKind::InvalidFilename)),
+    }
 }
 
 // Reads until the end, or until `buffer` is full: a caller lends one byte more than it takes, so that what fills the buffer is too long.
@@ -57,7 +66,7 @@ impl fmt::Write for Words {
     }
 }
 
-// Where the last bracket opens, with the blank before it: there an error's number follows its words.
+// Where the last bracket opens, with the blank before it: there the number of a system's error follows its words.
 fn number_start(text: &[u8]) -> usize
     ensures { IsPrefixLen result text.now }
 {
@@ -77,7 +86,10 @@ pub fn fail(rt: &HostRuntime, what: &[u8], error: Error) {
     };
     let _ = write!(words, "{error}");
     let size = words.size;
-    let n = number_start(&words.bytes[..size]);
+    let n = match error.raw_os_error() {
+        Some(_) => number_start(&words.bytes[..size]),
+        None => size,
+    };
     let err = rt.stderr();
     let _ = err.write_all(what);
     let _ = err.write_all(b": ");
