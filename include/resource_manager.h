@@ -3,7 +3,7 @@
  * board of packs that come and go, each an image, with the answers of its watched queries.
  *
  * The functions stand in the static library libresource_manager.a, for x86-64 Linux. Their contracts, which
- * crates/resource_manager states and proves, are here in words. They allocate nothing, keep nothing between calls,
+ * crates/resource_manager_c states and proves, are here in words. They allocate nothing, keep nothing between calls,
  * call no function of the host but memcpy and memset, and may run in several threads at once on buffers of their own.
  * A stack of 64 kilobytes is enough for each, which is tested and not proved.
  *
