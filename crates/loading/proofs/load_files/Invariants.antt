@@ -12,7 +12,7 @@ use borrow.Author.Rules.{rules}
 use Rattle.loading.proofs.load_files.Given as goal
 
 abbrev pub invariant-loop-i : goal.invariant-loop-i
-invariant-loop-i l = (archive_bytes ≡ length l.initial.i) × Holds l.initial.i l.plan
+invariant-loop-i l = (archive_bytes ≡ length l.archive) × Holds l.archive l.size
 
 abbrev pub decreases-loop-i : goal.decreases-loop-i
-decreases-loop-i l = l.initial.size - l.size
+decreases-loop-i l = l.count - l.i

@@ -3,7 +3,7 @@ use Rattle.std.proofs.Common.{◌≤◌, length, sym, arith, length-take-le, rul
 use Rattle.replay.proofs.replay_files.Given as goal
 
 abbrev pub invariant-loop-rest : goal.invariant-loop-rest
-invariant-loop-rest l = length l.total ≤ length l.rt
+invariant-loop-rest l = length l.rest ≤ length l.names
 
 abbrev pub decreases-loop-rest : goal.decreases-loop-rest
-decreases-loop-rest l = length l.total
+decreases-loop-rest l = length l.rest

@@ -8,7 +8,7 @@ use Rattle.missing.specs.Reaching.{Waiting}
 use Rattle.tell_missing.proofs.look_through.Given as goal
 
 abbrev pub invariant-loop-start : goal.invariant-loop-start
-invariant-loop-start l = Waiting (length l.folder) l.initial.from
+invariant-loop-start l = Waiting (length l.archive) l.more
 
 abbrev pub decreases-loop-start : goal.decreases-loop-start
-decreases-loop-start l = length l.place - l.more
+decreases-loop-start l = length l.text - l.from

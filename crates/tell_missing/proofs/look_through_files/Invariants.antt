@@ -9,7 +9,7 @@ use Rattle.missing.specs.Reaching.{stands_in, Waiting}
 use Rattle.tell_missing.proofs.look_through_files.Given as goal
 
 abbrev pub invariant-loop-i : goal.invariant-loop-i
-invariant-loop-i l = Waiting (length l.classes) l.initial.i
+invariant-loop-i l = Waiting (length l.archive) l.more
 
 abbrev pub decreases-loop-i : goal.decreases-loop-i
-decreases-loop-i l = archive_files - l.more
+decreases-loop-i l = archive_files - l.i

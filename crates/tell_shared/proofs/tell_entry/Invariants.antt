@@ -12,4 +12,4 @@ abbrev pub invariant-loop-next : goal.invariant-loop-next
 invariant-loop-next l = Unit {0}
 
 abbrev pub decreases-loop-next : goal.decreases-loop-next
-decreases-loop-next l = most_entries - l.initial.next
+decreases-loop-next l = most_entries - l.next
