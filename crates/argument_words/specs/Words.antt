@@ -20,7 +20,7 @@ format_of a =
     if same a (ascii "32") then 32 else
     0
 
--- a number up to 2^63, or `noDepth` for anything else
+-- a number up to 2^63, or `no_depth` for anything else
 abbrev pub no_depth : ℕ
 no_depth = 18446744073709551615
 

@@ -59,7 +59,7 @@ pub record Beats (keys : List (List Part)) (qs : List Position) (i : ℕ) : Type
   pub before : (j : ℕ) (other : List ℕ) → j < i → Ranks (get_or keys j []) qs other → lower row other ≡ false
   pub after : (j : ℕ) (other : List ℕ) → i < j → j < length keys → Ranks (get_or keys j []) qs other → lower other row ≡ true
 
--- in a list exactly one entry beats the rest if any aligns, else none: a law of the crate `laws` (Ranking.antt: `one-beats`)
+-- in a list exactly one entry beats the rest if any aligns, else none: a law of the crate `laws` (Ranking.antt: `one_beats`)
 pub record OneBeats (keys : List (List Part)) (qs : List Position) : Type 0 where
   pub if_any : (j : ℕ) (row : List ℕ) → j < length keys → Aligned (get_or keys j []) qs row
       → (i : ℕ) × Beats keys qs i × ((k : ℕ) → Beats keys qs k → k ≡ i)

@@ -107,10 +107,10 @@ module _ {A : Type 0} where
 
 pub data Number : Type 0 where
   number : ℤ → Number
-  not_aNumber : Number
+  not_a_number : Number
 
 unfoldable pub number_of : Option ℤ → Number
-number_of none = not_aNumber
+number_of none = not_a_number
 number_of (some z) = number z
 
 -- the bytes of a reply, or else the default's; none and refusals show the default

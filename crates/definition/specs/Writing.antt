@@ -108,7 +108,7 @@ SameText =
     → is_image contents' bodies' ≡ true
     → (image_text contents bodies ≡ image_text contents' bodies') ↔ SameEntries contents bodies contents' bodies'
 
--- no image's text is longer than `writtenBytes`, and some image's is just that long
+-- no image's text is longer than `written_bytes`, and some image's is just that long
 abbrev pub LongestText : Type 0
 LongestText =
     ((contents bodies : List ℕ) → is_image contents bodies ≡ true → length (image_text contents bodies) ≤ written_bytes)

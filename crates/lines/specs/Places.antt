@@ -25,7 +25,7 @@ unfoldable pub resource_in : List ℕ → Option (List ℕ) → Line
 resource_in t none = Skip (line_length t)
 resource_in t (some u) = Entry (length t - length u) (length (parts_of t)) (length (key_first t)) (is_verbatim t)
 
--- as lineAt, which has the line's bytes
+-- as line_at, which has the line's bytes
 unfoldable pub line_in : List ℕ → Line
 line_in [] = Skip 0
 line_in (c ∷ t) =
