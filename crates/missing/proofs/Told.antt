@@ -4,11 +4,10 @@ use mathlib.Core.Bool.{Bool, true, false}
 use mathlib.Core.List.{List, [], ◌∷◌, ◌++◌, map}
 use mathlib.Core.Path.{◌≡◌, refl, ◌∙◌}
 use Prim.Native.Nat.{ℕ}
-use lib.ListN.{drop}
-use Rattle.definition.specs.Lists.{filter}
+use Rattle.definition.specs.Lists.{if◌then◌else◌, filter}
 use Rattle.definition.specs.Archive.{File, files_of}
 use Rattle.include_lines.specs.Includes.{includes_of}
-use Rattle.missing.specs.Missing.{Seen, seen, is_missing, told, missing_of}
+use Rattle.missing.specs.Missing.{seen, is_missing, told, missing_of}
 use Rattle.missing.specs.Looking.{saying, Looks}
 use Rattle.missing.specs.declared.Look.{Look}
 
