@@ -5,7 +5,6 @@ use mathlib.Core.Bool.{Bool}
 use mathlib.Core.Path.{◌≡◌, refl, sym, ap, ◌∙◌}
 use Rattle.plans.specs.Plans.{to_write, to_list, misunderstood}
 use Rattle.arguments.specs.Planning.{with_flag}
-use borrow.Author.Rules.{rules}
 use Rattle.arguments.proofs.with_flag.Goals as goal
 
 pub returns-then-what-eq-HELP : goal.returns-then-what-eq-HELP

@@ -5,7 +5,6 @@ use mathlib.Core.Path.{◌≡◌, refl, sym, ◌∙◌}
 use Prim.Native.Nat.{ℕ}
 use Rattle.definition.specs.Lists.{ascii, same}
 use Rattle.options.specs.Options.{chain_option}
-use borrow.Author.Rules.{rules}
 use Rattle.options.proofs.chain_option.Goals as goal
 
 pub returns-then-is_word : goal.returns-then-is_word

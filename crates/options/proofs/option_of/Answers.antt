@@ -5,7 +5,6 @@ use mathlib.Core.Path.{◌≡◌, refl, sym, ◌∙◌}
 use Prim.Native.Nat.{ℕ}
 use Rattle.definition.specs.Lists.{ascii, same}
 use Rattle.options.specs.Options.{option_of}
-use borrow.Author.Rules.{rules}
 use Rattle.options.proofs.option_of.Goals as goal
 
 pub returns-then-is_word : goal.returns-then-is_word
