@@ -4,7 +4,7 @@ use mathlib.Core.Bool.{Bool, true, false}
 use mathlib.Core.List.{List, [], ◌∷◌, ◌++◌, map}
 use mathlib.Core.Path.{◌≡◌, refl, ◌∙◌}
 use Prim.Native.Nat.{ℕ}
-use Rattle.definition.specs.Lists.{if◌then◌else◌, filter}
+use Rattle.definition.specs.Lists.{filter}
 use Rattle.definition.specs.Archive.{File, files_of}
 use Rattle.include_lines.specs.Includes.{includes_of}
 use Rattle.missing.specs.Missing.{seen, is_missing, told, missing_of}
