@@ -1,18 +1,19 @@
 -- What the parses of name and class say of the query. Assumes nothing.
+use Rattle.std.specs.Prelude.{if◌then◌else◌}
 use mathlib.Core.Bool.{Bool, true, false, ◌||◌}
-use mathlib.Core.List.{List, [], map}
+use mathlib.Core.List.{List, map}
 use mathlib.Core.Option.{Option, some, none}
-use mathlib.Core.Path.{◌≡◌, refl, sym, ap, subst, ◌∙◌}
+use mathlib.Core.Path.{◌≡◌, refl, sym, ap, ◌∙◌}
 use Prim.Native.Nat.{ℕ, ◌≤◌, ◌<◌}
 use native.Mathlib.Omega.{arith}
 use lib.Dec.{ltb}
-use lib.ListN.{length, get_or, take, length-map}
+use lib.ListN.{length, take, length-map}
 use lib.Seq.{take_all}
 use borrow.Author.Tests.{lt-ltb, le-ltb, ltb-false}
-use Rattle.definition.specs.Lists.{if◌then◌else◌, take_while, zeroes}
+use Rattle.definition.specs.Lists.{take_while, zeroes}
 use Rattle.definition.specs.Limits.{query_bytes, query_parts}
 use Rattle.definition.specs.Bytes.{is_name}
-use Rattle.definition.specs.Query.{Position, Query, positions, malformed, past_limit, positions_of, names_of, Bounds, counted_query, query_within, shell}
+use Rattle.definition.specs.Query.{Position, positions, malformed, past_limit, positions_of, names_of, Bounds, counted_query, query_within, shell}
 use Rattle.query.specs.Splits.{part_starts, name_from, length_from, names_in, Inside}
 use Rattle.query.specs.Shapes.{bounds_of, counted_shape, shape_within, count_in, parsed_names, kept_over, found_starts, kept_starts, kept_lengths, split_names, both_shapes, shaped}
 use Rattle.query.specs.declared.Shape.{Shape}

@@ -1,11 +1,9 @@
 -- `key_judge::all_links` meets its contract. The invariant: the pairs before `at` may stand. Assumes nothing.
-use mathlib.Core.Bool.{true}
-use mathlib.Core.Path.{◌≡◌, refl}
-use Prim.Native.Nat.{ℕ, ◌+◌, ◌-◌, ◌<◌}
+use mathlib.Core.Path.{refl}
+use Prim.Native.Nat.{ℕ, ◌+◌, ◌-◌}
 use native.Mathlib.Omega.{arith}
 use lib.ListN.{length, get_or}
 use borrow.Author.Tests.{not-false}
-use borrow.Author.Rules.{rules}
 use Rattle.laws.proofs.Lists.{not_both}
 use Rattle.key_judge.specs.Pairs.{may_follow}
 use Rattle.key_judge.proofs.Pairs.{run_next}

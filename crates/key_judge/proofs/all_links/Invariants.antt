@@ -1,14 +1,9 @@
 -- `key_judge::all_links` meets its contract. The invariant: the pairs before `at` may stand. Assumes nothing.
 use mathlib.Core.Bool.{true}
-use mathlib.Core.Path.{◌≡◌, refl}
+use mathlib.Core.Path.{◌≡◌}
 use Prim.Native.Nat.{ℕ, ◌+◌, ◌-◌, ◌<◌}
-use native.Mathlib.Omega.{arith}
-use lib.ListN.{length, get_or}
-use borrow.Author.Tests.{not-false}
-use borrow.Author.Rules.{rules}
-use Rattle.laws.proofs.Lists.{not_both}
+use lib.ListN.{get_or}
 use Rattle.key_judge.specs.Pairs.{may_follow}
-use Rattle.key_judge.proofs.Pairs.{run_next}
 use Rattle.key_judge.proofs.all_links.Given as goal
 
 abbrev pub invariant-loop-at : goal.invariant-loop-at

@@ -1,13 +1,8 @@
 -- `key_judge::count_bindings` meets its contract. The invariant: those counted and those left are all. Assumes nothing.
 use mathlib.Core.Path.{◌≡◌}
 use Prim.Native.Nat.{◌+◌, ◌-◌, ◌≤◌}
-use native.Mathlib.Omega.{arith}
-use lib.ListN.{length, get_or, drop}
-use borrow.Author.Rules.{rules}
-use Rattle.definition.specs.Lists.{if◌then◌else◌}
-use Rattle.definition.specs.Bytes.{is_binding}
+use lib.ListN.{length, drop}
 use Rattle.key_judge.specs.Pairs.{bindings_in}
-use Rattle.key_judge.proofs.Pairs.{bindings_more, bindings_end, bit_most}
 use Rattle.key_judge.proofs.count_bindings.Given as goal
 
 abbrev pub invariant-loop-i : goal.invariant-loop-i

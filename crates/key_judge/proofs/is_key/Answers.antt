@@ -1,6 +1,5 @@
 -- `key_judge::is_key` meets its contract. Assumes nothing.
 use mathlib.Core.Path.{sym}
-use borrow.Author.Rules.{rules}
 use Rattle.key_judge.proofs.is_key.Goals as goal
 
 pub returns-then-is_plain_key : goal.returns-then-is_plain_key

@@ -1,7 +1,6 @@
 -- `key_judge::may_follow` meets its contract. Assumes nothing.
 use mathlib.Core.Path.{refl}
 use Rattle.key_judge.specs.Pairs.{may_follow}
-use borrow.Author.Rules.{rules}
 use Rattle.key_judge.proofs.may_follow.Goals as goal
 
 pub returns : goal.returns

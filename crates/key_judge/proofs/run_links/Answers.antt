@@ -1,10 +1,7 @@
 -- `key_judge::run_links` meets its contract. The invariant: if nothing was found amiss, the pairs passed may stand. Assumes nothing.
-use mathlib.Core.Bool.{true}
-use mathlib.Core.Path.{◌≡◌}
-use Prim.Native.Nat.{ℕ, ◌+◌, ◌-◌, ◌≤◌, ◌<◌}
+use Prim.Native.Nat.{ℕ, ◌+◌}
 use native.Mathlib.Omega.{arith}
 use lib.ListN.{get_or}
-use borrow.Author.Rules.{rules}
 use Rattle.key_judge.specs.Pairs.{may_follow}
 use Rattle.key_judge.proofs.Pairs.{and_next}
 use Rattle.key_judge.proofs.run_links.Goals as goal

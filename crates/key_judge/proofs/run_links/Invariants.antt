@@ -2,11 +2,8 @@
 use mathlib.Core.Bool.{true}
 use mathlib.Core.Path.{◌≡◌}
 use Prim.Native.Nat.{ℕ, ◌+◌, ◌-◌, ◌≤◌, ◌<◌}
-use native.Mathlib.Omega.{arith}
 use lib.ListN.{get_or}
-use borrow.Author.Rules.{rules}
 use Rattle.key_judge.specs.Pairs.{may_follow}
-use Rattle.key_judge.proofs.Pairs.{and_next}
 use Rattle.key_judge.proofs.run_links.Given as goal
 
 abbrev pub invariant-loop-i : goal.invariant-loop-i

@@ -1,15 +1,13 @@
 -- `key_judge::walk_key` meets its contract. The invariant: the whole is a key if what is left ends one. Assumes nothing.
-use mathlib.Core.Logic.{⊎_elim}
-use mathlib.Core.Path.{◌≡◌, sym, ◌∙◌}
+use mathlib.Core.Path.{sym, ◌∙◌}
 use Prim.Native.Nat.{◌≤◌}
 use native.Mathlib.Omega.{arith}
 use lib.ListN.{length}
 use borrow.Author.Tests.{not-true, not-false}
-use borrow.Author.Rules.{rules}
-use Rattle.definition.specs.Image.{is_key}
 use Rattle.laws.proofs.Lists.{length_part_rest}
-use Rattle.key_judge.proofs.Keys.{ends_key, key_whole, key_short, key_unbound, key_full, past, Begins, run_inside, last_name, last_wild, none_here, wild_on, name_on}
+use Rattle.key_judge.proofs.Keys.{key_whole, key_short, key_unbound, key_full, past, Begins, run_inside, last_name, last_wild, none_here, wild_on, name_on}
 use Rattle.key_judge.proofs.walk_key.Goals as goal
+use Rattle.key_judge.proofs.walk_key.Goals.{then-n-eq0+else-component-ne63, else-n-eq0}
 
 pub loop-parts-init : goal.loop-parts-init
 loop-parts-init c = key_whole _
@@ -32,7 +30,7 @@ returns-then-component-ne63 c =
       run = c.next_component-n.ensures;
     }
     in
-    sym (c.loop-parts.inv ∙ none_here begins c.loop-parts.parts c.if-n-eq0.true (λ e. omega (arith, c.if-component-ne63.true)))
+    sym (c.loop-parts.invariant ∙ none_here begins c.loop-parts.parts c.if-n-eq0.true (λ e. omega (arith, c.if-component-ne63.true)))
 
 pub returns-then-n-component : goal.returns-then-n-component
 returns-then-n-component c =
@@ -45,10 +43,11 @@ returns-then-n-component c =
     in
     let s = begins in
     sym
-    (c.loop-parts.inv
-    ∙ ⊎_elim (λ w. last_wild s c.loop-parts.parts (omega (arith, w.2.left)) (sym w.3 ∙ c.if-n-component.true))
-    (λ w. last_name s c.loop-parts.parts w.0.left (sym w.1 ∙ c.if-n-component.true) (omega (arith, c.loop-parts-test.taken)))
-    c.if-n-eq0.branch-raw)
+    (c.loop-parts.invariant
+    ∙ elim c.if-n-eq0.branch [
+      | then-n-eq0+else-component-ne63 w ↦ last_wild s c.loop-parts.parts (omega (arith, w.if-component-ne63.false)) (sym w.n-is ∙ c.if-n-component.true)
+      | else-n-eq0 w ↦ last_name s c.loop-parts.parts w.if-n-eq0.false (sym w.n-is ∙ c.if-n-component.true) (omega (arith, c.loop-parts-test.true))
+    ])
 
 pub loop-parts-smaller : goal.loop-parts-smaller
 loop-parts-smaller c =
@@ -71,10 +70,11 @@ loop-parts-preserved c =
     }
     in
     let s = begins in
-    c.loop-parts.inv
-    ∙ ⊎_elim (λ w. rw w.3 (wild_on s c.loop-parts.parts (omega (arith, w.2.left))))
-    (λ w. rw w.1 (name_on s c.loop-parts.parts w.0.left (λ e. c.if-n-component.false (w.1 ∙ e))))
-    c.if-n-eq0.branch-raw
+    c.loop-parts.invariant
+    ∙ elim c.if-n-eq0.branch [
+      | then-n-eq0+else-component-ne63 w ↦ rw w.n-is (wild_on s c.loop-parts.parts (omega (arith, w.if-component-ne63.false)))
+      | else-n-eq0 w ↦ rw w.n-is (name_on s c.loop-parts.parts w.if-n-eq0.false (λ e. c.if-n-component.false (w.n-is ∙ e)))
+    ]
 
 pub returns : goal.returns
 returns c = sym (c.loop-parts.invariant ∙ key_full c.loop-parts.parts c.loop-parts.rest.now (omega (arith, c.loop-parts-test.false)))
@@ -90,7 +90,10 @@ slice_bounds-rest-count c =
     in
     let inside : c.if-n-eq0.n ≤ length (past c.loop-parts.rest.now 1) =
     let s = begins in
-    ⊎_elim (λ w. omega (arith, w.3, length_part_rest c.loop-parts.rest.now 1, s.long)) (λ w. omega (arith, w.1, run_inside s)) c.if-n-eq0.branch-raw
+    elim c.if-n-eq0.branch [
+      | then-n-eq0+else-component-ne63 w ↦ omega (arith, w.n-is, length_part_rest c.loop-parts.rest.now 1, s.long)
+      | else-n-eq0 w ↦ omega (arith, w.n-is, run_inside s)
+    ]
     in
     inside
 
@@ -105,6 +108,9 @@ slice_bounds-rest-start c =
     in
     let inside : c.if-n-eq0.n ≤ length (past c.loop-parts.rest.now 1) =
     let s = begins in
-    ⊎_elim (λ w. omega (arith, w.3, length_part_rest c.loop-parts.rest.now 1, s.long)) (λ w. omega (arith, w.1, run_inside s)) c.if-n-eq0.branch-raw
+    elim c.if-n-eq0.branch [
+      | then-n-eq0+else-component-ne63 w ↦ omega (arith, w.n-is, length_part_rest c.loop-parts.rest.now 1, s.long)
+      | else-n-eq0 w ↦ omega (arith, w.n-is, run_inside s)
+    ]
     in
     inside

@@ -1,5 +1,4 @@
 -- `query::parse_query` meets its contract. Assumes nothing.
-use borrow.Author.Rules.{rules}
 use Rattle.definition.specs.Lists.{zeroes}
 use Rattle.query.proofs.Queries.{split_is}
 use Rattle.query.proofs.parse_query.Goals as goal

@@ -1,6 +1,4 @@
 -- `query::split_names` meets its contract. The invariant is `Splitting`. Assumes nothing.
-use borrow.Author.Rules.{rules}
-use mathlib.Core.Logic.{⊎_elim}
 use mathlib.Core.Path.{◌≡◌, sym, ◌∙◌}
 use Prim.Native.Nat.{◌+◌, ◌-◌, ◌≤◌}
 use native.Mathlib.Omega.{arith}
@@ -8,9 +6,10 @@ use lib.ListN.{length}
 use Rattle.definition.specs.Limits.{query_bytes}
 use Rattle.definition.specs.Bytes.{is_name}
 use Rattle.laws.proofs.Lists.{length_take_while_le}
-use Rattle.query.proofs.Splitting.{Splitting, begun, as_long, lengths_as_long, shorter, past, more}
+use Rattle.query.proofs.Splitting.{begun, as_long, lengths_as_long, shorter, past, more}
 use Rattle.query.proofs.Queries.{parsed_long, kept_none, lengths_none, kept_found, lengths_found, parsed_malformed, parsed_many, parsed_good}
 use Rattle.query.proofs.split_names.Goals as goal
+use Rattle.query.proofs.split_names.Goals.{then-count-starts, else-count-starts}
 
 pub returns-then-text-most : goal.returns-then-text-most
 returns-then-text-most c = (
@@ -24,9 +23,10 @@ loop-n-smaller c = omega (arith, c.if-n-eq0.false, shorter c.loop-n.invariant c.
 
 pub loop-n-preserved : goal.loop-n-preserved
 loop-n-preserved c =
-    ⊎_elim (λ o. rw (o.1, o.2) (more c.loop-n.invariant c.next_component-n.ensures c.if-n-eq0.false c.skip_byte-rest.ensures.0 c.requires.1 (omega (arith, o.0.taken, as_long c.loop-n.invariant))))
-    (λ o. rw (o.1, o.2) (past c.loop-n.invariant c.next_component-n.ensures c.if-n-eq0.false c.skip_byte-rest.ensures.0 c.requires.1 (omega (arith, o.0.left, as_long c.loop-n.invariant))))
-    c.if-count-starts.branch-raw
+    elim c.if-count-starts.branch [
+      | then-count-starts o ↦ rw (o.starts-is, o.lengths-is) (more c.loop-n.invariant c.next_component-n.ensures c.if-n-eq0.false c.skip_byte-rest.ensures.0 c.requires.1 (omega (arith, o.if-count-starts.true, as_long c.loop-n.invariant)))
+      | else-count-starts o ↦ rw (o.starts-is, o.lengths-is) (past c.loop-n.invariant c.next_component-n.ensures c.if-n-eq0.false c.skip_byte-rest.ensures.0 c.requires.1 (omega (arith, o.if-count-starts.false, as_long c.loop-n.invariant)))
+    ]
 
 pub returns-then-rest-gt0 : goal.returns-then-rest-gt0
 returns-then-rest-gt0 c =
