@@ -1,7 +1,7 @@
 -- The database image (document 01, "The database image"): written from entries, judged, and read back.
-use Rattle.std.specs.Prelude.{Bool, ◌&&◌, ◌||◌, not, List, [], ◌∷◌, ◌++◌, map, ℕ, zero, suc, ◌+◌, ◌*◌, ◌-◌, eqb, leb, ltb, length, drop, get_or}
+use Rattle.std.specs.Prelude.{Bool, ◌&&◌, ◌||◌, not, List, [], ◌∷◌, ◌++◌, map, ℕ, zero, suc, ◌+◌, ◌*◌, ◌-◌, eqb, leb, ltb, length, drop, get_or, if◌then◌else◌}
 use Rattle.std.proofs.Math.Seq.{slice}
-use Rattle.definition.specs.Lists.{if◌then◌else◌, all, is_empty, zeroes, beyond}
+use Rattle.definition.specs.Lists.{all, is_empty, zeroes, beyond}
 use Rattle.definition.specs.Parsing.{Parse, nothing, many}
 use Rattle.definition.specs.Limits.{contents_words, body_bytes, row_words, most_entries, most_parts, archive_files, unknown_file}
 use Rattle.definition.specs.Bytes.{dot, star, question, is_binding}

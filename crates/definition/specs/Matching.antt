@@ -1,7 +1,7 @@
 -- Matching (document 01, "Matching"; Xlib 15.2; `match_entry`): alignments, marks, rows, and who beats the rest.
-use Rattle.std.specs.Prelude.{Bool, true, false, List, [], ◌∷◌, ◌≡◌, ℕ, ◌<◌, length, get_or}
+use Rattle.std.specs.Prelude.{Bool, true, false, List, [], ◌∷◌, ◌≡◌, ℕ, ◌<◌, length, get_or, if◌then◌else◌}
 use Rattle.std.proofs.Math.Option.{Option, some, none, map}
-use Rattle.definition.specs.Lists.{if◌then◌else◌, same, lower}
+use Rattle.definition.specs.Lists.{same, lower}
 use Rattle.definition.specs.Text.{Binding, tight, loose, Component, wildcard, name, Part}
 use Rattle.definition.specs.Query.{Position}
 

@@ -1,7 +1,7 @@
 -- The line at the front of a text, by its places there: what the code answers.
-use Rattle.std.specs.Prelude.{List, [], ◌∷◌, ℕ, ◌+◌, ◌-◌, eqb, length}
+use Rattle.std.specs.Prelude.{List, [], ◌∷◌, ℕ, ◌+◌, ◌-◌, eqb, length, if◌then◌else◌}
 use Rattle.std.proofs.Math.Option.{Option, some, none}
-use Rattle.definition.specs.Lists.{if◌then◌else◌, take_while}
+use Rattle.definition.specs.Lists.{take_while}
 use Rattle.definition.specs.Bytes.{newline, exclamation, hash, not_newline}
 use Rattle.definition.specs.Text.{assigned}
 use Rattle.directives.specs.Directives.{include_at}

@@ -1,5 +1,5 @@
 -- Rows of marks, as the code holds them and as it continues them. Assumes nothing.
-use mathlib.Core.Bool.{Bool, true, false, ◌&&◌, not}
+use mathlib.Core.Bool.{Bool, true, false, not}
 use mathlib.Core.List.{List, [], ◌∷◌, ◌++◌, append-nil}
 use mathlib.Core.Option.{Option, some, none}
 use mathlib.Core.Path.{◌≡◌, refl, sym, ap, ◌∙◌}
@@ -10,13 +10,13 @@ use lib.Dec.{eqb, ltb}
 use lib.ListN.{length, take, drop, length-take, length-drop, length-append, take-append-drop, drop_of_length-le}
 use lib.Seq.{take_all, take-append-le, drop-append-le}
 use borrow.Author.Tests.{eqb-true, eqb-false, eq-eqb, ne_eqb, lt-ltb, le-ltb}
-use Rattle.definition.specs.Lists.{if◌then◌else◌, or_else, lower}
+use Rattle.definition.specs.Lists.{or_else, lower}
 use Rattle.definition.specs.Limits.{query_parts}
 use Rattle.definition.specs.Bytes.{star}
 use Rattle.definition.specs.Text.{Binding, tight, loose, Part, binding_of}
 use Rattle.definition.specs.Query.{Position}
 use Rattle.definition.specs.Matching.{skip_mark, mark_at}
-use Rattle.definition.specs.Ranking.{meet_row, skip_row, rank_of, Best, no_entry, best, better}
+use Rattle.definition.specs.Ranking.{meet_row, skip_row, rank_of, no_entry, best, better}
 use Rattle.laws.proofs.Lists.{Order, below, equal, above, order}
 use Rattle.positions.specs.Parts.{mark_byte}
 use Rattle.positions.proofs.Marking.{mark_in, mark_most, binding_loose, binding_tight}

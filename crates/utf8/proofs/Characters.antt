@@ -1,4 +1,5 @@
 -- How the code takes characters off a text. Assumes nothing.
+use Rattle.std.specs.Prelude.{if◌then◌else◌}
 use mathlib.Core.Bool.{Bool, true, false}
 use mathlib.Core.List.{List, [], ◌∷◌, ◌++◌}
 use mathlib.Core.Option.{Option, some, none}
@@ -8,7 +9,7 @@ use native.Mathlib.Numerals.{add-one}
 use native.Mathlib.Omega.{arith}
 use lib.ListN.{length, get_or, take, drop, replicate, length-drop, length-replicate}
 use lib.Seq.{drop-cons, drop-drop}
-use Rattle.definition.specs.Lists.{if◌then◌else◌, or_else, is_empty}
+use Rattle.definition.specs.Lists.{or_else, is_empty}
 use Rattle.definition.specs.Parsing.{nothing, found, at_most, many}
 use Rattle.definition.specs.Bytes.{within}
 use Rattle.definition.specs.Value.{Range, table, after_row, first_row, character, character_at, is_utf8}

@@ -1,4 +1,3 @@
-use borrow.Author.Rules.{rules}
 use mathlib.Core.List.{map}
 use mathlib.Core.Path.{sym, ◌∙◌}
 use Rattle.definition.specs.Lists.{same}

@@ -1,10 +1,7 @@
 use borrow.Author.Rules.{rules}
-use mathlib.Core.List.{map}
-use mathlib.Core.Path.{◌≡◌, refl, sym, ◌∙◌}
-use Prim.Native.Nat.{◌-◌, ◌<◌}
-use lib.ListN.{length, drop}
-use Rattle.definition.specs.Lists.{same}
-use Rattle.definition.specs.Value.{lowercase}
+use mathlib.Core.Path.{refl, sym, ◌∙◌}
+use Prim.Native.Nat.{◌<◌}
+use lib.ListN.{length}
 use Rattle.booleans.proofs.Words.{same_length, word_more, word_stop, word_end}
 use Rattle.booleans.proofs.is_word.Goals as goal
 
@@ -14,9 +11,6 @@ returns-then-text-word c = sym (same_length c.args.text.now c.args.word.now c.if
 pub loop-i-init : goal.loop-i-init
 loop-i-init c =
     refl
-    shared-slice-read-to-ascii-lowercase :
-        tie.Need-shared-slice-read-to-ascii-lowercase invariant-loop decreases-loop
-    shared-slice-read-to-ascii-lowercase (PLACE Else1) = search rules
 
 pub returns-then-to_ascii_lowercase-word : goal.returns-then-to_ascii_lowercase-word
 returns-then-to_ascii_lowercase-word c =

@@ -1,4 +1,3 @@
-use borrow.Author.Rules.{rules}
 use native.Mathlib.Omega.{arith}
 use Rattle.booleans.proofs.Words.{lower_upper, lower_below, lower_above}
 use Rattle.booleans.proofs.to_ascii_lowercase.Goals as goal

@@ -1,5 +1,4 @@
 -- `entry_text::begins_blank` meets its contract. Assumes nothing.
-use borrow.Author.Rules.{rules}
 use Rattle.entry_text.proofs.Texts.{nothing_begins, first_begins}
 use Rattle.entry_text.proofs.begins_blank.Goals as goal
 

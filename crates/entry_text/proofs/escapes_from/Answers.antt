@@ -1,9 +1,7 @@
 -- `entry_text::escapes_from` meets its contract. Assumes nothing.
 use mathlib.Core.Path.{◌≡◌}
-use Prim.Native.Nat.{◌-◌, ◌≤◌}
 use native.Mathlib.Omega.{arith}
 use borrow.Author.Rules.{rules}
-use Rattle.entry_text.specs.Lines.{Escapes}
 use Rattle.entry_text.proofs.Texts.{escapes_none, escapes_next}
 use Rattle.entry_text.proofs.escapes_from.Goals as goal
 

@@ -1,8 +1,6 @@
 -- `entry_text::write_bytes` meets its contract. The invariant is `Writing`, and it holds behind each run too. Assumes nothing.
-use Prim.Native.Nat.{◌+◌, ◌-◌}
+use Prim.Native.Nat.{◌+◌}
 use native.Mathlib.Omega.{arith}
-use lib.ListN.{length}
-use borrow.Author.Rules.{rules}
 use Rattle.entry_text.proofs.Texts.{Writing, writing_first, run_room, run_written, run_stopped, escape_room, escape_written, all_written}
 use Rattle.entry_text.proofs.write_bytes.Goals as goal
 

@@ -4,7 +4,6 @@ use mathlib.Core.Path.{refl}
 use Prim.Native.Nat.{ℕ, ◌+◌, ◌≤◌}
 use native.Mathlib.Omega.{arith}
 use lib.ListN.{length, set, length-set}
-use borrow.Author.Rules.{rules}
 use Rattle.definition.specs.Lists.{ascii}
 use Rattle.copies.specs.Appended.{Appends}
 use Rattle.copies.proofs.Pieces.{piece_long, piece_byte, piece_two}
@@ -44,13 +43,13 @@ bounds-text-end c =
 
 pub returns : goal.returns
 returns c =
+    let room : c.args.at + (length c.args.key.now + 2 + (length (leading_escape c.args.value.now) + length (bytes_of c.args.value.now)) + 1) ≤ length c.args.text.now = omega (arith, c.requires, line_long c.args.key.now c.args.value.now, value_long c.args.value.now) in
     let text : List ℕ = c.copy_in.new.store in
     let colon : ℕ = c.args.at + length c.args.key.now in
-    let room : c.args.at + (length c.args.key.now + 2 + (length (leading_escape c.args.value.now) + length (bytes_of c.args.value.now)) + 1) ≤ length c.args.text.now = omega (arith, c.requires, line_long c.args.key.now c.args.value.now, value_long c.args.value.now) in
     let key_put : Appends c.args.key.now c.args.text.now c.args.at text colon = record { fits = omega (arith, room); ends = refl; leaves = c.copy_in.ensures } in
     let two-left : colon + 2 ≤ length text = omega (arith, room, piece_long key_put) in
     let colon-put : Appends (ascii ": ") text colon (set (set text colon 58) (colon + 1) 32) (colon + 2) = piece_two _ _ _ _ two-left in
-    line_put _ _ key_put colon-put c.write_leading_escape-start.ensures c.write_bytes-end.ensures (piece_byte _ _ _ (one_left (PLACE After-slice_known4)))
+    line_put _ _ key_put colon-put c.write_leading_escape-start.ensures c.write_bytes-end.ensures (piece_byte _ _ _ (omega (arith, room, piece_long key_put, piece_long colon-put, c.write_leading_escape-start.ensures.ends, piece_long c.write_leading_escape-start.ensures, c.write_bytes-end.ensures.ends, piece_long c.write_bytes-end.ensures)))
 
 pub copy_in-requires : goal.copy_in-requires
 copy_in-requires c =
@@ -81,7 +80,22 @@ overflow_add-colon-2 c =
     omega (arith, room)
 
 pub overflow_add-result : goal.overflow_add-result
-overflow_add-result c = omega (arith, (returns (PLACE After-slice_known4)).ends, (returns (PLACE After-slice_known4)).ranges, c.good.1.1.0.0)
+overflow_add-result c =
+    let room : c.args.at + (length c.args.key.now + 2 + (length (leading_escape c.args.value.now) + length (bytes_of c.args.value.now)) + 1) ≤ length c.args.text.now = omega (arith, c.requires, line_long c.args.key.now c.args.value.now, value_long c.args.value.now) in
+    let text : List ℕ = c.copy_in.new.store in
+    let colon : ℕ = c.args.at + length c.args.key.now in
+    let key_put : Appends c.args.key.now c.args.text.now c.args.at text colon = record { fits = omega (arith, room); ends = refl; leaves = c.copy_in.ensures } in
+    let two-left : colon + 2 ≤ length text = omega (arith, room, piece_long key_put) in
+    let colon-put : Appends (ascii ": ") text colon (set (set text colon 58) (colon + 1) 32) (colon + 2) = piece_two _ _ _ _ two-left in
+    let whole = line_put _ _ key_put colon-put c.write_leading_escape-start.ensures c.write_bytes-end.ensures (piece_byte _ _ _ (omega (arith, room, piece_long key_put, piece_long colon-put, c.write_leading_escape-start.ensures.ends, piece_long c.write_leading_escape-start.ensures, c.write_bytes-end.ensures.ends, piece_long c.write_bytes-end.ensures))) in
+    omega (arith, whole.ends, whole.fits)
 
 pub shape_of-text : goal.shape_of-text
-shape_of-text c = piece_long (returns (PLACE After-slice_known4))
+shape_of-text c =
+    let room : c.args.at + (length c.args.key.now + 2 + (length (leading_escape c.args.value.now) + length (bytes_of c.args.value.now)) + 1) ≤ length c.args.text.now = omega (arith, c.requires, line_long c.args.key.now c.args.value.now, value_long c.args.value.now) in
+    let text : List ℕ = c.copy_in.new.store in
+    let colon : ℕ = c.args.at + length c.args.key.now in
+    let key_put : Appends c.args.key.now c.args.text.now c.args.at text colon = record { fits = omega (arith, room); ends = refl; leaves = c.copy_in.ensures } in
+    let two-left : colon + 2 ≤ length text = omega (arith, room, piece_long key_put) in
+    let colon-put : Appends (ascii ": ") text colon (set (set text colon 58) (colon + 1) 32) (colon + 2) = piece_two _ _ _ _ two-left in
+    piece_long (line_put _ _ key_put colon-put c.write_leading_escape-start.ensures c.write_bytes-end.ensures (piece_byte _ _ _ (omega (arith, room, piece_long key_put, piece_long colon-put, c.write_leading_escape-start.ensures.ends, piece_long c.write_leading_escape-start.ensures, c.write_bytes-end.ensures.ends, piece_long c.write_bytes-end.ensures))))

@@ -4,7 +4,6 @@ use mathlib.Core.Path.{◌≡◌, sym, ap, ◌∙◌}
 use native.Mathlib.Omega.{arith}
 use lib.ListN.{length}
 use borrow.Author.Tests.{not-true, not-false}
-use borrow.Author.Rules.{rules}
 use Rattle.definition.specs.Bytes.{backslash}
 use Rattle.copies.proofs.Pieces.{piece_of, piece_none, piece_byte}
 use Rattle.entry_text.specs.Lines.{leading_escape}

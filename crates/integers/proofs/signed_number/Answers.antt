@@ -1,4 +1,3 @@
-use borrow.Author.Rules.{rules}
 use mathlib.Core.Path.{◌∙◌}
 use Rattle.definition.specs.Value.{natural_of}
 use Rattle.integers.proofs.Numbers.{natural_most, natural_signed, nothing_signed}

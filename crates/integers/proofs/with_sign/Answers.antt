@@ -1,4 +1,3 @@
-use borrow.Author.Rules.{rules}
 use native.Mathlib.Omega.{arith}
 use Rattle.integers.proofs.Numbers.{minus_fits, number_minus, number_plus, number_least, number_past}
 use Rattle.integers.proofs.with_sign.Goals as goal

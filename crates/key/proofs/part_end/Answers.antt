@@ -1,10 +1,7 @@
 -- `key::part_end` meets its contract: the run from `at` on ends where the run from i on ends. Assumes nothing.
 use mathlib.Core.Bool.{not}
-use mathlib.Core.Path.{◌≡◌, sym, ap, ◌∙◌}
-use Prim.Native.Nat.{◌+◌, ◌-◌, ◌≤◌}
+use mathlib.Core.Path.{sym, ap, ◌∙◌}
 use native.Mathlib.Omega.{arith}
-use lib.ListN.{length, drop}
-use Rattle.definition.specs.Lists.{take_while}
 use Rattle.key.specs.Keys.{not_binding}
 use Rattle.laws.proofs.Lists.{run_more, run_stop, run_end}
 use borrow.Author.Rules.{rules}

@@ -1,13 +1,9 @@
 -- `key::part_end` meets its contract: the run from `at` on ends where the run from i on ends. Assumes nothing.
-use mathlib.Core.Bool.{not}
-use mathlib.Core.Path.{◌≡◌, sym, ap, ◌∙◌}
+use mathlib.Core.Path.{◌≡◌}
 use Prim.Native.Nat.{◌+◌, ◌-◌, ◌≤◌}
-use native.Mathlib.Omega.{arith}
 use lib.ListN.{length, drop}
 use Rattle.definition.specs.Lists.{take_while}
 use Rattle.key.specs.Keys.{not_binding}
-use Rattle.laws.proofs.Lists.{run_more, run_stop, run_end}
-use borrow.Author.Rules.{rules}
 use Rattle.key.proofs.part_end.Given as goal
 
 abbrev pub invariant-loop-i : goal.invariant-loop-i

@@ -1,11 +1,10 @@
 -- `key::split_key` meets its contract. The invariant is `Bounding`. Assumes nothing.
-use Prim.Native.Nat.{◌-◌, ◌≤◌, ◌<◌}
+use Prim.Native.Nat.{◌≤◌, ◌<◌}
 use native.Mathlib.Omega.{arith}
 use lib.ListN.{length}
 use Rattle.definition.specs.Limits.{most_parts}
 use Rattle.laws.proofs.Keys.{parts_of}
-use Rattle.key.proofs.Bounding.{Bounding, begun, room, next_inside, more, ended}
-use borrow.Author.Rules.{rules}
+use Rattle.key.proofs.Bounding.{begun, room, next_inside, more, ended}
 use Rattle.key.proofs.split_key.Goals as goal
 
 pub loop-at-init : goal.loop-at-init

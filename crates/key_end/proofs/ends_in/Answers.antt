@@ -1,12 +1,11 @@
 -- `key_end::ends_in` meets its contract: from byte i on the key's end is the name. Assumes nothing.
 use mathlib.Core.Path.{◌≡◌, sym, ◌∙◌}
-use Prim.Native.Nat.{◌+◌, ◌-◌, ◌≤◌}
+use Prim.Native.Nat.{◌+◌, ◌-◌}
 use native.Mathlib.Omega.{arith}
 use lib.ListN.{length, get_or}
 use Rattle.definition.specs.Bytes.{is_binding}
 use Rattle.key_end.specs.Ends.{ends_in}
-use Rattle.key_end.proofs.Ends.{Ends, short_end, ends_first, ends_more, other_end, ends_binding, dot_binds, star_binds}
-use borrow.Author.Rules.{rules}
+use Rattle.key_end.proofs.Ends.{short_end, ends_first, ends_more, other_end, ends_binding, dot_binds, star_binds}
 use Rattle.key_end.proofs.ends_in.Goals as goal
 
 pub returns-then-key-n : goal.returns-then-key-n

@@ -1,7 +1,6 @@
 -- `key_end::may_match` meets its contract. Assumes nothing.
 use mathlib.Core.Path.{refl, sym, ◌∙◌}
 use Rattle.key_end.specs.Ends.{may_match}
-use borrow.Author.Rules.{rules}
 use Rattle.key_end.proofs.may_match.Goals as goal
 
 pub returns-then-ends_in : goal.returns-then-ends_in

@@ -1,6 +1,5 @@
 -- `marks::wins` meets its contract. Assumes nothing.
 use mathlib.Core.Path.{refl}
-use borrow.Author.Rules.{rules}
 use borrow.Author.Tests.{lt-ltb, le-ltb}
 use Rattle.marks.specs.Rows.{lower_row, wins_over}
 use Rattle.marks.proofs.wins.Goals as goal

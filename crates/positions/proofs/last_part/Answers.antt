@@ -3,7 +3,6 @@ use mathlib.Core.Path.{◌≡◌, ap, ◌∙◌}
 use Prim.Native.Nat.{◌-◌}
 use native.Mathlib.Omega.{arith}
 use Rattle.positions.specs.Parts.{part_at}
-use borrow.Author.Rules.{rules}
 use Rattle.positions.proofs.last_part.Goals as goal
 
 pub returns-then-len-eq0 : goal.returns-then-len-eq0

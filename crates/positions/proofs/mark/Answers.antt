@@ -1,8 +1,7 @@
 -- `positions::mark` meets its contract: each way out is one law of marks. Assumes nothing.
-use mathlib.Core.Path.{sym, ◌∙◌}
+use mathlib.Core.Path.{◌∙◌}
 use Rattle.positions.specs.Parts.{position_of}
 use Rattle.positions.proofs.Marking.{same_part, by_wildcard, by_instance, by_class, by_none}
-use borrow.Author.Rules.{rules}
 use Rattle.positions.proofs.mark.Goals as goal
 
 pub returns-then-key-s-eq63 : goal.returns-then-key-s-eq63

@@ -3,7 +3,6 @@ use Prim.Native.Nat.{◌+◌, ◌≤◌}
 use native.Mathlib.Omega.{arith}
 use lib.ListN.{length, get_or}
 use Rattle.positions.proofs.Positions.{part_between, part_past}
-use borrow.Author.Rules.{rules}
 use Rattle.positions.proofs.part_at.Goals as goal
 
 pub returns-then-i-starts : goal.returns-then-i-starts

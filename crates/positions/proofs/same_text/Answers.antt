@@ -1,9 +1,8 @@
 -- `positions::same_text` meets its contract: from byte i on the two are the same just where they are from the start. Assumes nothing.
-use mathlib.Core.Path.{◌≡◌, sym, ◌∙◌}
-use Prim.Native.Nat.{◌-◌, ◌≤◌, ◌<◌}
+use mathlib.Core.Path.{sym, ◌∙◌}
+use Prim.Native.Nat.{◌≤◌, ◌<◌}
 use native.Mathlib.Omega.{arith}
-use lib.ListN.{length, drop}
-use Rattle.definition.specs.Lists.{same}
+use lib.ListN.{length}
 use Rattle.laws.proofs.Lists.{same_from_equal, same_from_other, same_from_end, same_lengths}
 use borrow.Author.Rules.{rules}
 use Rattle.positions.proofs.same_text.Goals as goal

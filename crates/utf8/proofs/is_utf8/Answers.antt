@@ -1,9 +1,8 @@
 use borrow.Author.Rules.{rules}
-use mathlib.Core.Path.{◌≡◌, refl, sym, ◌∙◌}
+use mathlib.Core.Path.{refl, sym, ◌∙◌}
 use Prim.Native.Nat.{◌<◌}
 use native.Mathlib.Omega.{arith}
 use lib.ListN.{length}
-use Rattle.definition.specs.Value.{is_utf8}
 use Rattle.laws.proofs.Lists.{length_part_rest}
 use Rattle.utf8.proofs.Characters.{utf8_more, utf8_stop, utf8_end}
 use Rattle.utf8.proofs.is_utf8.Goals as goal

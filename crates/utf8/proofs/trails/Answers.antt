@@ -1,10 +1,8 @@
 use borrow.Author.Rules.{rules}
-use mathlib.Core.Path.{◌≡◌, sym, ◌∙◌}
-use Prim.Native.Nat.{◌-◌, ◌≤◌, ◌<◌}
-use lib.ListN.{length, drop, replicate}
+use mathlib.Core.Path.{sym, ◌∙◌}
+use Prim.Native.Nat.{◌<◌}
+use lib.ListN.{length}
 use borrow.Author.Tests.{not-true, not-false}
-use Rattle.definition.specs.Value.{after_row}
-use Rattle.utf8.specs.Characters.{trail}
 use Rattle.utf8.proofs.Characters.{trails_first, trails_more, trails_stop, trails_end}
 use Rattle.utf8.proofs.trails.Goals as goal
 
