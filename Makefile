@@ -20,7 +20,7 @@ demo:
 	@tests/demo
 
 programs:
-	@rt check list getres
+	@tests/programs list getres
 
 library:
 	@tests/library

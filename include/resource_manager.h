@@ -3,7 +3,7 @@
  * board of packs that come and go, each an image, with the answers of its watched queries.
  *
  * The functions stand in the static library libresource_manager.a, for x86-64 Linux. Their contracts, which
- * crates/resource_manager states and proves, are here in words. They allocate nothing, keep nothing between calls,
+ * crates/resource_manager_c states and proves, are here in words. They allocate nothing, keep nothing between calls,
  * call no function of the host but memcpy and memset, and may run in several threads at once on buffers of their own.
  * A stack of 64 kilobytes is enough for each, which is tested and not proved.
  *
@@ -414,7 +414,7 @@ uint64_t resource_manager_board_answer(const uint16_t *words, size_t words_count
 
 /*
  * The bytes of a watched answer, given the pack's number that came with it, where the board itself keeps them: the lent
- * image may be gone. By the layout (crates/definition/specs/Board.antt: slotStart, bodyStart), slot n, from 0, has its
+ * image may be gone. By the layout (crates/definition/specs/Board.antt: slot_start, body_start), slot n, from 0, has its
  * pack's number in word 2 + 2 * 32 + 2051 * n, and that pack's bodies from byte 2 * 1024 * 32 + 32768 * n on; word 0 says
  * how many slots are in use. The bytes stand there until a pack leaves or the board is made again. NULL of 0 bytes if the
  * answer has no value, or no pack has that number.

@@ -1,4 +1,4 @@
-//! Finds the static library whose calls the crate makes. `rt staticlib resource_manager` makes it.
+//! Finds the static library whose calls the crate makes. `make library` makes it.
 
 use std::env;
 use std::path::PathBuf;
@@ -27,7 +27,7 @@ fn link() -> Result<(), String> {
     println!("cargo:rerun-if-changed={}", library.display());
     if !library.is_file() {
         return Err(format!(
-            "{} is not there: run `rt staticlib resource_manager` in the repository, or say in {PLACE} where {LIBRARY} is",
+            "{} is not there: run `make library` in the repository, or say in {PLACE} where {LIBRARY} is",
             library.display()
         ));
     }

@@ -14,12 +14,12 @@ import re
 
 SEPARATORS = r"[\s(){}\[\];.,\"]+"
 TOKEN = re.compile(r"[^\s(){}\[\];.,\"]+")
-DECLARED = re.compile(r"\s*(?:(?:pub|abbrev|unfoldable|record|data) )*([^\s(){}\[\];.,\"]+) (?:\{[^}]*\} |\([^)]*\) )*: ")
+DECLARED = re.compile(r"\s*(?:(?:pub|abbrev|unfoldable|record|data) )*([^\s(){}\[\];.,\"]+) (?:\{[^}]*\} |\([^)]*\) )*:(?: |$)")
 RULESET = re.compile(r"\s*(?:(?:pub|abbrev|unfoldable) )*ruleset (?:pub )?([^\s(){}\[\];.,\"]+)")
 
 
 def snake(name):
-    name = re.sub(r"(?<=[a-z0-9])([A-Z])", lambda m: "_" + m.group(1).lower(), name)
+    name = re.sub(r"(?<=[a-z0-9])[A-Z]|(?<=[A-Z])[A-Z](?=[a-z])", lambda m: "_" + m.group(0).lower(), name)
     return name.replace("-", "_").replace("′", "'")
 
 
@@ -93,7 +93,8 @@ def main():
             return mine.get(m.group(0), m.group(0))
 
         if f.endswith(".rt"):
-            out = "".join(p if p.startswith('"') else TOKEN.sub(turn, p) for p in re.split(r'("(?:[^"\\]|\\.)*")', text))
+            parts = re.split(r"""("(?:[^"\\]|\\.)*"|b'"')""", text)
+            out = "".join(p if '"' in p and p[0] in "b\"" else TOKEN.sub(turn, p) for p in parts if p)
         else:
             out = TOKEN.sub(turn, text)
         if out != text:

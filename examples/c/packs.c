@@ -2,7 +2,7 @@
  * Packs that come and go: three packs arrive at a board, two queries are watched, the installer asks what a pack's leaving would
  * change, and the pack leaves.
  *
- *     rt staticlib resource_manager
+ *     make library
  *     cc -std=c99 -I include examples/c/packs.c -L target/staticlib -lresource_manager -o packs
  */
 #include "resource_manager.h"

@@ -2,7 +2,7 @@
  * Reads a text of X resources with a shelf of two files, looks values up, also as the dictionary window does, lists the
  * entries of a settings page while a line is added, and writes all settings out as one text.
  *
- *     rt staticlib resource_manager
+ *     make library
  *     cc -std=c99 -I include examples/c/settings.c -L target/staticlib -lresource_manager -o settings
  */
 #include "resource_manager.h"

@@ -1,7 +1,7 @@
 /*
  * Starts as a reader does: lends the texts that x11rb's Database::new_from_default reads, and looks a value up.
  *
- *     rt staticlib resource_manager
+ *     make library
  *     cc -std=c99 -I include examples/c/startup.c -L target/staticlib -lresource_manager -o startup
  *     ./startup HOST [PROPERTY-FILE]
  *

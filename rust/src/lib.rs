@@ -43,7 +43,7 @@
 //!
 //! # Building
 //!
-//! `rt staticlib resource_manager`, in the repository, makes `target/staticlib/libresource_manager.a`, where the build
+//! `make library`, in the repository, makes `target/staticlib/libresource_manager.a`, where the build
 //! looks for it. Elsewhere, the environment variable `RESOURCE_MANAGER_LIB_DIR` says in which directory it is.
 
 #![deny(unsafe_code, missing_docs)]

@@ -35,7 +35,7 @@ BEGIN {
     # words of Rust, C and the documents
     split("u8 u16 usize i64 bool Option Result String Vec FnMut FromStr ZipLongest MatchKind str slice from_str borrow try_borrow " \
         "parse_with_matcher new_from_default new_from_get_property_reply new_from_data_with_base_directory GET_RESOURCE_DATABASE " \
-        "shelf pub use mod none NULL Ok Err std stdout grep diff rustc python3 refl mallinfo2 RESOURCE_MANAGER_SRC", words, " ")
+        "shelf pub use mod none result NULL Ok Err std stdout grep diff rustc python3 refl mallinfo2 RESOURCE_MANAGER_SRC", words, " ")
     for (i in words)
         foreign[words[i]] = 1
 }
@@ -206,7 +206,7 @@ function cited(s,    i, head, rest, n, names) {
             wrong("no such edit")
         return 1
     }
-    if (s ~ /^(crates|docs|include|rust|examples|tests|\.ci)(\/|$)/ || s ~ /^([A-Za-z]+\.(md|txt|antt|edit|rt)|Makefile|NOTICE)$/) {
+    if (s ~ /^(crates|docs|include|rust|examples|tests|tools|\.ci)(\/|$)/ || s ~ /^([A-Za-z]+\.(md|txt|antt|edit|rt)|Makefile|NOTICE)$/) {
         sub(/\/$/, "", s)
         if (!(s in exists || (s ~ /\.antt$/ && "crates/definition/specs/" s in exists)))
             wrong("no such file")

@@ -4,21 +4,18 @@
 # A function gives a result, and may write each place that it is lent as `&mut`. Its `ensures` fixes one of these if it stands in an
 # equation that holds outright, not under a condition, and that gives it back whole: `take n out` says a part of `out` alone. The
 # equation may stand in a record or a definition of the specs that the `ensures` names; each case of a definition must have one. Of a
-# result that may be a part of one slice or of another, the place (`.ptr`) is to be fixed too.
+# result that may be a part of one slice or of another, the place (`.ref_ptr`) is to be fixed too.
 #
-# Expressions are tokens with a blank between them; `r .field` is one token, and so is `out@`, for `now (out .exit)`.
+# Expressions are tokens with a blank between them. `result.field` is one token, and so is `out.new`, what is lent as it is afterwards; what
+# stands behind a reference is the reference itself, `result` for `result.now`.
 
 function normal(s,    n, t, i, w, out) {
     gsub(/«|»/, "", s)
-    gsub(/⌜|⌝/, " ", s)
     gsub(/[(){},;]/, " & ", s)
     n = split(s, t, " ")
     for (i = 1; i <= n; i++) {
         w = t[i]
-        if (w == "now" && t[i + 1] == "(" && t[i + 3] == ".exit" && t[i + 4] == ")") {
-            w = t[i + 2] "@"
-            i += 4
-        }
+        sub(/\.now$/, "", w)
         out = out (w ~ /^\.[a-z]/ && out ~ /[^)]$/ ? "" : " ") w
     }
     return out
@@ -89,7 +86,7 @@ function given_back(e, from,    parts, n, i, key, all, out) {
     if (n == 0)
         return " " parts[0] " "
     key = named(parts[0], from)
-    all = parts[0] ~ /^([A-Z]|some$|now$)/ || kind[key] == "constructor"
+    all = parts[0] ~ /^([A-Z]|some$)/ || kind[key] == "constructor"
     for (i = 1; i <= n; i++)
         if (all || (key != "" && index(kept(key), " " (i + shift(key, from)) " ")))
             out = out given_back(parts[i], from)
@@ -233,12 +230,12 @@ function held(p, type, f,    n, t, i) {
 
 # What `use` lines bring into a file.
 function import(path, line,    crate, where, n, names, i, pair) {
-    if (!sub(/^.*use Rattle·/, "", line))
+    if (!sub(/^.*use Rattle\./, "", line))
         return
+    sub(/;$/, "", line)
     match(line, /^[a-z0-9_]+/)
     crate = substr(line, 1, RLENGTH)
     line = substr(line, RLENGTH + 1)
-    sub(/^·[a-z]+/, "", line)
     i = index(line, ".{")
     where = substr(line, 1, i - 1)
     gsub(/\./, "/", where)
@@ -356,22 +353,24 @@ function take_in(path, item, at,    s, name, key, n, parts, i) {
 
 # ---- Functions
 
-# The text of a head between a word's opening bracket and the one that closes it.
-function bracketed(head, word, open, close_,    s, i, depth, c) {
-    i = index(head, word)
-    if (!i)
-        return ""
-    s = substr(head, i + length(word))
-    for (i = 1; i <= length(s); i++) {
-        c = substr(s, i, 1)
-        depth += (c == open) - (c == close_)
-        if (!depth && c == close_)
-            return substr(s, 2, i - 2)
+# The `ensures` clauses of a head, all of them held at once. A starred one speaks of memory, and fixes nothing.
+function promised(head,    i, depth, c, out) {
+    while (match(head, / ensures( [a-z_0-9]+)? [{]/)) {
+        head = substr(head, RSTART + RLENGTH - 1)
+        depth = 0
+        for (i = 1; i <= length(head); i++) {
+            c = substr(head, i, 1)
+            depth += (c == "{") - (c == "}")
+            if (!depth)
+                break
+        }
+        out = out (out == "" ? "" : " × ") "(" substr(head, 2, i - 2) ")"
+        head = substr(head, i + 1)
     }
-    return s
+    return out
 }
 
-function judge(path, head,    crate, name, lent, s, parts, result, promise, f, type) {
+function judge(path, head,    crate, name, lent, s, parts, promise, f, type) {
     crate = path
     sub(/^crates\//, "", crate)
     sub(/\/src\/lib\.rt$/, "", crate)
@@ -381,33 +380,28 @@ function judge(path, head,    crate, name, lent, s, parts, result, promise, f, t
     sub(/^.*[^a-z]fn /, "", name)
     sub(/[^A-Za-z0-9_].*/, "", name)
     print crate "::" name
-    promise = bracketed(head, "ensures ", "{", "}")
+    promise = promised(head)
     if (promise == "") {
         print crate "::" name ": no ensures"
         return
     }
-    promise = normal(promise)
-    result = promise
-    sub(/^ λ /, "", result)
-    sub(/\..*/, "", result)
-    sub(/^ λ [^ ]+/, "", promise)
-    f = fixed(promise, path)
+    f = fixed(normal(promise), path)
     s = head
-    sub(/ (requires|ensures) .*/, "", s)
+    sub(/ (requires|ensures)\*? .*/, "", s)
     if (s ~ /\) -> /) {
         type = s
         sub(/.*\) -> /, "", type)
         sub(/ +$/, "", type)
-        if (!covered(result, type, f))
+        if (!covered("result", type, f))
             print crate "::" name ": the result"
-        if (type ~ /^&'/ && split(s, parts, substr(type, 1, index(type " ", " "))) > 3 && !index(f, " " result ".ptr "))
+        if (type ~ /^&'/ && split(s, parts, substr(type, 1, index(type " ", " "))) > 3 && f !~ / result\.(ref_)?ptr /)
             print crate "::" name ": where the result lies"
     }
     while (match(s, /[a-z_0-9]+: &('[a-z]+ )?mut /)) {
         lent = substr(s, RSTART, RLENGTH)
         sub(/:.*/, "", lent)
         s = substr(s, RSTART + RLENGTH)
-        if (!index(f, " " lent "@ "))
+        if (!index(f, " " lent ".new "))
             print crate "::" name ": " lent " afterwards"
     }
 }
@@ -444,7 +438,7 @@ struct != "" && /:/ {
 }
 head != "" {
     head = head " " $0
-    if ($0 ~ /^ *[{]$/ || ($0 ~ /[{]$/ && head !~ / ensures | requires /)) {
+    if ($0 ~ /^ *[{]$/ || ($0 ~ /[{]$/ && head !~ / (ensures|requires)\*? /)) {
         heads[++count] = head
         source[count] = FILENAME
         head = ""

@@ -11,8 +11,8 @@ function depth(f,    callees, n, i, d, deepest) {
     if (f in unclear) complain(f " " unclear[f])
     under[f]
     deepest = below[f]
-    n = split(calls[f], callees, " ")
-    for (i = 1; i <= n; i++) {
+    n = split(calls[f], callees, "\n")
+    for (i = 2; i <= n; i++) {
         d = depth(callees[i])
         if (d > deepest) deepest = d
     }
@@ -29,8 +29,8 @@ function moved(operand, sign,    hex) {
 }
 
 called && !/R_X86_64_/ { unclear[f] = "calls what is not told"; called = 0 }
-/^[0-9a-f]+ <.*>:$/ { f = substr($2, 2, length($2) - 3); own[f] = 8; below[f] = 0; calls[f] = ""; next }
-$2 == "R_X86_64_PLT32" { callee = $3; sub(/-0x4$/, "", callee); sub(/^\.text\./, "", callee); calls[f] = calls[f] " " callee; called = 0 }
+/^[0-9a-f]+ <.*>:$/ { f = substr($0, index($0, "<") + 1); sub(/>:$/, "", f); own[f] = 8; below[f] = 0; calls[f] = ""; next }
+$2 == "R_X86_64_PLT32" { callee = $0; sub(/.*R_X86_64_PLT32[ \t]+(\.text\.)?/, "", callee); sub(/-0x4$/, "", callee); calls[f] = calls[f] "\n" callee; called = 0 }
 $2 ~ /^R_X86_64_/ { next }
 match($0, /-0x[0-9a-f]+\(%rsp/) {
     n = number(substr($0, RSTART + 3, RLENGTH - 8))

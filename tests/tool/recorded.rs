@@ -66,13 +66,10 @@ fn short_row(case: &Case, answer: &Answer) -> Result<String, String> {
 
 const HEAD: &str = "\
 -- Made by `make recorded-antt` from the recorded answers of the Rust: the definition gives each of them.
-use mathlib.Core.Bool.{true, false}
-use mathlib.Core.List.{List, [], _∷_, map}
-use mathlib.Core.Option.{some, none}
-use mathlib.Core.Path.{_≡_, refl}
-use lib.IntN.{pos, negsuc}
-use Rattle·definition·specs.specs.Value.{number, notANumber}
-use Rattle·definition·specs.specs.Evaluation.{definition, written, reads, bytes, truth, value, Row, _~_, entry, read, found, wellFormed, askBytes, askString, askBool, askValue}
+use Rattle.std.specs.Prelude.{true, false, List, [], ◌∷◌, map, ◌≡◌, refl, pos, negsuc}
+use Rattle.std.proofs.Math.Option.{some, none}
+use Rattle.definition.specs.Value.{number, not_aNumber}
+use Rattle.definition.specs.Evaluation.{definition, written, reads, bytes, truth, value, Row, ◌~◌, entry, read, found, well_formed, ask_bytes, ask_string, ask_bool, ask_value}
 
 rows : List Row
 rows =
@@ -81,8 +78,8 @@ rows =
 const TAIL: &str = "
     ∷ []
 
-agree : map (λ (r : Row). r .defined) rows ≡ map (λ (r : Row). r .recorded) rows
-unfolding definition written read found wellFormed askBytes askString askBool askValue rows
+agree : map (λ (r : Row). r.defined) rows ≡ map (λ (r : Row). r.recorded) rows
+unfolding definition written read found well_formed ask_bytes ask_string ask_bool ask_value rows
 agree = refl";
 
 /// The rows as a module of the definition.
@@ -94,10 +91,10 @@ fn module(rows: &[String]) -> String {
 fn row(case: &Case, text: &[u8], answer: &Answer) -> String {
     let word = match case.kind {
         Kind::Read => "read",
-        Kind::Bytes => "askBytes",
-        Kind::String => "askString",
-        Kind::Bool => "askBool",
-        Kind::Value => "askValue",
+        Kind::Bytes => "ask_bytes",
+        Kind::String => "ask_string",
+        Kind::Bool => "ask_bool",
+        Kind::Value => "ask_value",
     };
     let mut asked = vec![text, &case.source.archive];
     if case.kind != Kind::Read {
@@ -119,7 +116,7 @@ fn recorded(answer: &Answer) -> String {
         Answer::Bytes(found) => format!("bytes {}", option(found.as_ref().map(|bytes| list(bytes)))),
         Answer::Bool(found) => format!("truth {}", option(found.map(|is| is.to_string()))),
         Answer::Value(Number::Is(number)) => format!("value (some (number {}))", integer(*number)),
-        Answer::Value(Number::NotANumber) => "value (some notANumber)".to_string(),
+        Answer::Value(Number::NotANumber) => "value (some not_aNumber)".to_string(),
         Answer::Value(Number::None) => "value none".to_string(),
     }
 }

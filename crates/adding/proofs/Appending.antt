@@ -1,4 +1,5 @@
 -- An entry behind those of an image: what the code has written, and its tests. Assumes nothing.
+use Rattle.std.specs.Prelude.{if◌then◌else◌}
 use mathlib.Core.Bool.{Bool, true, false}
 use mathlib.Core.List.{List, [], ◌∷◌, ◌++◌}
 use mathlib.Core.Option.{some, none}
@@ -10,7 +11,6 @@ use lib.Dec.{leb, ltb}
 use lib.ListN.{length, take, drop, set}
 use lib.Seq.{paste, sets-eq}
 use borrow.Author.Tests.{lt-ltb, le-ltb, le-leb, lt-leb, ltb-false, leb-false}
-use Rattle.definition.specs.Lists.{if◌then◌else◌}
 use Rattle.definition.specs.Limits.{most_entries, most_parts, body_bytes, text_bytes, unknown_file}
 use Rattle.definition.specs.Text.{Entry, after_blanks}
 use Rattle.definition.specs.Image.{key_of, all_from, rows_of, count_of, used_of, is_image}

@@ -1,6 +1,5 @@
 -- An entry behind those of an image: what the code asks and answers.
-use Rattle.std.specs.Prelude.{Bool, List, ◌≡◌, ℕ, ◌+◌, ◌≤◌, ◌<◌, leb, ltb, length}
-use Rattle.definition.specs.Lists.{if◌then◌else◌}
+use Rattle.std.specs.Prelude.{Bool, List, ◌≡◌, ℕ, ◌+◌, ◌≤◌, ◌<◌, leb, ltb, length, if◌then◌else◌}
 use Rattle.definition.specs.Limits.{most_entries, most_parts, body_bytes, contents_words}
 use Rattle.definition.specs.Image.{key_of, count_of, used_of}
 use Rattle.definition.specs.Lookup.{Reply, given, refused}

@@ -13,29 +13,28 @@ use answers_without::answer_twice;
 use argument_words::depth_of;
 use command_line::argument;
 use database_text::write_database;
-use io::write_all;
-use libc::{STDERR_FILENO, STDOUT_FILENO};
 use limits::WRITTEN_BYTES;
 use plans::{Plan, depth_unasked, given};
 use reports::{REPORT_BYTES, Report};
+use std::io::Print;
 use writing::fail;
 
 // A class that is not given is empty.
-fn class_argument(i: usize, buffer: &mut [u8]) -> usize
+fn class_argument(rt: &HostRuntime, i: usize, buffer: &mut [u8]) -> usize
     ensures { IsPrefixLen result buffer.new }
 {
     if i == 0 {
         return 0;
     }
-    argument(i, buffer)
+    argument(rt, i, buffer)
 }
 
 // The depth of the reading: the one that is asked for, or that of a plan that asks for none.
-pub fn depth_asked(plan: Plan) -> u64 {
+pub fn depth_asked(rt: &HostRuntime, plan: Plan) -> u64 {
     let i = given(plan, options::DEPTH);
     if i != 0 {
         let mut word = io::buffer();
-        let n = argument(i, &mut word);
+        let n = argument(rt, i, &mut word);
         return depth_of(&word[..n]);
     }
     depth_unasked(plan)
@@ -43,6 +42,7 @@ pub fn depth_asked(plan: Plan) -> u64 {
 
 // What is told of the query; with the file that an argument names and without it, if there is one.
 fn report_on(
+    rt: &HostRuntime,
     without: usize,
     texts: &[&[u8]],
     archive: &[u8],
@@ -58,24 +58,27 @@ fn report_on(
         return answer(texts, archive, depth, name, class, out);
     }
     let mut file = io::buffer();
-    let n = argument(without, &mut file);
+    let n = argument(rt, without, &mut file);
     answer_twice(texts, archive, depth, &file[..n], name, class, out)
 }
 
 // Writes a report, and answers its status, which is 2 if an answer cannot be written.
-fn tell(report: Report, bytes: &[u8]) -> u8 {
+fn tell(rt: &HostRuntime, report: Report, bytes: &[u8]) -> u8 {
     if report.wrong {
-        write_all(STDERR_FILENO, bytes);
+        let _ = rt.stderr().write_all(bytes);
         return report.status;
     }
-    if write_all(STDOUT_FILENO, bytes) {
-        return report.status;
+    match rt.stdout().write_all(bytes) {
+        Ok(()) => report.status,
+        Err(error) => {
+            fail(rt, b"standard output", error);
+            2
+        }
     }
-    fail(b"standard output");
-    2
 }
 
 fn answer_query(
+    rt: &HostRuntime,
     without: usize,
     texts: &[&[u8]],
     archive: &[u8],
@@ -86,41 +89,49 @@ fn answer_query(
     requires { laid_out archive.now ≡ true }
 {
     let mut out = [0; REPORT_BYTES];
-    let report = report_on(without, texts, archive, depth, name, class, &mut out);
+    let report = report_on(rt, without, texts, archive, depth, name, class, &mut out);
     let size = report.size;
-    tell(report, &out[..size])
+    tell(rt, report, &out[..size])
 }
 
-fn write_out(texts: &[&[u8]], archive: &[u8], depth: u64) -> u8 {
+fn write_out(rt: &HostRuntime, texts: &[&[u8]], archive: &[u8], depth: u64) -> u8 {
     let mut out = [0; WRITTEN_BYTES];
     let report = write_database(texts, archive, depth, &mut out);
     let size = report.size;
-    tell(report, &out[..size])
+    tell(rt, report, &out[..size])
 }
 
-fn list_out(texts: &[&[u8]], archive: &[u8], depth: u64, name: &[u8], class: &[u8]) -> u8 {
+fn list_out(
+    rt: &HostRuntime,
+    texts: &[&[u8]],
+    archive: &[u8],
+    depth: u64,
+    name: &[u8],
+    class: &[u8],
+) -> u8 {
     let mut out = [0; LISTED_BYTES];
     let report = list_entries(texts, archive, depth, name, class, &mut out);
     let size = report.size;
-    tell(report, &out[..size])
+    tell(rt, report, &out[..size])
 }
 
 // Writes the database of these texts out, or lists or answers the query that the arguments name with them, and gives the status.
-pub fn answer_plan(plan: Plan, texts: &[&[u8]], archive: &[u8]) -> u8
+pub fn answer_plan(rt: &HostRuntime, plan: Plan, texts: &[&[u8]], archive: &[u8]) -> u8
     requires { laid_out archive.now ≡ true }
 {
-    let depth = depth_asked(plan);
+    let depth = depth_asked(rt, plan);
     if plan.write {
-        return write_out(texts, archive, depth);
+        return write_out(rt, texts, archive, depth);
     }
     let mut name = io::buffer();
-    let n = argument(given(plan, options::NAME), &mut name);
+    let n = argument(rt, given(plan, options::NAME), &mut name);
     let mut class = io::buffer();
-    let m = class_argument(given(plan, options::CLASS), &mut class);
+    let m = class_argument(rt, given(plan, options::CLASS), &mut class);
     if plan.list {
-        return list_out(texts, archive, depth, &name[..n], &class[..m]);
+        return list_out(rt, texts, archive, depth, &name[..n], &class[..m]);
     }
     answer_query(
+        rt,
         given(plan, options::WITHOUT),
         texts,
         archive,

@@ -1,4 +1,5 @@
 -- The files of an archive, with one more. Assumes nothing.
+use Rattle.std.specs.Prelude.{if◌then◌else◌}
 use mathlib.Core.Bool.{Bool, true, false, not}
 use mathlib.Core.List.{List, [], ◌∷◌, ◌++◌, append_assoc}
 use mathlib.Core.Path.{◌≡◌, refl, sym, ap, ◌∙◌}
@@ -8,7 +9,7 @@ use lib.Dec.{leb, ltb}
 use lib.ListN.{length, take, drop, length-append, length-drop}
 use lib.Seq.{paste, length-take-le, length-paste, take_all, take_at}
 use borrow.Author.Tests.{leb-true, le-leb, lt-leb, le-ltb, lt-ltb, ltb-false, leb-false, not-false}
-use Rattle.definition.specs.Lists.{if◌then◌else◌, all, lower}
+use Rattle.definition.specs.Lists.{all, lower}
 use Rattle.definition.specs.Limits.{archive_bytes, archive_files, file_name_bytes}
 use Rattle.definition.specs.Archive.{File, bytes_of, lengths_of, bodies_of, archive_of, number_at, files_of, split, is_name_part, is_file_name, rising, laid_out}
 use Rattle.definition.specs.Evaluation.{definition}

@@ -1,7 +1,7 @@
 -- An archive (document 01's shelf) with one file more.
-use Rattle.std.specs.Prelude.{not, List, [], ◌∷◌, ℕ, leb, ltb, length}
+use Rattle.std.specs.Prelude.{not, List, [], ◌∷◌, ℕ, leb, ltb, length, if◌then◌else◌}
 use Rattle.std.proofs.Math.Seq.{paste}
-use Rattle.definition.specs.Lists.{if◌then◌else◌, lower}
+use Rattle.definition.specs.Lists.{lower}
 use Rattle.definition.specs.Limits.{archive_bytes, archive_files}
 use Rattle.definition.specs.Archive.{File, archive_of, files_of, is_file_name}
 use Rattle.archive_slot.specs.Slots.{on_it}

@@ -1,4 +1,5 @@
 -- The search of an archive: a row's name and a path, the walk, and what a caller learns. Assumes nothing.
+use Rattle.std.specs.Prelude.{if◌then◌else◌}
 use mathlib.Core.Bool.{Bool, true, false, ◌&&◌, and-false}
 use mathlib.Core.List.{List, [], ◌∷◌, ◌++◌, append_assoc}
 use mathlib.Core.Option.{Option, some, none}
@@ -7,7 +8,7 @@ use Prim.Native.Nat.{ℕ, suc, ◌+◌, ◌-◌, ◌≤◌, ◌<◌}
 use native.Mathlib.Omega.{arith}
 use lib.ListN.{length, take, drop, length-append, length-drop}
 use lib.Seq.{drop_at, take_at, drop-drop, length-take-le, take-add}
-use Rattle.definition.specs.Lists.{if◌then◌else◌, is_empty, same}
+use Rattle.definition.specs.Lists.{is_empty, same}
 use Rattle.definition.specs.Bytes.{slash}
 use Rattle.definition.specs.Archive.{File, bodies_of, number_at, files_of, laid_out, body_of, file_number}
 use Rattle.laws.proofs.Lists.{same_eq, same_lengths, same_append}

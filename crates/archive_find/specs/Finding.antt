@@ -1,7 +1,7 @@
 -- What a search of an archive answers.
-use Rattle.std.specs.Prelude.{List, [], ◌∷◌, ℕ, ◌+◌, length}
+use Rattle.std.specs.Prelude.{List, [], ◌∷◌, ℕ, ◌+◌, length, if◌then◌else◌}
 use Rattle.std.proofs.Math.Option.{Option, some, none}
-use Rattle.definition.specs.Lists.{if◌then◌else◌, same}
+use Rattle.definition.specs.Lists.{same}
 use Rattle.definition.specs.Archive.{File, files_of}
 use Rattle.archive.specs.Walk.{lengths_at}
 use Rattle.archive.specs.declared.Member.{Member}

@@ -1,11 +1,12 @@
 -- The place of a name among the files of an archive, and the walk to it. Assumes nothing.
+use Rattle.std.specs.Prelude.{if◌then◌else◌}
 use mathlib.Core.Bool.{Bool, true, false, not}
 use mathlib.Core.List.{List, [], ◌∷◌, map}
 use mathlib.Core.Path.{◌≡◌, refl, sym, ap, ◌∙◌}
 use Prim.Native.Nat.{ℕ, suc, ◌+◌, ◌≤◌, ◌<◌}
 use native.Mathlib.Omega.{arith}
 use lib.ListN.{length, drop}
-use Rattle.definition.specs.Lists.{if◌then◌else◌, all, any, lower}
+use Rattle.definition.specs.Lists.{all, any, lower}
 use Rattle.definition.specs.Archive.{File, number_at, files_of, rising, laid_out}
 use Rattle.laws.proofs.Lists.{and_true, and_both, eq_same, same_sym, lower_differ, not_lower_equal, all_map}
 use Rattle.laws.proofs.Archive.{laid_out_says, rising_first, rising_rest}

@@ -1,6 +1,6 @@
 -- The place of a name among the files of an archive (document 01's shelf).
-use Rattle.std.specs.Prelude.{Bool, List, [], ◌∷◌, ℕ, suc}
-use Rattle.definition.specs.Lists.{if◌then◌else◌, any, same, lower}
+use Rattle.std.specs.Prelude.{Bool, List, [], ◌∷◌, ℕ, suc, if◌then◌else◌}
+use Rattle.definition.specs.Lists.{any, same, lower}
 use Rattle.definition.specs.Archive.{File, files_of}
 use Rattle.archive.specs.Walk.{name_start}
 use Rattle.archive_slot.specs.declared.Slot.{Slot}

@@ -1,7 +1,7 @@
 -- What an argument's bytes say.
-use Rattle.std.specs.Prelude.{Bool, false, List, [], ◌∷◌, ℕ, ◌-◌, eqb}
+use Rattle.std.specs.Prelude.{Bool, false, List, [], ◌∷◌, ℕ, ◌-◌, eqb, if◌then◌else◌}
 use Rattle.std.proofs.Math.Option.{Option, some, none}
-use Rattle.definition.specs.Lists.{if◌then◌else◌, ascii, same}
+use Rattle.definition.specs.Lists.{ascii, same}
 use Rattle.definition.specs.Bytes.{within}
 use Rattle.definition.specs.Value.{natural_of}
 use Rattle.integers.specs.Readings.{magnitude}
@@ -20,7 +20,7 @@ format_of a =
     if same a (ascii "32") then 32 else
     0
 
--- a number up to 2^63, or `noDepth` for anything else
+-- a number up to 2^63, or `no_depth` for anything else
 abbrev pub no_depth : ℕ
 no_depth = 18446744073709551615
 

@@ -1,6 +1,6 @@
 -- What a list of arguments asks for: a fold over them, from the left.
-use Rattle.std.specs.Prelude.{Bool, not, List, [], ◌∷◌, ◌≡◌, ℕ, ◌+◌, eqb, ltb, length}
-use Rattle.definition.specs.Lists.{if◌then◌else◌, take_while}
+use Rattle.std.specs.Prelude.{Bool, not, List, [], ◌∷◌, ◌≡◌, ℕ, ◌+◌, eqb, ltb, length, if◌then◌else◌}
+use Rattle.definition.specs.Lists.{take_while}
 use Rattle.definition.specs.Bytes.{within}
 use Rattle.io.specs.Counts.{IsPrefixLen}
 use Rattle.options.specs.Options.{text, name, class, format, anything, operand, help as helpAsked, missing as missingAsked, write as writeAsked, list as listAsked, shared as sharedAsked, takes, option_of}

@@ -1,4 +1,5 @@
 -- What a block has, byte by byte, and bytes pasted one block after another. Assumes nothing.
+use Rattle.std.specs.Prelude.{if◌then◌else◌}
 use mathlib.Core.Bool.{Bool, true, false, ◌||◌, or-false}
 use mathlib.Core.List.{List, ◌++◌}
 use mathlib.Core.Path.{◌≡◌, refl, sym, ap, ◌∙◌}
@@ -10,7 +11,7 @@ use lib.Bits.{bit_or}
 use lib.Dec.{eqb}
 use lib.ListN.{length, get_or, set, take, drop, length-drop}
 use lib.Seq.{paste, paste-suc, take-paste, take-suc, get_or-drop}
-use Rattle.definition.specs.Lists.{if◌then◌else◌, any, zeroes}
+use Rattle.definition.specs.Lists.{any, zeroes}
 use Rattle.laws.proofs.Lists.{any_append}
 use Rattle.laws.proofs.Image.{length_zeroes}
 use Rattle.blocks.specs.Either.{either}

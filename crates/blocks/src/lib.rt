@@ -1,9 +1,9 @@
 // Blocks of eight bytes. No test stands between the bytes of a block, so a machine may take all of them at once.
 #![tactic(auto)]
 
-ghost use Rattle.std.specs.Prelude.{◌≡◌, ◌+◌, ◌≤◌, length, take, drop};
+ghost use Rattle.std.specs.Prelude.{◌≡◌, ◌+◌, ◌≤◌, length, take, drop, if◌then◌else◌};
 ghost use Rattle.std.proofs.Math.Seq.{paste};
-ghost use Rattle.definition.specs.Lists.{if◌then◌else◌, any, zeroes};
+ghost use Rattle.definition.specs.Lists.{any, zeroes};
 ghost use Rattle.blocks.specs.Either.{either};
 
 // The bytes of a block.

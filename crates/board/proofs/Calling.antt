@@ -1,4 +1,5 @@
 -- What the calls of a board answer, test by test. Assumes nothing.
+use Rattle.std.specs.Prelude.{if◌then◌else◌}
 use mathlib.Core.Bool.{Bool, true, false, ◌||◌, not, or-true}
 use mathlib.Core.List.{List, [], ◌∷◌}
 use mathlib.Core.Path.{◌≡◌, refl, sym, ap, ◌∙◌}
@@ -8,7 +9,7 @@ use native.Mathlib.Omega.{arith}
 use lib.Dec.{eqb, leb}
 use lib.ListN.{length}
 use borrow.Author.Tests.{le-leb, lt-leb, eq-eqb, ne_eqb}
-use Rattle.definition.specs.Lists.{if◌then◌else◌, any}
+use Rattle.definition.specs.Lists.{any}
 use Rattle.definition.specs.Limits.{most_packs, most_queries}
 use Rattle.definition.specs.Image.{is_image}
 use Rattle.definition.specs.Query.{query_of}

@@ -1,4 +1,5 @@
 -- What the calls of a board write. Assumes nothing.
+use Rattle.std.specs.Prelude.{if◌then◌else◌}
 use mathlib.Core.Bool.{Bool, true, false, ◌||◌, not}
 use mathlib.Core.List.{List, [], ◌∷◌, ◌++◌, append_assoc}
 use mathlib.Core.Path.{◌≡◌, refl, sym, ap, ◌∙◌}
@@ -8,7 +9,7 @@ use native.Mathlib.Omega.{arith}
 use lib.Dec.{eqb}
 use lib.ListN.{length, take, drop, set, length-set}
 use lib.Seq.{paste, sets-eq, slice, take-suc-set, drop-set-lt, append_snoc}
-use Rattle.definition.specs.Lists.{if◌then◌else◌, any, take_while}
+use Rattle.definition.specs.Lists.{any, take_while}
 use Rattle.definition.specs.Limits.{row_words}
 use Rattle.definition.specs.Image.{count_of, used_of}
 use Rattle.definition.specs.Lookup.{given, refused}

@@ -1,4 +1,5 @@
 -- What a watched query gets, test by test. Assumes nothing.
+use Rattle.std.specs.Prelude.{if◌then◌else◌}
 use mathlib.Core.Bool.{Bool, true, false, not}
 use mathlib.Core.List.{[]}
 use mathlib.Core.Path.{◌≡◌, refl, sym, ap, ◌∙◌}
@@ -6,7 +7,6 @@ use Prim.Native.Nat.{ℕ, suc, ◌+◌, ◌/◌, ◌%◌, ◌≤◌, ◌<◌}
 use native.Mathlib.Omega.{arith}
 use lib.ListN.{length, get_or}
 use lib.Seq.{length-slice}
-use Rattle.definition.specs.Lists.{if◌then◌else◌}
 use Rattle.definition.specs.Limits.{most_entries, most_packs, body_bytes, contents_words, board_words}
 use Rattle.definition.specs.Image.{key_end}
 use Rattle.definition.specs.Lookup.{Reply, given, no_value, refused, Place}

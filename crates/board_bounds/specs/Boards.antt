@@ -1,6 +1,11 @@
 -- Packs that come and go (document 02 (ix)), refusals among them, in buffers as long as they are lent, by evaluating the definition. A board's bytes
 -- are many: of what its calls write, the first two slots are looked at.
-use Rattle.std.specs.Prelude.{true, false, List, [], ◌∷◌, ◌++◌, map, ◌≡◌, refl, ℕ, ◌+◌, length, replicate}
+use Rattle.std.specs.Prelude.{true, false, List, [], ◌∷◌, ◌++◌, ◌||◌, map, ◌≡◌, refl, ℕ, ◌+◌, ◌-◌, length, replicate, drop}
+use Rattle.std.proofs.Common.{ltb}
+use Rattle.std.proofs.Math.ListN.{length-replicate}
+use Rattle.std.proofs.lemmas.List.{drop-replicate}
+use Rattle.definition.specs.Limits.{board_words, board_bytes}
+use Rattle.definition.specs.Adding.{over}
 use Prim.Native.String.{String}
 use Rattle.definition.specs.Lists.{ascii}
 use Rattle.definition.specs.Lookup.{Reply, given, no_value, refused}
@@ -9,6 +14,16 @@ use Rattle.definition.specs.Evaluation.{definition}
 use Rattle.bounds.specs.Lookups.{contents, bodies}
 
 -- ---- Made: 32,882 words and 589,824 bytes, and two more of each, which stay
+
+-- what a making in buffers of m words and n bytes comes to, without going through them one by one
+making :
+    (m n : ℕ) → (ltb m board_words || ltb n board_bytes) ≡ false → drop {A = ℕ} 2 (replicate m 7) ≡ replicate (m - 2) 7
+    → board_make (lent (replicate m 7) (replicate n 7)) ≡ done (given 0) (lent (0 ∷ 0 ∷ replicate (m - 2) 7) (replicate n 7))
+unfolding board_make over
+making m n e d = rw (length-replicate {A = ℕ} m 7, length-replicate {A = ℕ} n 7, e, d) refl
+
+first_making : board_make (lent (replicate 32884 7) (replicate 589826 7)) ≡ done (given 0) (lent (0 ∷ 0 ∷ replicate 32882 7) (replicate 589826 7))
+first_making = making 32884 589826 refl (drop-replicate 2 32884 7)
 
 makings :
     (board_make (lent (replicate 32884 7) (replicate 589826 7)) ≡ done (given 0) (lent (0 ∷ 0 ∷ replicate 32882 7) (replicate 589826 7)))
@@ -19,7 +34,7 @@ makings :
     × (board_answers (lent (replicate 32881 7) []) ≡ refused 1)
     × (board_report (lent (replicate 32881 7) []) 1 ≡ refused 1)
 unfolding definition
-makings = (refl, refl, refl, refl, refl, refl)
+makings = (first_making, refl, refl, refl, refl, refl)
 
 -- ---- A history, calls that are turned away among them
 
@@ -86,7 +101,7 @@ writings = refl
 no_entries : ℕ → Arrival
 no_entries n = record { number = n; contents = 0 ∷ 0 ∷ contents; bodies = bodies }
 
-noBoards :
+no_boards :
     -- packs have numbers of their own, none of them zero, and images
     (are_slots (no_entries 5 ∷ no_entries 6 ∷ []) ≡ true)
     × (are_slots (no_entries 5 ∷ no_entries 5 ∷ []) ≡ false)
@@ -97,14 +112,26 @@ noBoards :
     × (have_room (lent (0 ∷ 1 ∷ 1025 ∷ 0 ∷ []) []) 0 ≡ false)
     × (have_room (lent (0 ∷ 1 ∷ 0 ∷ 1025 ∷ []) []) 0 ≡ false)
 unfolding definition contents bodies no_image no_entries
-noBoards = (refl, refl, refl, refl, refl, refl, refl)
+no_boards = (refl, refl, refl, refl, refl, refl, refl)
 
 -- so many packs and queries
 many : ℕ → ℕ → Lent
 many p q = lent (p ∷ q ∷ replicate 32880 0) (replicate 589824 7)
 
-tooMany :
+-- a board's test, where its bytes are known by their number alone
+no_packs : (b : List ℕ) → ltb (length b) board_bytes ≡ false → is_board (lent (0 ∷ 32 ∷ replicate 32880 0) b) ≡ true
+unfolding definition
+no_packs b e = rw e refl
+
+packs_over : (b : List ℕ) → ltb (length b) board_bytes ≡ false → is_board (lent (17 ∷ 0 ∷ replicate 32880 0) b) ≡ false
+unfolding definition
+packs_over b e = rw e refl
+
+many_bytes : (n : ℕ) → ltb n board_bytes ≡ false → ltb (length (replicate {A = ℕ} n 7)) board_bytes ≡ false
+many_bytes n e = rw (length-replicate {A = ℕ} n 7) e
+
+too_many :
     (is_board (many 0 32) ≡ true)
     × (is_board (many 17 0) ≡ false)
 unfolding definition many
-tooMany = (refl, refl)
+too_many = (no_packs (replicate 589824 7) (many_bytes 589824 refl), packs_over (replicate 589824 7) (many_bytes 589824 refl))

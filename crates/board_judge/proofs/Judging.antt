@@ -1,4 +1,5 @@
 -- How a board is judged, slot by slot and query by query. Assumes nothing.
+use Rattle.std.specs.Prelude.{if◌then◌else◌}
 use mathlib.Core.Bool.{Bool, true, false, ◌&&◌, ◌||◌, not, and-false, and_assoc, or-true}
 use mathlib.Core.List.{List, [], ◌∷◌}
 use mathlib.Core.Path.{◌≡◌, refl, sym, ap, ◌∙◌}
@@ -8,7 +9,7 @@ use native.Mathlib.Omega.{arith}
 use lib.Dec.{eqb, leb, ltb}
 use lib.ListN.{length, get_or}
 use borrow.Author.Tests.{eq-eqb, ne_eqb, lt-ltb, le-ltb, le-leb, lt-leb}
-use Rattle.definition.specs.Lists.{if◌then◌else◌, any, all}
+use Rattle.definition.specs.Lists.{any, all}
 use Rattle.definition.specs.Limits.{query_bytes, most_packs, most_queries, board_words, board_bytes}
 use Rattle.definition.specs.Image.{is_image}
 use Rattle.definition.specs.Lookup.{Reply, refused}

@@ -1,6 +1,6 @@
 -- The slots of a board by their words, and what is judged of one.
-use Rattle.std.specs.Prelude.{Bool, ◌&&◌, not, List, ℕ, ◌+◌, ◌-◌, eqb, get_or}
-use Rattle.definition.specs.Lists.{if◌then◌else◌, any}
+use Rattle.std.specs.Prelude.{Bool, ◌&&◌, not, List, ℕ, ◌+◌, ◌-◌, eqb, get_or, if◌then◌else◌}
+use Rattle.definition.specs.Lists.{any}
 use Rattle.definition.specs.Image.{is_image}
 use Rattle.definition.specs.Board.{each, Lent, slot_start, slot_at, short_board, is_board}
 

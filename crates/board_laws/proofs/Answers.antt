@@ -1,4 +1,5 @@
 -- Watched answers: their bytes, all of them at once, what a pack that leaves changes, and the report. Assumes nothing.
+use Rattle.std.specs.Prelude.{if◌then◌else◌}
 use mathlib.Core.Bool.{Bool, true, false, not}
 use mathlib.Core.List.{List, [], ◌∷◌, ◌++◌, map, flatten}
 use mathlib.Core.Logic.{◌↔◌, ◌⊎◌, inl}
@@ -11,7 +12,7 @@ use native.Mathlib.Omega.{arith}
 use lib.Dec.{eqb}
 use lib.ListN.{length, get_or, length-map, get_or-eq_default}
 use borrow.Author.Tests.{eqb-true, eq-eqb}
-use Rattle.definition.specs.Lists.{if◌then◌else◌, any, filter, same}
+use Rattle.definition.specs.Lists.{any, filter, same}
 use Rattle.definition.specs.Text.{Entry}
 use Rattle.definition.specs.Image.{Row, entry_at}
 use Rattle.definition.specs.Query.{Position, Query, positions, malformed, past_limit}

@@ -1,4 +1,5 @@
 -- What is lent beyond a board's words and bytes is neither read nor written. Assumes nothing.
+use Rattle.std.specs.Prelude.{if◌then◌else◌}
 use mathlib.Core.Bool.{Bool, true, false, ◌&&◌, ◌||◌, not}
 use mathlib.Core.List.{List, [], ◌∷◌, ◌++◌, append_assoc, map}
 use mathlib.Core.Path.{◌≡◌, refl, sym, ap, ◌∙◌}
@@ -8,7 +9,7 @@ use lib.Dec.{leb, ltb}
 use lib.ListN.{length, take, drop, get_or, take-append-drop}
 use lib.Seq.{slice, length-take-le, take-append-le, drop-append-le, get_or-take, take-take, take_all}
 use borrow.Author.Tests.{le-ltb, leb-true}
-use Rattle.definition.specs.Lists.{if◌then◌else◌, all}
+use Rattle.definition.specs.Lists.{all}
 use Rattle.definition.specs.Limits.{row_words, most_packs, most_queries, board_words, board_bytes}
 use Rattle.definition.specs.Image.{count_of, used_of}
 use Rattle.definition.specs.Lookup.{Reply, given, no_value, refused}

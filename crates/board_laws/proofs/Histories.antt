@@ -1,4 +1,5 @@
 -- After every list of calls from an empty board the buffers are a board, and keep what the history says. Assumes nothing.
+use Rattle.std.specs.Prelude.{if◌then◌else◌}
 use mathlib.Core.Bool.{Bool, true, false, ◌&&◌, ◌||◌, not}
 use mathlib.Core.List.{List, [], ◌∷◌, map}
 use mathlib.Core.Option.{Option, some, none}
@@ -9,7 +10,6 @@ use lib.Dec.{eqb, leb, ltb}
 use lib.ListN.{length, length-map}
 use native.Mathlib.Decide.{dec_lt}
 use borrow.Author.Tests.{not-false, ltb-false, le-leb, le-ltb}
-use Rattle.definition.specs.Lists.{if◌then◌else◌}
 use Rattle.definition.specs.Limits.{query_bytes, most_packs, most_queries, board_words, board_bytes}
 use Rattle.definition.specs.Image.{is_image}
 use Rattle.definition.specs.Query.{Query, positions, malformed, past_limit, names_of, counted_query, query_within, shell, query_of}

@@ -1,4 +1,5 @@
 -- The slots of a board, as a list: one more, and one that leaves. Assumes nothing.
+use Rattle.std.specs.Prelude.{if◌then◌else◌}
 use mathlib.Core.Bool.{Bool, true, false, ◌&&◌, ◌||◌, not}
 use mathlib.Core.List.{List, [], ◌∷◌, ◌++◌, map}
 use mathlib.Core.Path.{◌≡◌, refl, sym, ap, ◌∙◌}
@@ -7,7 +8,7 @@ use native.Mathlib.Omega.{arith}
 use lib.Dec.{eqb}
 use lib.ListN.{length, take, drop}
 use borrow.Author.Tests.{eqb-true, eq-eqb, ne_eqb, not-true}
-use Rattle.definition.specs.Lists.{if◌then◌else◌, any, take_while, filter}
+use Rattle.definition.specs.Lists.{any, take_while, filter}
 use Rattle.definition.specs.Image.{is_image}
 use Rattle.definition.specs.Board.{Arrival, Pack, kept, has_number, each, are_slots}
 use Rattle.laws.proofs.Lists.{Order, below, equal, above, order, not_both, eqb_sym, and_true, and_both, any_append}

@@ -1,4 +1,5 @@
 -- What the leaving of a pack changes, by what a query finds with it and without it. Assumes nothing.
+use Rattle.std.specs.Prelude.{if◌then◌else◌}
 use mathlib.Core.Bool.{Bool, true, false, not}
 use mathlib.Core.List.{List, [], ◌∷◌, map}
 use mathlib.Core.Option.{Option, some, none}
@@ -9,7 +10,7 @@ use native.Mathlib.Omega.{arith}
 use lib.Dec.{eqb}
 use lib.ListN.{length, get_or}
 use borrow.Author.Tests.{ne_eqb}
-use Rattle.definition.specs.Lists.{if◌then◌else◌, filter, same}
+use Rattle.definition.specs.Lists.{filter, same}
 use Rattle.definition.specs.Limits.{most_packs, most_queries, most_entries}
 use Rattle.definition.specs.Query.{Query}
 use Rattle.definition.specs.Lookup.{Reply, given, no_value, refused, answer_of, Place}

@@ -1,8 +1,8 @@
 // What the leaving of a pack would change, told beforehand. Document 02 (ix).
 #![tactic(auto)]
 
-ghost use Rattle.std.specs.Prelude.{◌≡◌, true, not, ◌+◌, ◌*◌, ◌≤◌, ◌<◌, get_or};
-ghost use Rattle.definition.specs.Lists.{if◌then◌else◌, same};
+ghost use Rattle.std.specs.Prelude.{◌≡◌, true, not, ◌+◌, ◌*◌, ◌≤◌, ◌<◌, get_or, if◌then◌else◌};
+ghost use Rattle.definition.specs.Lists.{same};
 ghost use Rattle.definition.specs.Board.{each, changes, bits_of, lent, pack_count, query_count, slot_start, board_in, is_board, board_report};
 ghost use Rattle.board_search.specs.Slots.{Named, spot_value};
 ghost use Rattle.board_report.specs.Replies.{report_replied};

@@ -1,4 +1,5 @@
 -- What the search over the slots finds is what the joined entries give. Assumes nothing.
+use Rattle.std.specs.Prelude.{if◌then◌else◌}
 use mathlib.Core.Bool.{Bool, true, false}
 use mathlib.Core.List.{List, [], ◌∷◌, ◌++◌, map, map-append, flatten, append_assoc}
 use mathlib.Core.Option.{Option, some, none}
@@ -11,7 +12,7 @@ use lib.ListN
 use lib.ListN.{length, get_or, take, length-append, length-map, get_or-append}
 use lib.Seq.{get_or-append-add, take-take}
 use borrow.Author.Tests.{ne_eqb}
-use Rattle.definition.specs.Lists.{if◌then◌else◌, lower}
+use Rattle.definition.specs.Lists.{lower}
 use Rattle.definition.specs.Limits.{most_entries, most_packs}
 use Rattle.definition.specs.Text.{Part, Entry}
 use Rattle.definition.specs.Image.{Row, rows_in, count_of, used_of, key_end, value_end, entry_at, is_image}

@@ -1,4 +1,5 @@
 -- Two numberings of the entries of a search. Assumes nothing.
+use Rattle.std.specs.Prelude.{if◌then◌else◌}
 use mathlib.Core.Bool.{Bool, true, false}
 use mathlib.Core.List.{List, [], ◌∷◌}
 use mathlib.Core.Logic.{◌⊎◌, inl, inr}
@@ -8,7 +9,7 @@ use Prim.Native.Nat.{ℕ, suc, ◌+◌, ◌*◌, ◌<◌}
 use native.Mathlib.Omega.{arith}
 use lib.ListN.{length}
 use borrow.Author.Tests.{lt-ltb, le-ltb}
-use Rattle.definition.specs.Lists.{if◌then◌else◌, lower}
+use Rattle.definition.specs.Lists.{lower}
 use Rattle.definition.specs.Limits.{most_entries}
 use Rattle.definition.specs.Text.{Part}
 use Rattle.definition.specs.Query.{Position}

@@ -1,7 +1,6 @@
 -- The search over the slots of a board. An entry has the number of its slot times 512, and of its row.
-use Rattle.std.specs.Prelude.{List, [], ◌∷◌, ℕ, zero, suc, ◌+◌, ◌*◌, ◌/◌, ◌%◌, ◌<◌, eqb, ltb}
+use Rattle.std.specs.Prelude.{List, [], ◌∷◌, ℕ, zero, suc, ◌+◌, ◌*◌, ◌/◌, ◌%◌, ◌<◌, eqb, ltb, if◌then◌else◌}
 use Rattle.std.proofs.Math.Option.{Option, some, none}
-use Rattle.definition.specs.Lists.{if◌then◌else◌}
 use Rattle.definition.specs.Limits.{most_entries}
 use Rattle.definition.specs.Image.{Row, count_of, key_end, value_at}
 use Rattle.definition.specs.Query.{Position, Query, positions, malformed, past_limit}

@@ -136,7 +136,7 @@ unused = record {
   host = some (ascii "b:22");
 }
 
-startUps :
+start_ups :
     (start_up [] long no_files ≡ 2)
     × (start_up long [] no_files ≡ 2)
     × (start_up long long [] ≡ 2)
@@ -155,7 +155,7 @@ startUps :
     ≡ outcome (refused 5) (replicate 2050 0 ++ 7 ∷ 7 ∷ []) (replicate 32768 0 ++ 7 ∷ 7 ∷ []))
     × (starting greatest_depth (property (ascii "a:1") long) no_files contents bodies ≡ outcome (refused 2) contents bodies)
 unfolding definition copies contents bodies number_of name include large opens_text opens_files property start_up long unused
-startUps = (refl, refl, refl, refl, refl, refl, refl, refl, refl, refl, refl, refl, refl)
+start_ups = (refl, refl, refl, refl, refl, refl, refl, refl, refl, refl, refl, refl, refl)
 
 -- ---- Document 02 (x): 15 after 1, 2 and 3 and before 4 to 7; nothing changes
 

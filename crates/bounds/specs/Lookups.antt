@@ -6,7 +6,7 @@ use Rattle.definition.specs.Limits.{default_depth}
 use Rattle.definition.specs.Reading.{Outcome, reading}
 use Rattle.definition.specs.Query.{window}
 use Rattle.definition.specs.Lookup.{Reply, given, no_value, refused as refusedReply, Place, get_bytes_within, get_bytes}
-use Rattle.definition.specs.Value.{get_string_within, get_bool_within, get_value_within, get_string, get_bool, get_value, Number, number, not_aNumber, shown_within, shown}
+use Rattle.definition.specs.Value.{get_string_within, get_bool_within, get_value_within, get_string, get_bool, get_value, Number, number, not_a_number, shown_within, shown}
 use Rattle.definition.specs.Evaluation.{definition, no_files}
 
 -- n copies of a text, one after another
@@ -84,7 +84,7 @@ module _ (v : String) where
   showing : String → List ℕ
   showing n = shown image.contents image.bodies (ascii n) [] (ascii "default")
 
-readingsOfAValue :
+readings_of_a_value :
     (as_string "\\377" ≡ no_value)
     × (as_bool "\\377" ≡ no_value)
     × (as_number "\\377" ≡ no_value)
@@ -92,12 +92,12 @@ readingsOfAValue :
     × (as_bool "yes" ≡ given true)
     × (as_bool "x" ≡ no_value)
     × (as_number "-7" ≡ given (number (negsuc 6)))
-    × (as_number "x" ≡ given not_aNumber)
+    × (as_number "x" ≡ given not_a_number)
     × (showing "x" "a" ≡ ascii "x")
     × (showing "" "a" ≡ [])
     × (showing "x" "b" ≡ ascii "default")
 unfolding definition contents bodies image as_string as_bool as_number showing
-readingsOfAValue = (refl, refl, refl, refl, refl, refl, refl, refl, refl, refl, refl)
+readings_of_a_value = (refl, refl, refl, refl, refl, refl, refl, refl, refl, refl, refl)
 
 -- the calls of the dictionary window (document 02 (vi)), of a name in that image
 module _ (v : String) (n : List ℕ) where
@@ -116,7 +116,7 @@ module _ (v : String) (n : List ℕ) where
   showing_in_window : List ℕ
   showing_in_window = shown_within window (image v).contents (image v).bodies n [] (ascii "default")
 
-windowReadings :
+window_readings :
     (in_window "yes" (ascii "a") ≡ given (record { start = 2; length = 3 }))
     × (string_in_window "yes" (ascii "a") ≡ given (record { start = 2; length = 3 }))
     × (bool_in_window "yes" (ascii "a") ≡ given true)
@@ -131,4 +131,4 @@ windowReadings :
     × (showing_in_window "yes" (name 9) ≡ ascii "default")
     × (in_window "no" (name 8) ≡ no_value)
 unfolding definition copies contents bodies name image in_window string_in_window bool_in_window number_in_window showing_in_window
-windowReadings = (refl, refl, refl, refl, refl, refl, refl, refl, refl, refl, refl, refl)
+window_readings = (refl, refl, refl, refl, refl, refl, refl, refl, refl, refl, refl, refl)

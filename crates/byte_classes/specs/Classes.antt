@@ -1,6 +1,5 @@
 -- The table of bytes: what each of the 256 may be, a bit for each class (document 02 (ii)).
-use Rattle.std.specs.Prelude.{Bool, List, [], ◌∷◌, ℕ, zero, suc, ◌+◌}
-use Rattle.definition.specs.Lists.{if◌then◌else◌}
+use Rattle.std.specs.Prelude.{Bool, List, [], ◌∷◌, ℕ, zero, suc, ◌+◌, if◌then◌else◌}
 use Rattle.definition.specs.Bytes.{is_name, is_octal, is_blank, is_binding}
 
 -- 1 for a name byte, 2 for an octal digit, 4 for a blank, 8 for a binding

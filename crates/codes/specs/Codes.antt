@@ -3,7 +3,7 @@ use Rattle.std.specs.Prelude.{Bool, true, false, ℕ, ◌+◌, ◌*◌, ◌≤�
 use Rattle.definition.specs.Limits.{body_bytes, most_entries, most_opens, written_bytes}
 use Rattle.definition.specs.Reading.{Answer, accepted, refused}
 use Rattle.definition.specs.Lookup.{Reply, given, no_value, refused as refused_by, Place}
-use Rattle.definition.specs.Value.{Number, number, not_aNumber}
+use Rattle.definition.specs.Value.{Number, number, not_a_number}
 use Rattle.definition.specs.Walking.{Walk, after_step}
 use Rattle.definition.specs.Writing.{Extent, written, refused as refusedText}
 use Rattle.comparison.specs.Answering.{Comparison, both, no_file, refused_by as refusedAs}
@@ -31,8 +31,8 @@ from32 = 4294967296
 abbrev pub none_code : ℕ
 none_code = 65535
 
-abbrev pub not_aNumber_code : ℕ
-not_aNumber_code = 65534
+abbrev pub not_a_number_code : ℕ
+not_a_number_code = 65534
 
 -- ---- Readings
 
@@ -76,7 +76,7 @@ taking n z = record { code = n; out = z }
 -- the number with 0; 65534 if not a number; only a number changes what is lent
 abbrev pub taken : Reply Number → ℤ → Taking
 taken (given (number z)) lent = taking 0 z
-taken (given not_aNumber) lent = taking not_aNumber_code lent
+taken (given not_a_number) lent = taking not_a_number_code lent
 taken no_value lent = taking none_code lent
 taken (refused_by k) lent = taking k lent
 

@@ -1,7 +1,6 @@
 -- The comparing call: a query looked up in what is read with a file on the archive (document 01's shelf), and with it struck off.
-use Rattle.std.specs.Prelude.{List, ◌≡◌, ℕ, ◌≤◌, ltb, length}
+use Rattle.std.specs.Prelude.{List, ◌≡◌, ℕ, ◌≤◌, ltb, length, if◌then◌else◌}
 use Rattle.std.proofs.Math.Seq.{paste}
-use Rattle.definition.specs.Lists.{if◌then◌else◌}
 use Rattle.definition.specs.Archive.{files_of, struck_off}
 use Rattle.definition.specs.Image.{too_short}
 use Rattle.definition.specs.Reading.{Answer, accepted, refused, Outcome}

@@ -1,4 +1,5 @@
 -- What `next_component_name` finds. Assumes nothing.
+use Rattle.std.specs.Prelude.{if◌then◌else◌}
 use mathlib.Core.Bool.{Bool, true, false}
 use mathlib.Core.List.{List, [], ◌∷◌}
 use mathlib.Core.Path.{◌≡◌, refl, sym, ap, ◌∙◌}
@@ -7,7 +8,7 @@ use native.Mathlib.Omega.{arith}
 use lib.Dec.{eqb}
 use lib.ListN.{length, take, drop}
 use borrow.Author.Tests.{eq-eqb, ne_eqb, eqb-true}
-use Rattle.definition.specs.Lists.{if◌then◌else◌, take_while, drop_while}
+use Rattle.definition.specs.Lists.{take_while, drop_while}
 use Rattle.definition.specs.Parsing.{nothing}
 use Rattle.definition.specs.Bytes.{question, is_digit, is_name}
 use Rattle.definition.specs.Text.{Binding, component_at}

@@ -1,4 +1,5 @@
 -- Where the key of a text is the text itself: part by part, and what follows of the key. Assumes nothing.
+use Rattle.std.specs.Prelude.{if◌then◌else◌}
 use mathlib.Core.Bool.{Bool, true, false, ◌&&◌, ◌||◌, and-true as and-true-right, and-false, and_assoc, or-false}
 use mathlib.Core.List.{List, [], ◌∷◌, ◌++◌, append_assoc}
 use mathlib.Core.Path.{◌≡◌, refl, sym, ap, ◌∙◌}
@@ -9,7 +10,7 @@ use lib.Dec.{eqb, leb}
 use lib.ListN.{length, get_or, take, drop, length-append, take-append-drop, get_or-append}
 use lib.Seq.{take-append_seam, drop-drop}
 use borrow.Author.Tests.{ne_eqb, eqb-true, lt-leb}
-use Rattle.definition.specs.Lists.{if◌then◌else◌, all, any, take_while, drop_while, is_empty, same}
+use Rattle.definition.specs.Lists.{all, any, take_while, drop_while, is_empty, same}
 use Rattle.definition.specs.Parsing.{Parsed, many}
 use Rattle.definition.specs.Bytes.{dot, star, is_binding}
 use Rattle.definition.specs.Text.{Part, part_at}

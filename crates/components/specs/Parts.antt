@@ -1,6 +1,6 @@
 -- What an answer of the code says of a text.
-use Rattle.std.specs.Prelude.{Bool, ◌||◌, List, [], ◌∷◌, ◌++◌, ◌≡◌, ℕ, ◌-◌, ◌≤◌, ◌<◌, eqb, length, take, drop}
-use Rattle.definition.specs.Lists.{if◌then◌else◌, any, take_while, is_empty, same}
+use Rattle.std.specs.Prelude.{Bool, ◌||◌, List, [], ◌∷◌, ◌++◌, ◌≡◌, ℕ, ◌-◌, ◌≤◌, ◌<◌, eqb, length, take, drop, if◌then◌else◌}
+use Rattle.definition.specs.Lists.{any, take_while, is_empty, same}
 use Rattle.definition.specs.Parsing.{nothing, found, many}
 use Rattle.definition.specs.Bytes.{dot, star, is_binding}
 use Rattle.definition.specs.Text.{Binding, tight, loose, Component, wildcard, name, Part, component_at, part_at, ends_in_name}

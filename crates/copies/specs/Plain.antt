@@ -1,6 +1,5 @@
 -- A value's plain bytes, and a step of a copy.
-use Rattle.std.specs.Prelude.{Bool, not, ℕ, ◌+◌, ◌-◌, ltb}
-use Rattle.definition.specs.Lists.{if◌then◌else◌}
+use Rattle.std.specs.Prelude.{Bool, not, ℕ, ◌+◌, ◌-◌, ltb, if◌then◌else◌}
 use Rattle.definition.specs.Bytes.{newline, backslash}
 use Rattle.blocks.specs.Either.{either}
 

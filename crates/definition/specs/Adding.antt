@@ -1,6 +1,5 @@
 -- An addition (document 02 (v)): a text that makes one entry, put behind those of an image; and a walk with additions under way.
-use Rattle.std.specs.Prelude.{true, not, List, [], ◌∷◌, ◌++◌, ◌≡◌, ℕ, suc, ◌+◌, ◌*◌, ◌≤◌, length, take, drop}
-use Rattle.definition.specs.Lists.{if◌then◌else◌}
+use Rattle.std.specs.Prelude.{true, not, List, [], ◌∷◌, ◌++◌, ◌≡◌, ℕ, suc, ◌+◌, ◌*◌, ◌≤◌, length, take, drop, if◌then◌else◌}
 use Rattle.definition.specs.Limits.{default_depth, row_words, unknown_file}
 use Rattle.definition.specs.Archive.{archive_of}
 use Rattle.definition.specs.Text.{Entry}

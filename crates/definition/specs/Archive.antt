@@ -1,7 +1,7 @@
 -- The archive: document 01's shelf, which stands in for the file system.
-use Rattle.std.specs.Prelude.{Bool, true, false, ◌&&◌, ◌||◌, not, List, [], ◌∷◌, ◌++◌, map, ℕ, zero, suc, ◌+◌, ◌*◌, ◌/◌, ◌%◌, eqb, leb, length, take, drop, get_or}
+use Rattle.std.specs.Prelude.{Bool, true, false, ◌&&◌, ◌||◌, not, List, [], ◌∷◌, ◌++◌, map, ℕ, zero, suc, ◌+◌, ◌*◌, ◌/◌, ◌%◌, eqb, leb, length, take, drop, get_or, if◌then◌else◌}
 use Rattle.std.proofs.Math.Option.{Option, some, none}
-use Rattle.definition.specs.Lists.{if◌then◌else◌, ascii, all, any, is_empty, same, lower}
+use Rattle.definition.specs.Lists.{ascii, all, any, is_empty, same, lower}
 use Rattle.definition.specs.Limits.{archive_bytes, archive_files, file_name_bytes}
 use Rattle.definition.specs.Bytes.{dot, slash, is_name}
 

@@ -1,10 +1,10 @@
 -- Packs that come and go (document 02 (ix)): what a board keeps after a list of calls, its watched answers, how it is laid out in two lent
 -- buffers, and what is claimed of the calls.
-use Rattle.std.specs.Prelude.{Bool, true, false, ◌&&◌, ◌||◌, not, ◌↔◌, ◌⊎◌, ◌≡◌, ℕ, zero, suc, ◌+◌, ◌*◌, ◌-◌, ◌/◌, ◌%◌, eqb, leb, ltb, length, take, drop, get_or}
+use Rattle.std.specs.Prelude.{Bool, true, false, ◌&&◌, ◌||◌, not, ◌↔◌, ◌⊎◌, ◌≡◌, ℕ, zero, suc, ◌+◌, ◌*◌, ◌-◌, ◌/◌, ◌%◌, eqb, leb, ltb, length, take, drop, get_or, if◌then◌else◌}
 use mathlib.Core.List.{List, [], ◌∷◌, ◌++◌, map, flatten}
 use Rattle.std.proofs.Math.Option.{Option, some, none}
 use Rattle.std.proofs.Math.Seq.{slice}
-use Rattle.definition.specs.Lists.{if◌then◌else◌, all, any, take_while, filter, same}
+use Rattle.definition.specs.Lists.{all, any, take_while, filter, same}
 use Rattle.definition.specs.Limits.{row_words, body_bytes, query_bytes, most_packs, most_queries, slot_words, board_words, board_bytes}
 use Rattle.definition.specs.Text.{Entry}
 use Rattle.definition.specs.Image.{Row, count_of, used_of, rows_in, key_end, entry_at, is_image}

@@ -74,7 +74,7 @@ holding p q = record {
 no_entries : ℕ → Arrival
 no_entries n = record { number = n; contents = image_contents [] []; bodies = image_bodies [] [] }
 
-turnedAway :
+turned_away :
     -- 8 for an arriving image, before 13
     (reply_to (arrive (record { number = 0; contents = []; bodies = [] })) (holding 16 0) ≡ refused 8)
     -- 13, a seventeenth pack, before 14
@@ -97,7 +97,7 @@ turnedAway :
     -- each leaves the board unchanged
     × (after_calls (leave 3 ∷ arrive (pack 4 "") ∷ watch (record { name = replicate 1025 97; class = [] }) ∷ []) packed ≡ packed)
 unfolding definition pack no_entries asks after packed holding flatten
-turnedAway = (refl, refl, refl, refl, refl, refl, refl, refl, refl, refl, refl, refl, refl, refl, refl)
+turned_away = (refl, refl, refl, refl, refl, refl, refl, refl, refl, refl, refl, refl, refl, refl, refl)
 
 -- a board's words and bytes; short in one of them is short
 shorts :

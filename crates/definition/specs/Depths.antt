@@ -162,10 +162,10 @@ both = (refl, refl, refl, refl, refl, refl)
 answer_at : ℕ → String → List ℕ → Answer
 answer_at d text archive = (reading d (ascii text ∷ []) archive (replicate contents_words 7) (replicate body_bytes 7)).answer
 
-turnedAway :
+turned_away :
     (answer_at 100 "a:1" (0 ∷ 0 ∷ []) ≡ accepted 1 0)
     × (answer_at 101 "a:1" (0 ∷ 0 ∷ []) ≡ refused 15)
     × (answer_at 101 "a:1" [] ≡ refused 3)
     × (answer_at 101 "a.a.a.a.a.a.a.a.a.a.a.a.a.a.a.a.a:" (0 ∷ 0 ∷ []) ≡ refused 15)
 unfolding definition answer_at
-turnedAway = (refl, refl, refl, refl)
+turned_away = (refl, refl, refl, refl)

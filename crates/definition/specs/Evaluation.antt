@@ -1,9 +1,9 @@
 -- How examples are evaluated: by unfolding all of the definition.
-use Rattle.std.specs.Prelude.{Bool, ℕ}
+use Rattle.std.specs.Prelude.{Bool, ℕ, if◌then◌else◌}
 use mathlib.Core.List.{List, [], ◌∷◌, map, flatten}
 use Rattle.std.proofs.Math.Option.{Option, some, none}
 use Prim.Native.String.{String}
-use Rattle.definition.specs.Lists.{if◌then◌else◌, ascii, all, any, take_while, drop_while, filter, is_empty, or_else, beyond, zeroes, same, lower}
+use Rattle.definition.specs.Lists.{ascii, all, any, take_while, drop_while, filter, is_empty, or_else, beyond, zeroes, same, lower}
 use Rattle.definition.specs.Parsing.{continued, at_most, many, ◌>>=◌, after}
 use Rattle.definition.specs.Limits.{greatest_depth, default_depth}
 use Rattle.definition.specs.Bytes.{is_digit, is_octal, is_name, is_blank, is_space, is_binding, not_newline}

@@ -1,7 +1,7 @@
 -- The database image (document 01, "The database image"): written from entries, judged, and read back.
-use Rattle.std.specs.Prelude.{Bool, ◌&&◌, ◌||◌, not, List, [], ◌∷◌, ◌++◌, map, ℕ, zero, suc, ◌+◌, ◌*◌, ◌-◌, eqb, leb, ltb, length, drop, get_or}
+use Rattle.std.specs.Prelude.{Bool, ◌&&◌, ◌||◌, not, List, [], ◌∷◌, ◌++◌, map, ℕ, zero, suc, ◌+◌, ◌*◌, ◌-◌, eqb, leb, ltb, length, drop, get_or, if◌then◌else◌}
 use Rattle.std.proofs.Math.Seq.{slice}
-use Rattle.definition.specs.Lists.{if◌then◌else◌, all, is_empty, zeroes, beyond}
+use Rattle.definition.specs.Lists.{all, is_empty, zeroes, beyond}
 use Rattle.definition.specs.Parsing.{Parse, nothing, many}
 use Rattle.definition.specs.Limits.{contents_words, body_bytes, row_words, most_entries, most_parts, archive_files, unknown_file}
 use Rattle.definition.specs.Bytes.{dot, star, question, is_binding}
@@ -22,7 +22,7 @@ unfoldable pub key_of : List Part → List ℕ
 key_of [] = []
 key_of (p ∷ ps) = binding_byte p.binding ∷ component_bytes p.component ++ key_of ps
 
--- an entry, and where its line stands (document 02 (viii)): 0 for a text of the reading, a file's place on the archive, or `unknownFile`
+-- an entry, and where its line stands (document 02 (viii)): 0 for a text of the reading, a file's place on the archive, or `unknown_file`
 pub record Sourced : Type 0 where
   pub entry : Entry
   pub origin : ℕ
@@ -61,7 +61,7 @@ image_contents xs lent = written_over contents_words lent (contents_of xs)
 abbrev pub image_bodies : List Entry → List ℕ → List ℕ
 image_bodies es lent = written_over body_bytes lent (store_of es)
 
--- ---- Read back, with rows of any width; an image's are of `rowWords`, and were of `oldRowWords`
+-- ---- Read back, with rows of any width; an image's are of `row_words`, and were of `old_row_words`
 
 pub record Row : Type 0 where
   pub start : ℕ

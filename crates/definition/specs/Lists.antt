@@ -1,13 +1,8 @@
 -- Words for tests and lists that the definition is written in. They say nothing of resources.
-use Rattle.std.specs.Prelude.{Bool, true, false, ◌&&◌, ◌||◌, List, [], ◌∷◌, ℕ, eqb, ltb, drop, replicate}
+use Rattle.std.specs.Prelude.{Bool, true, false, ◌&&◌, ◌||◌, List, [], ◌∷◌, ℕ, eqb, ltb, drop, replicate, if◌then◌else◌}
 use Rattle.std.proofs.Math.Option.{Option, some, none}
 use Prim.Native.String.{String, [] as ε, ◌∷◌ as ◌◁◌}
 use Prim.Native.Char.{code}
-
-infix 1 if◌then◌else◌
-abbrev pub if◌then◌else◌ : {A : Type 0} → Bool → A → A → A
-if true then a else b = a
-if false then a else b = b
 
 -- the bytes of a text of ASCII characters
 abbrev pub ascii : String → List ℕ

@@ -1,8 +1,7 @@
 -- `get_bytes`: the value of the entry that beats the rest (document 01, "Matching" and "Readings of a value").
-use Rattle.std.specs.Prelude.{not, List, [], map, ℕ, ◌+◌, get_or}
+use Rattle.std.specs.Prelude.{not, List, [], map, ℕ, ◌+◌, get_or, if◌then◌else◌}
 use Rattle.std.proofs.Math.Option.{Option, some, none}
 use Rattle.std.proofs.Math.Seq.{slice}
-use Rattle.definition.specs.Lists.{if◌then◌else◌}
 use Rattle.definition.specs.Text.{Part, Entry}
 use Rattle.definition.specs.Limits.{row_words}
 use Rattle.definition.specs.Image.{Row, rows_by, key_end, entries_in, is_image_by}

@@ -1,7 +1,7 @@
 -- Matching (document 01, "Matching"; Xlib 15.2; `match_entry`): alignments, marks, rows, and who beats the rest.
-use Rattle.std.specs.Prelude.{Bool, true, false, List, [], ◌∷◌, ◌≡◌, ℕ, ◌<◌, length, get_or}
+use Rattle.std.specs.Prelude.{Bool, true, false, List, [], ◌∷◌, ◌≡◌, ℕ, ◌<◌, length, get_or, if◌then◌else◌}
 use Rattle.std.proofs.Math.Option.{Option, some, none, map}
-use Rattle.definition.specs.Lists.{if◌then◌else◌, same, lower}
+use Rattle.definition.specs.Lists.{same, lower}
 use Rattle.definition.specs.Text.{Binding, tight, loose, Component, wildcard, name, Part}
 use Rattle.definition.specs.Query.{Position}
 
@@ -59,7 +59,7 @@ pub record Beats (keys : List (List Part)) (qs : List Position) (i : ℕ) : Type
   pub before : (j : ℕ) (other : List ℕ) → j < i → Ranks (get_or keys j []) qs other → lower row other ≡ false
   pub after : (j : ℕ) (other : List ℕ) → i < j → j < length keys → Ranks (get_or keys j []) qs other → lower other row ≡ true
 
--- in a list exactly one entry beats the rest if any aligns, else none: a law of the crate `laws` (Ranking.antt: `one-beats`)
+-- in a list exactly one entry beats the rest if any aligns, else none: a law of the crate `laws` (Ranking.antt: `one_beats`)
 pub record OneBeats (keys : List (List Part)) (qs : List Position) : Type 0 where
   pub if_any : (j : ℕ) (row : List ℕ) → j < length keys → Aligned (get_or keys j []) qs row
       → (i : ℕ) × Beats keys qs i × ((k : ℕ) → Beats keys qs k → k ≡ i)

@@ -1,7 +1,6 @@
 -- Carrying an old image over (document 02 (viii)): one whose rows have three words, into new buffers, without reading again; and what is
 -- claimed of it.
-use Rattle.std.specs.Prelude.{true, false, not, List, ◌≡◌, ℕ, length}
-use Rattle.definition.specs.Lists.{if◌then◌else◌}
+use Rattle.std.specs.Prelude.{true, false, not, List, ◌≡◌, ℕ, length, if◌then◌else◌}
 use Rattle.definition.specs.Limits.{row_words, old_row_words, unknown_file}
 use Rattle.definition.specs.Text.{Entry}
 use Rattle.definition.specs.Image.{all_from, image_contents, image_bodies, is_image_by, is_image, too_short}

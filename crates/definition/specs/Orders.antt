@@ -1,7 +1,7 @@
 -- Packs in any order (document 02 (vii)): lists of the same entries in another order, and what is claimed of them.
-use Rattle.std.specs.Prelude.{Bool, true, false, ◌&&◌, List, [], ◌∷◌, ◌++◌, map, ◌↔◌, ◌⊎◌, ◌≡◌, ℕ, suc, ◌<◌, eqb, ltb, length, drop, get_or}
+use Rattle.std.specs.Prelude.{Bool, true, false, ◌&&◌, List, [], ◌∷◌, ◌++◌, map, ◌↔◌, ◌⊎◌, ◌≡◌, ℕ, suc, ◌<◌, eqb, ltb, length, drop, get_or, if◌then◌else◌}
 use Rattle.std.proofs.Math.Option.{Option, some, none}
-use Rattle.definition.specs.Lists.{if◌then◌else◌, all, filter, same}
+use Rattle.definition.specs.Lists.{all, filter, same}
 use Rattle.definition.specs.Bytes.{newline, hash, not_newline}
 use Rattle.definition.specs.Text.{Binding, tight, loose, Component, wildcard, name, Part, Entry, include_of}
 use Rattle.definition.specs.Including.{Entered}

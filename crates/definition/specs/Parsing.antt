@@ -1,7 +1,6 @@
 -- Taking things off the front of a text. They say nothing of resources.
-use Rattle.std.specs.Prelude.{List, [], ◌∷◌, ℕ, zero, suc, eqb, length}
+use Rattle.std.specs.Prelude.{List, [], ◌∷◌, ℕ, zero, suc, eqb, length, if◌then◌else◌}
 use Rattle.std.proofs.Math.Option.{Option, some, none}
-use Rattle.definition.specs.Lists.{if◌then◌else◌}
 
 -- what stands at the front of a text and the text after it, or nothing
 pub data Parse (A : Type 0) : Type 0 where

@@ -13,7 +13,7 @@ use Rattle.definition.specs.Evaluation.{definition, file, line, written, entries
 path : String → String → Option (List ℕ)
 path folder name = path_of (ascii folder) (ascii name)
 
-looksFor :
+looks_for :
     -- `.` parts are dropped
     (path "" "./pack" ≡ some (ascii "pack"))
     × (path "a" "./pack" ≡ some (ascii "a/pack"))
@@ -38,9 +38,9 @@ looksFor :
     × (path "" "pack" ≡ some (ascii "pack"))
     × (path "a/b" "c/d" ≡ some (ascii "a/b/c/d"))
 unfolding definition path
-looksFor = (refl, refl, refl, refl, refl, refl, refl, refl, refl, refl, refl, refl, refl, refl, refl, refl, refl)
+looks_for = (refl, refl, refl, refl, refl, refl, refl, refl, refl, refl, refl, refl, refl, refl, refl, refl, refl)
 
-findsNothing :
+finds_nothing :
     -- above the root, at any point
     (path "" "../a" ≡ none)
     × (path "a" "../../b" ≡ none)
@@ -64,7 +64,7 @@ findsNothing :
     × (path "" "a/." ≡ none)
     × (path "" "a/b/.." ≡ none)
 unfolding definition path
-findsNothing = (refl, refl, refl, refl, refl, refl, refl, refl, refl, refl, refl, refl, refl, refl, refl, refl, refl, refl, refl)
+finds_nothing = (refl, refl, refl, refl, refl, refl, refl, refl, refl, refl, refl, refl, refl, refl, refl, refl, refl, refl, refl)
 
 finds :
     -- from the main text, and from a file's folder

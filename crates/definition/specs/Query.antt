@@ -1,7 +1,7 @@
 -- Queries (document 01, "Matching"; `parse_query`).
-use Rattle.std.specs.Prelude.{◌||◌, List, [], ◌∷◌, map, ℕ, eqb, ltb, length}
+use Rattle.std.specs.Prelude.{◌||◌, List, [], ◌∷◌, map, ℕ, eqb, ltb, length, if◌then◌else◌}
 use Rattle.std.proofs.Math.Option.{Option, some, none}
-use Rattle.definition.specs.Lists.{if◌then◌else◌, take_while, drop_while, is_empty}
+use Rattle.definition.specs.Lists.{take_while, drop_while, is_empty}
 use Rattle.definition.specs.Parsing.{Parse, nothing, found, many}
 use Rattle.definition.specs.Limits.{query_bytes, query_parts, window_bytes, window_parts}
 use Rattle.definition.specs.Bytes.{dot, is_name}

@@ -1,7 +1,7 @@
 -- The same as Matching, computed: which entry beats the rest, if any. The crate `laws` shows that the two agree.
-use Rattle.std.specs.Prelude.{List, [], ◌∷◌, ℕ, suc}
+use Rattle.std.specs.Prelude.{List, [], ◌∷◌, ℕ, suc, if◌then◌else◌}
 use Rattle.std.proofs.Math.Option.{Option, some, none}
-use Rattle.definition.specs.Lists.{if◌then◌else◌, or_else, lower}
+use Rattle.definition.specs.Lists.{or_else, lower}
 use Rattle.definition.specs.Text.{Binding, tight, loose, Part}
 use Rattle.definition.specs.Query.{Position}
 use Rattle.definition.specs.Matching.{skip_mark, mark_at}

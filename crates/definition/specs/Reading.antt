@@ -1,6 +1,6 @@
 -- The reading call: document 01's limits laid over what a reading meets, and what the call leaves in the two lent buffers.
-use Rattle.std.specs.Prelude.{Bool, not, List, [], ◌∷◌, map, ℕ, ◌+◌, leb, ltb, length}
-use Rattle.definition.specs.Lists.{if◌then◌else◌, any}
+use Rattle.std.specs.Prelude.{Bool, not, List, [], ◌∷◌, map, ℕ, ◌+◌, leb, ltb, length, if◌then◌else◌}
+use Rattle.definition.specs.Lists.{any}
 use Rattle.definition.specs.Limits.{text_bytes, greatest_depth, most_opens, most_entries, most_parts, body_bytes}
 use Rattle.definition.specs.Archive.{File, laid_out, files_of}
 use Rattle.definition.specs.Text.{Entry}

@@ -1,7 +1,7 @@
 -- Made by `make recorded-antt` from the recorded answers of the Rust: the definition gives each of them.
 use Rattle.std.specs.Prelude.{true, false, List, [], ◌∷◌, map, ◌≡◌, refl, pos, negsuc}
 use Rattle.std.proofs.Math.Option.{some, none}
-use Rattle.definition.specs.Value.{number, not_aNumber}
+use Rattle.definition.specs.Value.{number, not_a_number}
 use Rattle.definition.specs.Evaluation.{definition, written, reads, bytes, truth, value, Row, ◌~◌, entry, read, found, well_formed, ask_bytes, ask_string, ask_bool, ask_value}
 
 rows : List Row
@@ -61,7 +61,7 @@ rows =
     ∷ ask_bool (97 ∷ 58 ∷ 111 ∷ 70 ∷ 102 ∷ []) (0 ∷ 0 ∷ []) (97 ∷ []) [] ~ truth (some false)
     ∷ ask_bool (97 ∷ 58 ∷ 121 ∷ 101 ∷ 115 ∷ 32 ∷ []) (0 ∷ 0 ∷ []) (97 ∷ []) [] ~ truth none
     ∷ ask_value (97 ∷ 58 ∷ 45 ∷ 57 ∷ 50 ∷ 50 ∷ 51 ∷ 51 ∷ 55 ∷ 50 ∷ 48 ∷ 51 ∷ 54 ∷ 56 ∷ 53 ∷ 52 ∷ 55 ∷ 55 ∷ 53 ∷ 56 ∷ 48 ∷ 56 ∷ []) (0 ∷ 0 ∷ []) (97 ∷ []) [] ~ value (some (number (negsuc 9223372036854775807)))
-    ∷ ask_value (97 ∷ 58 ∷ 49 ∷ 120 ∷ []) (0 ∷ 0 ∷ []) (97 ∷ []) [] ~ value (some not_aNumber)
+    ∷ ask_value (97 ∷ 58 ∷ 49 ∷ 120 ∷ []) (0 ∷ 0 ∷ []) (97 ∷ []) [] ~ value (some not_a_number)
     ∷ ask_value (97 ∷ 58 ∷ 255 ∷ []) (0 ∷ 0 ∷ []) (97 ∷ []) [] ~ value none
     ∷ ask_string (97 ∷ 58 ∷ 92 ∷ 51 ∷ 48 ∷ 51 ∷ 92 ∷ 50 ∷ 53 ∷ 49 ∷ []) (0 ∷ 0 ∷ []) (97 ∷ []) [] ~ bytes (some (195 ∷ 169 ∷ []))
     ∷ ask_string (97 ∷ 58 ∷ 92 ∷ 51 ∷ 53 ∷ 53 ∷ 92 ∷ 50 ∷ 52 ∷ 48 ∷ 92 ∷ 50 ∷ 48 ∷ 48 ∷ []) (0 ∷ 0 ∷ []) (97 ∷ []) [] ~ bytes none

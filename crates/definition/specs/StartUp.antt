@@ -1,8 +1,8 @@
 -- Which texts a reader starts with (document 02 (i); X(7), RESOURCES; `new_from_default`). All of them are lent.
 -- Departure: X(7) does not list.Xresources; it lists SCREEN_RESOURCES, application files and `-xrm`, which the Rust leaves out.
-use Rattle.std.specs.Prelude.{Bool, ◌&&◌, not, List, [], ◌∷◌, ◌++◌, ℕ, eqb}
+use Rattle.std.specs.Prelude.{Bool, ◌&&◌, not, List, [], ◌∷◌, ◌++◌, ℕ, eqb, if◌then◌else◌}
 use Rattle.std.proofs.Math.Option.{Option, some, none}
-use Rattle.definition.specs.Lists.{if◌then◌else◌, is_empty, or_else}
+use Rattle.definition.specs.Lists.{is_empty, or_else}
 use Rattle.definition.specs.Reading.{Outcome, reading}
 
 -- the property, the texts, each of which is none if it could not be read, and whether XENVIRONMENT is set

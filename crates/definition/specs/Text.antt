@@ -1,9 +1,9 @@
 -- Reading a text, line by line (document 01, "Reading a text"; Xlib 15.1; `parse_database` and `parse_entry`).
 -- A departure of the Rust from the manual is marked "Departure" where it stands.
-use Rattle.std.specs.Prelude.{Bool, true, false, ◌&&◌, ◌||◌, not, ℕ, ◌+◌, ◌*◌, ◌-◌, ◌%◌, eqb, length, take, drop}
+use Rattle.std.specs.Prelude.{Bool, true, false, ◌&&◌, ◌||◌, not, ℕ, ◌+◌, ◌*◌, ◌-◌, ◌%◌, eqb, length, take, drop, if◌then◌else◌}
 use mathlib.Core.List.{List, [], ◌∷◌, flatten}
 use Rattle.std.proofs.Math.Option.{Option, some, none}
-use Rattle.definition.specs.Lists.{if◌then◌else◌, ascii, any, take_while, drop_while}
+use Rattle.definition.specs.Lists.{ascii, any, take_while, drop_while}
 use Rattle.definition.specs.Parsing.{Parse, nothing, found, Parsed, many, ◌>>=◌, after}
 use Rattle.definition.specs.Bytes.{
   newline,

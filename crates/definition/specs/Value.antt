@@ -1,7 +1,7 @@
 -- Readings of a value (document 01, "Readings of a value"; `get_string`, `get_bool`, `to_bool`, `get_value`).
-use Rattle.std.specs.Prelude.{Bool, true, false, ◌&&◌, not, List, [], ◌∷◌, map, ℕ, ◌+◌, ◌-◌, ◌^◌, eqb, leb, ℤ, pos, neg_ℤ, nat_abs}
+use Rattle.std.specs.Prelude.{Bool, true, false, ◌&&◌, not, List, [], ◌∷◌, map, ℕ, ◌+◌, ◌-◌, ◌^◌, eqb, leb, ℤ, pos, neg_ℤ, nat_abs, if◌then◌else◌}
 use Rattle.std.proofs.Math.Option.{Option, some, none}
-use Rattle.definition.specs.Lists.{if◌then◌else◌, ascii, all, any, or_else, is_empty, same}
+use Rattle.definition.specs.Lists.{ascii, all, any, or_else, is_empty, same}
 use Rattle.definition.specs.Parsing.{Parse, nothing, found, many}
 use Rattle.definition.specs.Limits.{row_words}
 use Rattle.definition.specs.Bytes.{plus, minus, within, is_digit}
@@ -107,10 +107,10 @@ module _ {A : Type 0} where
 
 pub data Number : Type 0 where
   number : ℤ → Number
-  not_aNumber : Number
+  not_a_number : Number
 
 unfoldable pub number_of : Option ℤ → Number
-number_of none = not_aNumber
+number_of none = not_a_number
 number_of (some z) = number z
 
 -- the bytes of a reply, or else the default's; none and refusals show the default

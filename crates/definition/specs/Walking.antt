@@ -1,7 +1,6 @@
 -- A walk (document 02 (v)): the entries that align with a query, lowest number first, a step at a time.
-use Rattle.std.specs.Prelude.{Bool, true, false, not, List, [], ◌∷◌, ◌≡◌, ℕ, suc, ◌≤◌, ◌<◌, length, get_or, take, drop}
+use Rattle.std.specs.Prelude.{Bool, true, false, not, List, [], ◌∷◌, ◌≡◌, ℕ, suc, ◌≤◌, ◌<◌, length, get_or, take, drop, if◌then◌else◌}
 use Rattle.std.proofs.Math.Option.{Option, some, none}
-use Rattle.definition.specs.Lists.{if◌then◌else◌}
 use Rattle.definition.specs.Text.{Entry}
 use Rattle.definition.specs.Limits.{row_words}
 use Rattle.definition.specs.Image.{count_of, is_image_by, is_image}

@@ -77,11 +77,11 @@ image = 1 ∷ 2 ∷ 0 ∷ 2 ∷ 0 ∷ 0 ∷ 0 ∷ 2 ∷ 0 ∷ 0 ∷ replicate 20
 bytes : List ℕ
 bytes = ascii ".a" ++ replicate 32766 7
 
-imageSteps :
+image_steps :
     (walk_step image bytes (ascii "a") [] (walk 0 2) ≡ given 0)
     × (walk_step image bytes (ascii "a") [] (walk 1 2) ≡ no_value)
 unfolding definition image bytes
-imageSteps = (refl, refl)
+image_steps = (refl, refl)
 
 -- ---- Additions
 

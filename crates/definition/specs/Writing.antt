@@ -1,7 +1,7 @@
 -- Writing a database out (document 02 (iv)): the text of a list of entries, the call that writes an image's, and what is claimed of it.
-use Rattle.std.specs.Prelude.{Bool, true, false, not, ◌↔◌, ◌≡◌, ℕ, ◌≤◌, eqb, ltb, length, drop}
+use Rattle.std.specs.Prelude.{Bool, true, false, not, ◌↔◌, ◌≡◌, ℕ, ◌≤◌, eqb, ltb, length, drop, if◌then◌else◌}
 use mathlib.Core.List.{List, [], ◌∷◌, ◌++◌, flatten, map}
-use Rattle.definition.specs.Lists.{if◌then◌else◌, ascii}
+use Rattle.definition.specs.Lists.{ascii}
 use Rattle.definition.specs.Limits.{row_words, written_bytes}
 use Rattle.definition.specs.Bytes.{newline, backslash, is_blank}
 use Rattle.definition.specs.Archive.{laid_out}
@@ -108,7 +108,7 @@ SameText =
     → is_image contents' bodies' ≡ true
     → (image_text contents bodies ≡ image_text contents' bodies') ↔ SameEntries contents bodies contents' bodies'
 
--- no image's text is longer than `writtenBytes`, and some image's is just that long
+-- no image's text is longer than `written_bytes`, and some image's is just that long
 abbrev pub LongestText : Type 0
 LongestText =
     ((contents bodies : List ℕ) → is_image contents bodies ≡ true → length (image_text contents bodies) ≤ written_bytes)

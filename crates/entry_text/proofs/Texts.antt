@@ -1,4 +1,5 @@
 -- A value's text: byte by byte, run by run, and how long it is. Assumes nothing.
+use Rattle.std.specs.Prelude.{if◌then◌else◌}
 use mathlib.Core.Bool.{Bool, true, false, ◌||◌, not}
 use mathlib.Core.List.{List, [], ◌∷◌, ◌++◌, flatten}
 use mathlib.Core.Path.{◌≡◌, refl, sym, ap, ◌∙◌}
@@ -9,7 +10,7 @@ use lib.Dec.{eqb}
 use lib.ListN.{length, take, drop, get_or, length-append, drop_of_length-le, length-drop}
 use lib.Seq.{paste, drop-cons, drop-drop, get_or-drop}
 use borrow.Author.Tests.{ne_eqb}
-use Rattle.definition.specs.Lists.{if◌then◌else◌, ascii, take_while}
+use Rattle.definition.specs.Lists.{ascii, take_while}
 use Rattle.definition.specs.Bytes.{newline, backslash, letter_n, space, tab, is_blank}
 use Rattle.definition.specs.Writing.{escaped, begins_blank, value_text}
 use Rattle.laws.proofs.Lists.{not_both, part_rest, length_take_while_le}

@@ -1,7 +1,7 @@
 -- The text of an entry, from its key and its value.
 use mathlib.Core.List.{List, [], ◌∷◌, ◌++◌, flatten, map}
-use Rattle.std.specs.Prelude.{◌≡◌, ℕ, ◌+◌, ◌-◌, ◌≤◌, length, drop}
-use Rattle.definition.specs.Lists.{if◌then◌else◌, ascii}
+use Rattle.std.specs.Prelude.{◌≡◌, ℕ, ◌+◌, ◌-◌, ◌≤◌, length, drop, if◌then◌else◌}
+use Rattle.definition.specs.Lists.{ascii}
 use Rattle.definition.specs.Bytes.{newline, backslash}
 use Rattle.definition.specs.Writing.{escaped, begins_blank, value_text}
 

@@ -1,6 +1,6 @@
 -- What follows a backslash, as the code answers it: one byte, or none, and how many bytes of text give it, the backslash among them.
-use Rattle.std.specs.Prelude.{ℕ, ◌+◌, ◌%◌, ◌||◌, List, [], ◌∷◌, length, take, drop, ◌==◌}
-use Rattle.definition.specs.Lists.{if◌then◌else◌, take_while}
+use Rattle.std.specs.Prelude.{ℕ, ◌+◌, ◌%◌, ◌||◌, List, [], ◌∷◌, length, take, drop, ◌==◌, if◌then◌else◌}
+use Rattle.definition.specs.Lists.{take_while}
 use Rattle.definition.specs.Bytes.{newline, backslash, letter_n, is_blank, is_octal}
 use Rattle.definition.specs.Text.{positional, line_ends}
 use Rattle.escapes.specs.declared.Piece.{Piece}

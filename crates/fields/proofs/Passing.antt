@@ -1,4 +1,5 @@
 -- Fields that are compared. Assumes nothing.
+use Rattle.std.specs.Prelude.{if◌then◌else◌}
 use mathlib.Core.Bool.{Bool, true, false}
 use mathlib.Core.List.{List, [], ◌∷◌, ◌++◌}
 use mathlib.Core.Path.{◌≡◌, refl, sym, ap, ◌∙◌}
@@ -6,7 +7,7 @@ use Prim.Native.Nat.{ℕ, zero, suc, ◌+◌, ◌-◌}
 use lib.Dec.{eqb}
 use lib.ListN.{length, take, drop, length-append}
 use lib.Seq.{take-append_seam}
-use Rattle.definition.specs.Lists.{if◌then◌else◌, same}
+use Rattle.definition.specs.Lists.{same}
 use Rattle.definition.specs.Limits.{body_bytes}
 use Rattle.laws.proofs.Lists.{both_ways, same_eq, eq_same, part_rest}
 use Rattle.scan.specs.Scanned.{starts_with}

@@ -1,4 +1,5 @@
 -- The next field, taken. Assumes nothing.
+use Rattle.std.specs.Prelude.{if◌then◌else◌}
 use mathlib.Core.Bool.{Bool, true, false}
 use mathlib.Core.List.{List, [], ◌∷◌}
 use mathlib.Core.Path.{◌≡◌, refl, sym, ap, ◌∙◌}
@@ -7,7 +8,7 @@ use native.Mathlib.Omega.{arith}
 use lib.Dec.{eqb}
 use lib.ListN.{length, take, drop, length-append, length-drop}
 use lib.Seq.{length-take-le}
-use Rattle.definition.specs.Lists.{if◌then◌else◌, ascii}
+use Rattle.definition.specs.Lists.{ascii}
 use Rattle.laws.proofs.Lists.{not_both, part_rest}
 use Rattle.scan.specs.Scanned.{starts_with}
 use Rattle.scan.proofs.Beginnings.{starts_yes}

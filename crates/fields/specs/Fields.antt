@@ -1,7 +1,7 @@
 -- The fields of a recorded line. Each stands after one space; bytes are two digits each, or `-` for none.
-use Rattle.std.specs.Prelude.{Bool, false, ◌&&◌, List, [], ◌∷◌, ◌++◌, ◌≡◌, ℕ, zero, suc, ◌+◌, ◌*◌, ◌-◌, ◌≤◌, ltb, length, drop}
+use Rattle.std.specs.Prelude.{Bool, false, ◌&&◌, List, [], ◌∷◌, ◌++◌, ◌≡◌, ℕ, zero, suc, ◌+◌, ◌*◌, ◌-◌, ◌≤◌, ltb, length, drop, if◌then◌else◌}
 use Rattle.io.specs.Counts.{IsPrefixLen}
-use Rattle.definition.specs.Lists.{if◌then◌else◌, ascii, is_empty, same}
+use Rattle.definition.specs.Lists.{ascii, is_empty, same}
 use Rattle.definition.specs.Limits.{body_bytes}
 use Rattle.definition.specs.Bytes.{within}
 use Rattle.definition.specs.Image.{Row, key_at, value_at, rows_in, is_image}

@@ -1,4 +1,5 @@
 -- A name judged byte by byte is judged as the definition judges it. Assumes nothing.
+use Rattle.std.specs.Prelude.{if◌then◌else◌}
 use mathlib.Core.Bool.{Bool, true, false, ◌&&◌, ◌||◌, and-true, or-true}
 use mathlib.Core.List.{List, [], ◌∷◌}
 use mathlib.Core.Path.{◌≡◌, refl, sym, ap, ◌∙◌}
@@ -8,7 +9,7 @@ use lib.Dec.{eqb}
 use lib.ListN.{length, drop, get_or, drop_of_length-le}
 use lib.Seq.{drop-cons}
 use borrow.Author.Tests.{eqb-true, le-leb, lt-leb}
-use Rattle.definition.specs.Lists.{if◌then◌else◌, all, is_empty, same}
+use Rattle.definition.specs.Lists.{all, is_empty, same}
 use Rattle.definition.specs.Limits.{file_name_bytes}
 use Rattle.definition.specs.Bytes.{dot, slash, is_digit, is_name}
 use Rattle.definition.specs.Archive.{prefixed, split, is_name_part, is_file_name}

@@ -1,6 +1,5 @@
 -- A file name judged byte by byte: what each byte makes of the part that it stands in.
-use Rattle.std.specs.Prelude.{Bool, true, false, List, [], ◌∷◌, ℕ, eqb}
-use Rattle.definition.specs.Lists.{if◌then◌else◌}
+use Rattle.std.specs.Prelude.{Bool, true, false, List, [], ◌∷◌, ℕ, eqb, if◌then◌else◌}
 use Rattle.definition.specs.Bytes.{dot, slash, is_name}
 use Rattle.file_names.specs.declared.Part.{Part}
 use Rattle.file_names.specs.declared.Part.TheVariants.{Empty, Dot, DotDot, Good, Bad}

@@ -10,7 +10,6 @@ use answering::{answer_plan, depth_asked};
 use argument_words::descriptor;
 use chain_input::{Home, property_format, read_first, read_property, read_second, write_steps};
 use command_line::{argument, read_arguments};
-use libc::{STDERR_FILENO, STDOUT_FILENO};
 use limits::{ARCHIVE_BYTES, TEXT_BYTES};
 use loading::{load_files, read_text};
 use plans::{Plan, given, is_whole};
@@ -21,36 +20,37 @@ use writing::{complain, write_help};
 
 // ---- A main text
 
-fn answer_text<'a>(plan: Plan, text: &'a [u8], archive: &[u8]) -> u8
+fn answer_text<'a>(rt: &HostRuntime, plan: Plan, text: &'a [u8], archive: &[u8]) -> u8
     requires { laid_out archive.now ≡ true }
 {
     if plan.missing {
-        tell_main(text, archive);
+        tell_main(rt, text, archive);
     }
     if plan.shared {
-        tell_shared(text, archive, depth_asked(plan));
+        tell_shared(rt, text, archive, depth_asked(rt, plan));
     }
     let texts: [&'a [u8]; 1] = [text];
-    answer_plan(plan, &texts, archive)
+    answer_plan(rt, plan, &texts, archive)
 }
 
 // A text's buffer has one byte more than a text may have, so that the reading refuses what fills it.
-fn answer_main(plan: Plan, archive: &[u8]) -> u8
+fn answer_main(rt: &HostRuntime, plan: Plan, archive: &[u8]) -> u8
     requires { laid_out archive.now ≡ true }
 {
     let mut text = [0; TEXT_BYTES + 1];
-    let input = read_text(given(plan, options::TEXT), &mut text);
+    let input = read_text(rt, given(plan, options::TEXT), &mut text);
     if input.failed {
         return 2;
     }
     let n = input.size;
-    answer_text(plan, &text[..n], archive)
+    answer_text(rt, plan, &text[..n], archive)
 }
 
 // ---- A start-up chain
 
 // Answers with the texts that the chain uses, and says first which they are.
 fn answer_steps<'a>(
+    rt: &HostRuntime,
     plan: Plan,
     format: u8,
     property: &'a [u8],
@@ -63,7 +63,7 @@ fn answer_steps<'a>(
     requires { laid_out archive.now ≡ true }
 {
     let is_set = given(plan, options::XENVIRONMENT) != 0;
-    write_steps(format, property, home, is_set, is_read);
+    write_steps(rt, format, property, home, is_set, is_read);
     let a = first_text(
         format,
         property,
@@ -74,26 +74,27 @@ fn answer_steps<'a>(
     );
     let b = second_text(is_set, is_read, second, is_read, second);
     if plan.missing {
-        tell_chain(a, b, archive);
+        tell_chain(rt, a, b, archive);
     }
     if plan.shared {
-        tell_shared_chain(a, b, archive, depth_asked(plan));
+        tell_shared_chain(rt, a, b, archive, depth_asked(rt, plan));
     }
     let texts: [&'a [u8]; 2] = [a, b];
-    answer_plan(plan, &texts, archive)
+    answer_plan(rt, plan, &texts, archive)
 }
 
-fn answer_property(plan: Plan, property: &[u8], archive: &[u8]) -> u8
+fn answer_property(rt: &HostRuntime, plan: Plan, property: &[u8], archive: &[u8]) -> u8
     requires { laid_out archive.now ≡ true }
 {
-    let format = property_format(given(plan, options::FORMAT));
+    let format = property_format(rt, given(plan, options::FORMAT));
     let mut first = [0; TEXT_BYTES + 1];
-    let home = read_first(plan, format, property, &mut first);
+    let home = read_first(rt, plan, format, property, &mut first);
     let mut second = [0; TEXT_BYTES + 1];
-    let input = read_second(plan, &mut second);
+    let input = read_second(rt, plan, &mut second);
     let n = home.size;
     let m = input.size;
     answer_steps(
+        rt,
         plan,
         format,
         property,
@@ -105,69 +106,69 @@ fn answer_property(plan: Plan, property: &[u8], archive: &[u8]) -> u8
     )
 }
 
-fn answer_chain(plan: Plan, archive: &[u8]) -> u8
+fn answer_chain(rt: &HostRuntime, plan: Plan, archive: &[u8]) -> u8
     requires { laid_out archive.now ≡ true }
 {
     let mut property = [0; TEXT_BYTES + 1];
-    let input = read_property(given(plan, options::PROPERTY), &mut property);
+    let input = read_property(rt, given(plan, options::PROPERTY), &mut property);
     if input.failed {
         return 2;
     }
     let n = input.size;
-    answer_property(plan, &property[..n], archive)
+    answer_property(rt, plan, &property[..n], archive)
 }
 
 // Reads the files, and answers.
-fn answer_files(plan: Plan) -> u8 {
+fn answer_files(rt: &HostRuntime, plan: Plan) -> u8 {
     let mut archive = [0; ARCHIVE_BYTES];
-    let loaded = load_files(&mut archive);
+    let loaded = load_files(rt, &mut archive);
     if loaded.failed {
         return 2;
     }
     let size = loaded.size;
     if plan.chain {
-        return answer_chain(plan, &archive[..size]);
+        return answer_chain(rt, plan, &archive[..size]);
     }
-    answer_main(plan, &archive[..size])
+    answer_main(rt, plan, &archive[..size])
 }
 
 // Says which argument is not understood.
-fn refuse_argument(i: usize) {
+fn refuse_argument(rt: &HostRuntime, i: usize) {
     let mut buffer = io::buffer();
-    let n = argument(i, &mut buffer);
-    complain(&buffer[..n], b"not understood");
+    let n = argument(rt, i, &mut buffer);
+    complain(rt, &buffer[..n], b"not understood");
 }
 
 // The status: 0 for a value, entries, equal answers or a database, 1 for none or different answers, 2 for what is refused or fails.
-fn run(plan: Plan) -> u8 {
+fn run(rt: &HostRuntime, plan: Plan) -> u8 {
     if plan.help {
-        write_help(STDOUT_FILENO);
+        write_help(&rt.stdout());
         return 0;
     }
     let wrong = plan.wrong;
     if wrong != 0 {
-        refuse_argument(wrong);
+        refuse_argument(rt, wrong);
     }
     if wrong != 0 || !is_whole(plan) {
-        write_help(STDERR_FILENO);
+        write_help(&rt.stderr());
         return 2;
     }
-    answer_files(plan)
+    answer_files(rt, plan)
 }
 
 // Writes the status to the descriptor that is asked for.
-fn write_status(plan: Plan, status: u8) {
+fn write_status(rt: &HostRuntime, plan: Plan, status: u8) {
     let i = given(plan, options::STATUS);
     if i == 0 {
         return;
     }
     let mut buffer = io::buffer();
-    let n = argument(i, &mut buffer);
-    writing::write_status(descriptor(&buffer[..n]) as i32, status);
+    let n = argument(rt, i, &mut buffer);
+    writing::write_status(rt, descriptor(&buffer[..n]) as i32, status);
 }
 
-fn main() {
-    let plan = read_arguments();
-    let status = run(plan);
-    write_status(plan, status);
+fn main(rt: HostRuntime) {
+    let plan = read_arguments(&rt);
+    let status = run(&rt, plan);
+    write_status(&rt, plan, status);
 }

@@ -1,4 +1,5 @@
 -- What a run leaves is what the definition says: its verdict and the image of its entries. Assumes nothing.
+use Rattle.std.specs.Prelude.{if◌then◌else◌}
 use mathlib.Core.Bool.{Bool, true, false}
 use mathlib.Core.List.{List, [], ◌∷◌, ◌++◌, append_assoc, append-nil}
 use mathlib.Core.Path.{◌≡◌, refl, sym, ap, ◌∙◌}
@@ -8,7 +9,7 @@ use lib.Dec.{leb, ltb}
 use native.Mathlib.Nat.{sub-zero}
 use lib.ListN.{length, take, drop, set, length-append, take-append-drop, drop_of_length-le}
 use lib.Seq.{paste, set_at, append_snoc, take-append_seam, take-length, drop-append-add, drop-drop, take_at, length-take-le}
-use Rattle.definition.specs.Lists.{if◌then◌else◌, zeroes, beyond}
+use Rattle.definition.specs.Lists.{zeroes, beyond}
 use Rattle.definition.specs.Limits.{most_opens, most_entries, most_parts, body_bytes, contents_words, row_words}
 use Rattle.definition.specs.Archive.{File}
 use Rattle.definition.specs.Text.{Entry}

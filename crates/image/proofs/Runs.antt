@@ -1,4 +1,5 @@
 -- Laws of runs. Assumes nothing.
+use Rattle.std.specs.Prelude.{if◌then◌else◌}
 use mathlib.Core.Bool.{Bool, true, false}
 use mathlib.Core.List.{List, [], ◌∷◌, ◌++◌}
 use mathlib.Core.Path.{◌≡◌, refl, sym, ◌∙◌}
@@ -8,7 +9,6 @@ use lib.Dec.{leb, ltb}
 use lib.ListN.{length, length-set, length-append}
 use lib.Seq.{length-paste}
 use borrow.Author.Tests.{leb-false, ltb-false}
-use Rattle.definition.specs.Lists.{if◌then◌else◌}
 use Rattle.definition.specs.Limits.{most_opens, most_entries, most_parts, body_bytes}
 use Rattle.definition.specs.Text.{Entry}
 use Rattle.definition.specs.Archive.{File}

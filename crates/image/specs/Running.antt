@@ -1,7 +1,7 @@
 -- What an event does to the totals and the two buffers. proofs/Images.antt shows that a run leaves what the definition says.
-use Rattle.std.specs.Prelude.{List, [], ◌∷◌, ◌++◌, ◌≡◌, ℕ, ◌+◌, ◌-◌, ◌≤◌, leb, ltb, length, take, set}
+use Rattle.std.specs.Prelude.{List, [], ◌∷◌, ◌++◌, ◌≡◌, ℕ, ◌+◌, ◌-◌, ◌≤◌, leb, ltb, length, take, set, if◌then◌else◌}
 use Rattle.std.proofs.Math.Seq.{paste}
-use Rattle.definition.specs.Lists.{if◌then◌else◌, zeroes}
+use Rattle.definition.specs.Lists.{zeroes}
 use Rattle.definition.specs.Limits.{most_opens, most_entries, most_parts, body_bytes, contents_words}
 use Rattle.definition.specs.Archive.{File}
 use Rattle.definition.specs.Text.{Entry}

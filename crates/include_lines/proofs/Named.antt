@@ -4,14 +4,13 @@ use mathlib.Core.List.{List, [], ◌∷◌, ◌++◌, map, map-append}
 use mathlib.Core.Path.{◌≡◌, refl, sym, ap, ◌∙◌}
 use Prim.Native.Nat.{ℕ, zero, suc, ◌+◌, ◌-◌, ◌≤◌, ◌<◌}
 use native.Mathlib.Omega.{arith}
-use lib.ListN.{length, take, drop, length-drop, drop_of_length-le}
+use lib.ListN.{length, take, drop, drop_of_length-le}
 use lib.Dec.{ltb}
 use lib.Seq.{drop-drop}
 use borrow.Author.Tests.{ltb-true, ltb-false}
 use Rattle.definition.specs.Parsing.{found}
 use Rattle.definition.specs.Text.{skipped, include, entry, line_at, lines_of}
 use Rattle.definition.specs.Text as text
-use Rattle.laws.proofs.Lists.{part_rest}
 use Rattle.laws.proofs.Parsing.{many_stop, many_more}
 use Rattle.laws.proofs.Keys.{line_shrinks}
 use Rattle.parser.specs.Putting.{entry_from, line_after}

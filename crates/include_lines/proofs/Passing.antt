@@ -24,7 +24,7 @@ use Rattle.parser.proofs.Entries.{next_line, last_line, after_value, value_insid
 use Rattle.lines.specs.Places.{line_in}
 use Rattle.lines.specs.declared.Line.{Line}
 use Rattle.lines.specs.declared.Line.TheVariants.{Skip, Include, Entry}
-use Rattle.lines.proofs.Lined.{Lined, Skips, Includes, Enters, lined}
+use Rattle.lines.proofs.Lined.{Lined, Enters, lined}
 use Rattle.include_lines.specs.Includes.{place, taken, placed, places_in, includes_from, PieceTakes}
 
 -- ---- A piece of a value

@@ -1,6 +1,5 @@
 -- The includes of a text, by their places there: what the code answers. proofs/Named.antt shows that they are the definition's.
-use Rattle.std.specs.Prelude.{List, [], ◌∷◌, ◌++◌, ◌≡◌, ℕ, zero, suc, ◌+◌, ◌-◌, ◌≤◌, ◌<◌, length, take, drop, get_or}
-use Rattle.definition.specs.Bytes.{newline}
+use Rattle.std.specs.Prelude.{List, [], ◌∷◌, ◌++◌, ◌≡◌, ℕ, zero, suc, ◌+◌, ◌-◌, ◌≤◌, ◌<◌, length, take, drop}
 use Rattle.definition.specs.Text as text
 use Rattle.values.specs.Decoded.{rest_at}
 use Rattle.parser.specs.Putting.{line_after}

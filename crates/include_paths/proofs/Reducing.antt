@@ -1,4 +1,5 @@
 -- What is kept of a path stands for the definition's path, part by part, and at the end it is the path that is looked for. Assumes nothing.
+use Rattle.std.specs.Prelude.{if◌then◌else◌}
 use mathlib.Core.Bool.{Bool, true, false, ◌&&◌, ◌||◌, not}
 use mathlib.Core.List.{List, [], ◌∷◌, ◌++◌}
 use mathlib.Core.Option.{Option, some, none}
@@ -9,7 +10,7 @@ use lib.Dec.{eqb, leb}
 use lib.ListN.{length, take, drop, take-append-drop}
 use lib.Seq.{length-take-le, take-append-le}
 use borrow.Author.Tests.{eq-eqb, ne_eqb, leb-true, leb-false, le-leb, lt-leb}
-use Rattle.definition.specs.Lists.{if◌then◌else◌, ascii, all, is_empty, same}
+use Rattle.definition.specs.Lists.{ascii, all, is_empty, same}
 use Rattle.definition.specs.Limits.{file_name_bytes}
 use Rattle.definition.specs.Archive.{folder_of, split, joined, reduced, ends_in_dots, as_file_name, path_of}
 use Rattle.laws.proofs.Lists.{not_both, and_true}

@@ -1,4 +1,5 @@
 -- The loop over a text's parts: those taken so far, and what is left. Assumes nothing.
+use Rattle.std.specs.Prelude.{if◌then◌else◌}
 use mathlib.Core.Bool.{Bool, true, false}
 use mathlib.Core.List.{List, [], ◌∷◌, ◌++◌, append-nil}
 use mathlib.Core.Path.{◌≡◌, refl, sym, ap, subst, ◌∙◌}
@@ -6,7 +7,7 @@ use Prim.Native.Nat.{ℕ, suc, ◌+◌, ◌-◌, ◌≤◌, ◌<◌}
 use native.Mathlib.Omega.{arith}
 use lib.Dec.{eqb}
 use lib.ListN.{length, take, drop}
-use Rattle.definition.specs.Lists.{if◌then◌else◌, is_empty, take_while}
+use Rattle.definition.specs.Lists.{is_empty, take_while}
 use Rattle.definition.specs.Limits.{file_name_bytes}
 use Rattle.definition.specs.Archive.{split, joined}
 use Rattle.laws.proofs.Lists.{Order, below, equal, above, order, part_rest, length_part_rest}

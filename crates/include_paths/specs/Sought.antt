@@ -1,7 +1,7 @@
 -- The path that an include looks for, by what is kept of it as the parts of folder and name are taken.
-use Rattle.std.specs.Prelude.{false, List, [], ◌∷◌, ℕ, ◌≤◌, length, take}
+use Rattle.std.specs.Prelude.{false, List, [], ◌∷◌, ℕ, ◌≤◌, length, take, if◌then◌else◌}
 use Rattle.std.proofs.Math.Option.{Option, some, none}
-use Rattle.definition.specs.Lists.{if◌then◌else◌, is_empty}
+use Rattle.definition.specs.Lists.{is_empty}
 use Rattle.definition.specs.Limits.{file_name_bytes}
 use Rattle.definition.specs.Archive.{split, joined}
 use Rattle.kept_parts.specs.declared.Kept.{Kept}

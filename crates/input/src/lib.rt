@@ -1,40 +1,98 @@
-// A descriptor read to its end.
+// A file opened, a reader read to its end; why the system refuses, told in words.
 #![tactic(auto)]
 
+ghost use Rattle.std.specs.Prelude.{◌<◌, ◌≤◌, take, length, IfOk};
 ghost use Rattle.io.specs.Counts.{IsPrefixLen};
+ghost use Rattle.std.specs.Io.KnownBytes.{Consumes, IsAtEnd};
 
-// How many bytes were read, or that the descriptor cannot be read.
+use std::fmt;
+use std::fmt::Write;
+use std::fs::File;
+use std::io::{Error, ErrorKind, Print, Read, Result};
+
+// How many bytes were read, or that the input cannot be read.
 #[derive(Drop)]
 pub struct Input {
     pub size: usize,
     pub failed: bool,
 }
 
+// Opens a file for reading. The system's library takes a path as text: one that is not UTF-8 opens nothing.
+pub fn open(rt: &HostRuntime, path: &[u8]) -> Result<File> {
+    match std::str::from_utf8(path) {
+        Ok(path) => File::open(rt, path),
+        Err(_) => Err(Error::from(ErrorKind::InvalidFilename)),
+    }
+}
+
 // Reads until the end, or until `buffer` is full: a caller lends one byte more than it takes, so that what fills the buffer is too long.
-// Which bytes come, and in how many pieces, no contract can say: the programs' tests do.
-pub fn read_all(fd: i32, buffer: &mut [u8]) -> Input
-    ensures { IsPrefixLen result.size buffer.new }
+// Which bytes the system gives, and in how many pieces, no contract can say: the programs' tests do. After an error nothing is known of
+// the bytes of `buffer`.
+pub fn read_all<R: Read>(reader: &mut R, buffer: &mut [u8]) -> Result<usize>
+    ensures in_bounds { IfOk result (λ n. IsPrefixLen n buffer.new) }
+    ensures bytes { IfOk result (λ n. Consumes (R.remaining reader.old) (R.remaining reader.new) (take n buffer.new)) }
+    ensures end { IfOk result (λ n. n < length buffer.new → IsAtEnd (R.remaining reader.new)) }
 {
     let mut n = 0;
     while n < buffer.len() {
-        let got = libc::read(fd, &mut buffer[n..]);
-        if got < 0 {
-            return Input {
-                size: 0,
-                failed: true,
-            };
-        }
-        let more = io::count(got, &buffer[n..]);
+        let more = reader.read(&mut buffer[n..])?;
         if more == 0 {
-            return Input {
-                size: n,
-                failed: false,
-            };
+            return Ok(n);
         }
         n += more;
     }
-    Input {
-        size: n,
-        failed: false,
+    Ok(n)
+}
+
+// What an error says, as far as it fits.
+#[derive(Drop)]
+struct Words {
+    bytes: [u8; 256],
+    size: usize,
+    ghost fits: { size ≤ 256 },
+}
+
+impl fmt::Write for Words {
+    fn write_str(&mut self, s: &str) -> fmt::Result {
+        for b in s.as_bytes() {
+            let at = self.size;
+            if at == 256 {
+                return Err(fmt::Error);
+            }
+            self.bytes[at] = *b;
+            self.size = at + 1;
+        }
+        Ok(())
     }
+}
+
+// Where the last bracket opens, with the blank before it: there the number of a system's error follows its words.
+fn number_start(text: &[u8]) -> usize
+    ensures { IsPrefixLen result text.now }
+{
+    for i in (1..text.len()).rev() {
+        if text[i] == b'(' {
+            return i - 1;
+        }
+    }
+    text.len()
+}
+
+// Says on standard error why the system refuses what.
+pub fn fail(rt: &HostRuntime, what: &[u8], error: Error) {
+    let mut words = Words {
+        bytes: [0; 256],
+        size: 0,
+    };
+    let _ = write!(words, "{error}");
+    let size = words.size;
+    let n = match error.raw_os_error() {
+        Some(_) => number_start(&words.bytes[..size]),
+        None => size,
+    };
+    let err = rt.stderr();
+    let _ = err.write_all(what);
+    let _ = err.write_all(b": ");
+    let _ = err.write_all(&words.bytes[..n]);
+    let _ = err.write_all(b"\n");
 }

@@ -1,4 +1,5 @@
 -- How the code reads a number. Assumes nothing.
+use Rattle.std.specs.Prelude.{if◌then◌else◌}
 use mathlib.Core.Bool.{Bool, true, false, ◌&&◌}
 use mathlib.Core.List.{List, [], ◌∷◌}
 use mathlib.Core.Option.{Option, some, none}
@@ -14,7 +15,7 @@ use borrow.Author.Tests.{le-leb, lt-leb, leb-true, leb-false, eq-eqb, ne_eqb}
 use mir.Syntax.{w64}
 use mir.Val.{SFits, to_z, of_z}
 use mir.Facts.{to_z_pos, to_z-of_z}
-use Rattle.definition.specs.Lists.{if◌then◌else◌, all, is_empty}
+use Rattle.definition.specs.Lists.{all, is_empty}
 use Rattle.definition.specs.Bytes.{plus, minus, within, is_digit}
 use Rattle.definition.specs.Text.{positional}
 use Rattle.definition.specs.Value.{natural_of, signed, i64_of}

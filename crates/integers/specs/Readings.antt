@@ -1,7 +1,6 @@
 -- The code's answers as the definition's.
 use Rattle.std.proofs.Math.Option.{Option, some, none}
-use Rattle.std.specs.Prelude.{ℕ, ◌^◌, leb, ℤ}
-use Rattle.definition.specs.Lists.{if◌then◌else◌}
+use Rattle.std.specs.Prelude.{ℕ, ◌^◌, leb, ℤ, if◌then◌else◌}
 use Rattle.integers.specs.declared.Natural.{Natural}
 use Rattle.integers.specs.declared.Natural.TheVariants.{Is as IsNatural, Nothing}
 use Rattle.integers.specs.declared.Number.{Number}

@@ -1,4 +1,5 @@
 -- A part put below what is kept of a path, and single parts. Assumes nothing.
+use Rattle.std.specs.Prelude.{if◌then◌else◌}
 use mathlib.Core.Bool.{Bool, true, false, ◌&&◌}
 use mathlib.Core.List.{List, [], ◌∷◌, ◌++◌, append_assoc}
 use mathlib.Core.Path.{◌≡◌, refl, sym, ap, ◌∙◌}
@@ -9,7 +10,7 @@ use lib.Dec.{eqb, leb}
 use lib.ListN.{length, take, drop, get_or, set, length-append, length-drop}
 use lib.Seq.{paste, take_at, take-length, length-take-le}
 use borrow.Author.Tests.{eq-eqb, ne_eqb, leb-true}
-use Rattle.definition.specs.Lists.{if◌then◌else◌, ascii, is_empty, same}
+use Rattle.definition.specs.Lists.{ascii, is_empty, same}
 use Rattle.definition.specs.Limits.{file_name_bytes}
 use Rattle.definition.specs.Bytes.{slash}
 use Rattle.definition.specs.Archive.{folder_of, joined}

@@ -1,7 +1,7 @@
 -- What is kept of a path as its parts are taken, in a buffer of 96 bytes. That it stands for the definition's path, which may have more
 -- bytes on the way, is shown where all parts are taken (include_paths, Reducing.antt).
-use Rattle.std.specs.Prelude.{Bool, true, false, ◌&&◌, List, ◌++◌, ◌≡◌, ℕ, ◌+◌, ◌-◌, ◌≤◌, eqb, leb, length, take, drop}
-use Rattle.definition.specs.Lists.{if◌then◌else◌, ascii, is_empty, same}
+use Rattle.std.specs.Prelude.{Bool, true, false, ◌&&◌, List, ◌++◌, ◌≡◌, ℕ, ◌+◌, ◌-◌, ◌≤◌, eqb, leb, length, take, drop, if◌then◌else◌}
+use Rattle.definition.specs.Lists.{ascii, is_empty, same}
 use Rattle.definition.specs.Limits.{file_name_bytes}
 use Rattle.definition.specs.Archive.{folder_of, joined}
 use Rattle.kept_parts.specs.declared.Kept.{Kept}

@@ -1,6 +1,5 @@
 -- What a split key is, and what its bounds stand for.
-use Rattle.std.specs.Prelude.{Bool, not, List, [], ◌∷◌, ◌++◌, ℕ, suc, ◌+◌, ◌-◌, ◌≤◌, ◌<◌, ◌≡◌, eqb, length, get_or, take, drop}
-use Rattle.definition.specs.Lists.{if◌then◌else◌}
+use Rattle.std.specs.Prelude.{Bool, not, List, [], ◌∷◌, ◌++◌, ℕ, suc, ◌+◌, ◌-◌, ◌≤◌, ◌<◌, ◌≡◌, eqb, length, get_or, take, drop, if◌then◌else◌}
 use Rattle.definition.specs.Limits.{most_parts}
 use Rattle.definition.specs.Bytes.{question, is_binding}
 use Rattle.definition.specs.Text.{tight, Component, wildcard, name, Part, binding_of}

@@ -1,4 +1,5 @@
 -- How `walk_key` goes through a key. Assumes nothing.
+use Rattle.std.specs.Prelude.{if◌then◌else◌}
 use mathlib.Core.Bool.{Bool, true, false, ◌&&◌, not, and-false}
 use mathlib.Core.List.{List, [], ◌∷◌}
 use mathlib.Core.Path.{◌≡◌, refl, sym, ap, ◌∙◌}
@@ -7,7 +8,7 @@ use native.Mathlib.Omega.{arith}
 use lib.Dec.{eqb, leb}
 use lib.ListN.{length, get_or, take, drop, length-drop, drop_of_length-le}
 use borrow.Author.Tests.{eq-eqb, ne_eqb, le-leb, lt-leb}
-use Rattle.definition.specs.Lists.{if◌then◌else◌, take_while, drop_while, is_empty}
+use Rattle.definition.specs.Lists.{take_while, drop_while, is_empty}
 use Rattle.definition.specs.Parsing.{Parse, nothing, found, Parsed, parsed, many}
 use Rattle.definition.specs.Limits.{most_parts}
 use Rattle.definition.specs.Bytes.{question, is_name, is_binding}

@@ -1,4 +1,5 @@
 -- Neighbouring bytes make a key. Assumes nothing.
+use Rattle.std.specs.Prelude.{if◌then◌else◌}
 use mathlib.Core.Bool.{Bool, true, false, ◌&&◌, ◌||◌, not}
 use mathlib.Core.List.{List, [], ◌∷◌}
 use mathlib.Core.Logic.{◌⊎◌, inl, inr, ⊎_elim}
@@ -8,7 +9,7 @@ use native.Mathlib.Omega.{arith}
 use lib.Dec.{eqb, ltb}
 use lib.ListN.{length, get_or, drop, drop_of_length-le}
 use borrow.Author.Tests.{eqb-true, eq-eqb, ltb-true, ltb-false}
-use Rattle.definition.specs.Lists.{if◌then◌else◌, take_while, drop_while}
+use Rattle.definition.specs.Lists.{take_while, drop_while}
 use Rattle.definition.specs.Limits.{most_parts}
 use Rattle.definition.specs.Bytes.{question, is_digit, is_name, is_binding}
 use Rattle.definition.specs.Text.{wildcard, name, Part, binding_of, component_at, is_named}

@@ -1,6 +1,5 @@
 -- A key by its neighbouring bytes.
-use Rattle.std.specs.Prelude.{Bool, ◌&&◌, ◌||◌, not, List, [], ◌∷◌, ℕ, ◌+◌, eqb}
-use Rattle.definition.specs.Lists.{if◌then◌else◌}
+use Rattle.std.specs.Prelude.{Bool, ◌&&◌, ◌||◌, not, List, [], ◌∷◌, ℕ, ◌+◌, eqb, if◌then◌else◌}
 use Rattle.definition.specs.Bytes.{question, is_name, is_binding}
 
 -- a binding after anything else, `?` after a binding, a byte of a name after anything but `?`

@@ -1,5 +1,6 @@
 -- Document 02 (v), an addition: what it leaves holds the old entries and then the new one, and a refusal leaves both buffers as lent; and a walk
 -- with additions under way lists, of the entries below its start's count, those that align, each once. Assumes nothing.
+use Rattle.std.specs.Prelude.{if◌then◌else◌}
 use mathlib.Core.Bool.{Bool, true, false, ◌&&◌, not}
 use mathlib.Core.List.{List, [], ◌∷◌, ◌++◌, append_assoc, append-nil}
 use mathlib.Core.Logic.{◌⊎◌, inl, inr, ⊎_elim}
@@ -11,7 +12,7 @@ use lib.Dec.{eqb, leb}
 use lib.ListN.{length, take, drop, length-append, length-drop, drop_of_length-le}
 use lib.Seq.{slice, paste, take-length, length-take-le, take-append-le, drop-append-le, take-take, take_at, take-add, drop-drop}
 use borrow.Author.Tests.{le-ltb, le-leb, eqb-true, eq-eqb}
-use Rattle.definition.specs.Lists.{if◌then◌else◌, all}
+use Rattle.definition.specs.Lists.{all}
 use Rattle.definition.specs.Parsing.{Parsed}
 use Rattle.definition.specs.Limits.{default_depth, contents_words, body_bytes, row_words, most_entries, most_parts, unknown_file}
 use Rattle.definition.specs.Archive.{archive_of, files_of}

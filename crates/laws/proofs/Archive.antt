@@ -1,4 +1,5 @@
 -- Laws of the archive: its bytes and its files say the same, and what striking a file off does. Assumes nothing.
+use Rattle.std.specs.Prelude.{if◌then◌else◌}
 use mathlib.Core.Bool.{Bool, true, false, ◌&&◌}
 use mathlib.Core.List.{List, [], ◌∷◌, ◌++◌, map, append_assoc}
 use mathlib.Core.Option.{none}
@@ -9,7 +10,7 @@ use lib.Dec.{eqb, leb}
 use lib.ListN.{length, drop, get_or, length-append}
 use lib.Seq.{take-append_seam, drop-append_seam, drop-append-add, drop_at}
 use borrow.Author.Tests.{leb-true, le-leb}
-use Rattle.definition.specs.Lists.{if◌then◌else◌, all, same, lower}
+use Rattle.definition.specs.Lists.{all, same, lower}
 use Rattle.definition.specs.Limits.{archive_bytes, archive_files}
 use Rattle.definition.specs.Bytes.{slash}
 use Rattle.definition.specs.Archive.{File, lengths_of, bodies_of, archive_of, files_from, files_of, prefixed, split, is_file_name, rising, are_files, laid_out, removed, struck_off, body_of}

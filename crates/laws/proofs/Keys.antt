@@ -1,4 +1,5 @@
 -- Laws of the parsers: each takes a byte or more, what it finds is legal, a key reads back, and it is what its parts write. Assumes nothing.
+use Rattle.std.specs.Prelude.{if◌then◌else◌}
 use mathlib.Core.Bool.{Bool, true, false, ◌&&◌, ◌||◌, not}
 use mathlib.Core.List.{List, [], ◌∷◌, ◌++◌, append-nil}
 use mathlib.Core.Option.{Option, some, none}
@@ -10,7 +11,7 @@ use native.Mathlib.Omega.{arith}
 use lib.Dec.{eqb, leb}
 use lib.ListN.{length, take, drop, length-drop}
 use borrow.Author.Tests.{le-leb, leb-true, ne_eqb, eqb-true}
-use Rattle.definition.specs.Lists.{if◌then◌else◌, ascii, all, any, take_while, drop_while, is_empty, or_else}
+use Rattle.definition.specs.Lists.{ascii, all, any, take_while, drop_while, is_empty, or_else}
 use Rattle.definition.specs.Parsing.{Parse, nothing, found, Parsed, parsed, continued, at_most, many, after}
 use Rattle.definition.specs.Limits.{most_parts}
 use Rattle.definition.specs.Bytes.{

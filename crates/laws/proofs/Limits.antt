@@ -1,4 +1,5 @@
 -- A reading is accepted just where its totals are within the limits. Assumes nothing.
+use Rattle.std.specs.Prelude.{if◌then◌else◌}
 use mathlib.Core.Bool.{Bool, true, false}
 use mathlib.Core.List.{List, [], ◌∷◌, ◌++◌}
 use mathlib.Core.Logic.{◌↔◌}
@@ -8,7 +9,7 @@ use native.Mathlib.Omega.{arith}
 use lib.Dec.{leb, ltb}
 use lib.ListN.{length, length-append}
 use borrow.Author.Tests.{leb-false, ltb-false, le-ltb, lt-leb}
-use Rattle.definition.specs.Lists.{if◌then◌else◌, filter}
+use Rattle.definition.specs.Lists.{filter}
 use Rattle.definition.specs.Limits.{most_opens, most_entries, most_parts, body_bytes}
 use Rattle.definition.specs.Including.{Event, opened, entered, entries_of, opens_of}
 use Rattle.definition.specs.Image.{key_of, store_of}

@@ -1,4 +1,5 @@
 -- Laws of the words for lists. Assumes nothing.
+use Rattle.std.specs.Prelude.{if◌then◌else◌}
 use mathlib.Core.Bool.{Bool, true, false, ◌&&◌, ◌||◌, or_assoc, or-true, and_assoc}
 use mathlib.Core.List.{List, [], ◌∷◌, ◌++◌, map, append_assoc}
 use mathlib.Core.Path.{◌≡◌, refl, sym, ap, ◌∙◌}
@@ -12,7 +13,7 @@ use lib.Seq.{slice, take-nil, drop-nil, take-append-add, take-append_seam, drop-
 use native.Mathlib.Nat.{le_refl}
 use borrow.Author.Tests.{eqb-true, eq-eqb, lt-ltb, le-ltb, ne_eqb, le-leb, lt-leb, leb-true}
 use Rattle.definition.specs.Bytes.{within}
-use Rattle.definition.specs.Lists.{if◌then◌else◌, all, any, take_while, drop_while, filter, same, lower}
+use Rattle.definition.specs.Lists.{all, any, take_while, drop_while, filter, same, lower}
 
 -- ---- Tests
 

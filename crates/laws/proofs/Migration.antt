@@ -1,4 +1,5 @@
 -- Document 02 (viii): an old image carried over is an image, and answers as the old one does by the old judging. Assumes nothing.
+use Rattle.std.specs.Prelude.{if◌then◌else◌}
 use mathlib.Core.Bool.{Bool, true, false, ◌&&◌, not}
 use mathlib.Core.List.{List, [], ◌∷◌}
 use mathlib.Core.Option.{Option, some, none}
@@ -9,7 +10,7 @@ use lib.Dec.{eqb}
 use lib.ListN.{length}
 use lib.Seq.{length-slice}
 use borrow.Author.Tests.{eqb-true}
-use Rattle.definition.specs.Lists.{if◌then◌else◌, all}
+use Rattle.definition.specs.Lists.{all}
 use Rattle.definition.specs.Limits.{row_words, old_row_words, unknown_file}
 use Rattle.definition.specs.Text.{Entry}
 use Rattle.definition.specs.Image.{key_of, all_from, image_contents, image_bodies, Row, count_of, used_of, rows_by, key_end, value_end, key_at, value_at, key_parts, entries_in, is_key, packed, is_origin, too_short, is_image_by}

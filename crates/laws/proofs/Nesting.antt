@@ -1,4 +1,5 @@
 -- The depth of a reading (document 02 (x)): what a smaller one leaves out, and where it leaves out nothing. Assumes nothing.
+use Rattle.std.specs.Prelude.{if◌then◌else◌}
 use mathlib.Core.Bool.{Bool, true, false, ◌||◌}
 use mathlib.Core.List.{List, [], ◌∷◌, ◌++◌}
 use mathlib.Core.Option.{Option, some, none}
@@ -8,7 +9,7 @@ use native.Mathlib.Omega.{arith}
 use lib.Dec.{leb, ltb}
 use lib.ListN.{length, length-append}
 use borrow.Author.Tests.{le-leb, lt-leb, le-ltb, ltb-false}
-use Rattle.definition.specs.Lists.{if◌then◌else◌, any, filter}
+use Rattle.definition.specs.Lists.{any, filter}
 use Rattle.definition.specs.Limits.{greatest_depth}
 use Rattle.definition.specs.Archive.{File, files_of, body_of, folder_of, path_of}
 use Rattle.definition.specs.Text.{Line, skipped, include, entry, lines_of}

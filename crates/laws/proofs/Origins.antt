@@ -1,5 +1,6 @@
 -- Where lines stand (document 02 (viii)): what a reading opens is on the archive, and so its place is a number that an image may have.
 -- Assumes nothing.
+use Rattle.std.specs.Prelude.{if◌then◌else◌}
 use mathlib.Core.Bool.{Bool, true, false}
 use mathlib.Core.List.{List, [], ◌∷◌, ◌++◌, map}
 use mathlib.Core.Option.{Option, some, none}
@@ -8,7 +9,7 @@ use Prim.Native.Nat.{ℕ, zero, suc, ◌≤◌, ◌<◌}
 use native.Mathlib.Omega.{arith}
 use lib.ListN.{length, drop, get_or}
 use borrow.Author.Tests.{le-leb}
-use Rattle.definition.specs.Lists.{if◌then◌else◌, all, same}
+use Rattle.definition.specs.Lists.{all, same}
 use Rattle.definition.specs.Limits.{archive_files, most_entries, body_bytes}
 use Rattle.definition.specs.Archive.{File, laid_out, files_of, body_of, file_number, folder_of, path_of}
 use Rattle.definition.specs.Text.{Entry, Line, skipped, include, entry, lines_of}

@@ -1,5 +1,6 @@
 -- Ranking computes what Matching says, exactly one entry beats the rest if any aligns, and it goes on to beat them when others are left
 -- out. Assumes nothing.
+use Rattle.std.specs.Prelude.{if◌then◌else◌}
 use mathlib.Core.Bool.{Bool, true, false}
 use mathlib.Core.List.{List, [], ◌∷◌, map}
 use mathlib.Core.Option
@@ -9,7 +10,7 @@ use Prim.Native.Nat.{ℕ, zero, suc, ◌+◌, ◌<◌}
 use native.Mathlib.Omega.{arith}
 use lib.ListN.{length, get_or, drop, length-map}
 use lib.Seq.{drop-cons, drop-length}
-use Rattle.definition.specs.Lists.{if◌then◌else◌, filter, or_else, lower}
+use Rattle.definition.specs.Lists.{filter, or_else, lower}
 use Rattle.definition.specs.Text.{Binding, tight, loose, Part}
 use Rattle.definition.specs.Query.{Position}
 use Rattle.definition.specs.Matching.{

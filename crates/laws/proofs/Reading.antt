@@ -1,4 +1,5 @@
 -- What an accepted reading is, and what holds of all that a reading gives. Assumes nothing.
+use Rattle.std.specs.Prelude.{if◌then◌else◌}
 use mathlib.Core.Bool.{Bool, true, false, not}
 use mathlib.Core.List.{List, [], ◌∷◌, ◌++◌}
 use mathlib.Core.Option.{Option, some, none}
@@ -8,7 +9,7 @@ use native.Mathlib.Omega.{arith}
 use lib.Dec.{leb}
 use lib.ListN.{length}
 use borrow.Author.Tests.{le-leb}
-use Rattle.definition.specs.Lists.{if◌then◌else◌, all, any}
+use Rattle.definition.specs.Lists.{all, any}
 use Rattle.definition.specs.Limits.{most_parts, most_entries, most_opens}
 use Rattle.definition.specs.Archive.{File, laid_out, files_of, body_of, folder_of, path_of}
 use Rattle.definition.specs.Text.{Entry, Line, skipped, include, entry, lines_of}

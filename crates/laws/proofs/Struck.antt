@@ -1,10 +1,11 @@
 -- Striking a file off takes away just what came through it: entries and opens. Assumes nothing.
+use Rattle.std.specs.Prelude.{if◌then◌else◌}
 use mathlib.Core.Bool.{Bool, true, false, ◌||◌, not, or-true, or-false}
 use mathlib.Core.List.{List, [], ◌∷◌, ◌++◌}
 use mathlib.Core.Option.{Option, some, none}
 use mathlib.Core.Path.{◌≡◌, refl, sym, ap, ◌∙◌}
 use Prim.Native.Nat.{ℕ, zero, suc}
-use Rattle.definition.specs.Lists.{if◌then◌else◌, any, filter, same}
+use Rattle.definition.specs.Lists.{any, filter, same}
 use Rattle.definition.specs.Archive.{File, body_of, folder_of, path_of}
 use Rattle.definition.specs.Text.{Line, skipped, include, entry, lines_of}
 use Rattle.definition.specs.Including.{Chain, Event, opened, entered, events_of, opening, seeking, including, events, events_of_all, chain_of, Entered, entries_of}

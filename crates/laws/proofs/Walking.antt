@@ -1,5 +1,6 @@
 -- Document 02 (v), a walk over a list of entries: its numbers are just those of the entries that align, rising; a step gives the least of them
 -- in reach; and it is refused as a lookup is. Assumes nothing.
+use Rattle.std.specs.Prelude.{if◌then◌else◌}
 use mathlib.Core.Bool.{Bool, true, false, not}
 use mathlib.Core.List.{List, [], ◌∷◌, ◌++◌}
 use mathlib.Core.Logic.{◌↔◌}
@@ -9,7 +10,6 @@ use Prim.Native.Nat.{ℕ, zero, suc, ◌+◌, ◌-◌, ◌≤◌, ◌<◌}
 use native.Mathlib.Omega.{arith}
 use lib.ListN.{length, get_or, take, drop, length-drop}
 use lib.Seq.{drop-drop, get_or-drop, get_or-take}
-use Rattle.definition.specs.Lists.{if◌then◌else◌}
 use Rattle.definition.specs.Limits.{most_entries}
 use Rattle.definition.specs.Text.{Entry}
 use Rattle.definition.specs.Image.{Row, count_of, rows_in, is_image}

@@ -1,4 +1,5 @@
 -- A query that two bounds admit is the same query to both (document 02 (vi)). Assumes nothing.
+use Rattle.std.specs.Prelude.{if◌then◌else◌}
 use mathlib.Core.Bool.{Bool, true, false, ◌||◌, not}
 use mathlib.Core.List.{List}
 use mathlib.Core.Option.{Option, some, none}
@@ -8,7 +9,6 @@ use native.Mathlib.Omega.{arith}
 use lib.Dec.{ltb}
 use lib.ListN.{length}
 use borrow.Author.Tests.{lt-ltb, ltb-true}
-use Rattle.definition.specs.Lists.{if◌then◌else◌}
 use Rattle.definition.specs.Image.{rows_in, is_image}
 use Rattle.definition.specs.Query.{Query, positions, malformed, past_limit, positions_of, names_of, Bounds, counted_query, query_within}
 use Rattle.definition.specs.Lookup.{Reply, refused, Place, lookup, get_bytes_by, get_bytes_within}

@@ -1,5 +1,6 @@
 -- Document 02 (iv): a text that is written out reads back, tells images apart, and is never longer than the bound; and the same of the running
 -- calls, by their contracts' equations. Assumes nothing.
+use Rattle.std.specs.Prelude.{if◌then◌else◌}
 use mathlib.Core.Bool.{Bool, true, false, ◌&&◌, not}
 use mathlib.Core.List.{List, [], ◌∷◌, ◌++◌, flatten, map, append-nil}
 use mathlib.Core.Logic.{◌↔◌}
@@ -10,7 +11,7 @@ use lib.Dec.{eqb, leb, ltb}
 use lib.ListN.{length, take, drop, replicate, length-append, length-replicate}
 use lib.Seq.{take-append_seam, length-take-le}
 use borrow.Author.Tests.{le-ltb, not-false}
-use Rattle.definition.specs.Lists.{if◌then◌else◌, ascii, all, any, is_empty, zeroes}
+use Rattle.definition.specs.Lists.{ascii, all, any, is_empty, zeroes}
 use Rattle.definition.specs.Limits.{text_bytes, contents_words, body_bytes, most_entries, most_parts, written_bytes}
 use Rattle.definition.specs.Bytes.{backslash, newline, is_name, is_blank}
 use Rattle.definition.specs.Archive.{File, laid_out, files_of}

@@ -1,4 +1,5 @@
 -- A text that is written out reads back: its lines are the entries. Assumes nothing.
+use Rattle.std.specs.Prelude.{if◌then◌else◌}
 use mathlib.Core.Bool.{Bool, true, false}
 use mathlib.Core.List.{List, [], ◌∷◌, ◌++◌, flatten, map, append_assoc}
 use mathlib.Core.Option.{some, none}
@@ -8,7 +9,7 @@ use native.Mathlib.Omega.{arith}
 use lib.Dec.{eqb}
 use lib.ListN.{drop}
 use borrow.Author.Tests.{eqb-true, eqb-false, ne_eqb}
-use Rattle.definition.specs.Lists.{if◌then◌else◌, ascii, all, any, take_while, drop_while, is_empty}
+use Rattle.definition.specs.Lists.{ascii, all, any, take_while, drop_while, is_empty}
 use Rattle.definition.specs.Parsing.{found, Parsed, parsed, many, after}
 use Rattle.definition.specs.Bytes.{newline, space, colon, backslash, letter_n, is_digit, is_name, is_blank, is_space, is_binding}
 use Rattle.definition.specs.Text.{

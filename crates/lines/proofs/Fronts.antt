@@ -1,4 +1,5 @@
 -- How the code tells a line by what stands first. Assumes nothing.
+use Rattle.std.specs.Prelude.{if◌then◌else◌}
 use mathlib.Core.Bool.{Bool, true, false}
 use mathlib.Core.List.{List, [], ◌∷◌}
 use mathlib.Core.Option.{some, none}
@@ -7,7 +8,7 @@ use Prim.Native.Nat.{ℕ, ◌+◌, ◌-◌, ◌≤◌, ◌<◌}
 use native.Mathlib.Omega.{arith}
 use lib.ListN.{length, take, drop, get_or, length-drop}
 use borrow.Author.Tests.{ne_eqb}
-use Rattle.definition.specs.Lists.{if◌then◌else◌, ascii, drop_while}
+use Rattle.definition.specs.Lists.{ascii, drop_while}
 use Rattle.definition.specs.Parsing.{many, after}
 use Rattle.definition.specs.Bytes.{newline, exclamation, hash, is_space}
 use Rattle.definition.specs.Text.{part_at, ends_in_name, assigned}

@@ -1,14 +1,15 @@
 -- What the code's answer on a line says of the definition's line. Assumes nothing.
+use Rattle.std.specs.Prelude.{if◌then◌else◌}
 use mathlib.Core.Bool.{Bool, true, false}
 use mathlib.Core.List.{List, [], ◌∷◌}
 use mathlib.Core.Option.{Option, some, none}
 use mathlib.Core.Path.{◌≡◌, refl, sym, ap, ◌∙◌}
-use Prim.Native.Nat.{ℕ, ◌+◌, ◌-◌, ◌≤◌, ◌<◌}
+use Prim.Native.Nat.{ℕ, ◌+◌, ◌≤◌, ◌<◌}
 use native.Mathlib.Numerals.{one-add}
 use native.Mathlib.Omega.{arith}
 use lib.Dec.{eqb}
 use lib.ListN.{length, take, drop}
-use Rattle.definition.specs.Lists.{if◌then◌else◌, ascii, drop_while}
+use Rattle.definition.specs.Lists.{ascii, drop_while}
 use Rattle.definition.specs.Parsing.{Parse, found, many, after}
 use Rattle.definition.specs.Bytes.{newline, exclamation, hash, is_space, not_newline}
 use Rattle.definition.specs.Text.{Part, part_at, ends_in_name, skipped, include, include_of, directive_of, assigned, resource_of, line_end, line_at}

@@ -1,7 +1,7 @@
 -- The line at the front of a text, by its places there: what the code answers.
-use Rattle.std.specs.Prelude.{List, [], ◌∷◌, ℕ, ◌+◌, ◌-◌, eqb, length}
+use Rattle.std.specs.Prelude.{List, [], ◌∷◌, ℕ, ◌+◌, ◌-◌, eqb, length, if◌then◌else◌}
 use Rattle.std.proofs.Math.Option.{Option, some, none}
-use Rattle.definition.specs.Lists.{if◌then◌else◌, take_while}
+use Rattle.definition.specs.Lists.{take_while}
 use Rattle.definition.specs.Bytes.{newline, exclamation, hash, not_newline}
 use Rattle.definition.specs.Text.{assigned}
 use Rattle.directives.specs.Directives.{include_at}
@@ -25,7 +25,7 @@ unfoldable pub resource_in : List ℕ → Option (List ℕ) → Line
 resource_in t none = Skip (line_length t)
 resource_in t (some u) = Entry (length t - length u) (length (parts_of t)) (length (key_first t)) (is_verbatim t)
 
--- as lineAt, which has the line's bytes
+-- as line_at, which has the line's bytes
 unfoldable pub line_in : List ℕ → Line
 line_in [] = Skip 0
 line_in (c ∷ t) =

@@ -1,43 +1,51 @@
 // Document 01's list program: reads a main text from standard input with an archive of no files, and writes what it was read into.
 #![tactic(auto)]
 
-use input::{Input, read_all};
-use libc::{STDIN_FILENO, STDOUT_FILENO};
+ghost use Rattle.std.specs.Prelude.{◌≤◌, IfOk};
+
+use input::{fail, read_all};
 use listing::{list, refuse_long};
+use std::io::{Print, Result};
 
 // Reads one byte further where the text fills its buffer: whether there is one tells a text that is too long.
-fn read_further(filled: bool) -> Input {
+fn read_further(rt: &HostRuntime, filled: bool) -> Result<usize>
+    ensures { IfOk result (λ n. n ≤ 1) }
+{
     let mut further = [0; 1];
     if !filled {
-        return Input {
-            size: 0,
-            failed: false,
-        };
+        return Ok(0);
     }
-    read_all(STDIN_FILENO, &mut further)
+    read_all(&mut rt.stdin(), &mut further)
 }
 
-fn write(bytes: &[u8]) {
-    if !io::write_all(STDOUT_FILENO, bytes) {
-        os::fail(b"standard output");
+// How many bytes the text has, of which the first stand in its buffer.
+fn read_text(rt: &HostRuntime, text: &mut [u8; 32768]) -> Result<usize> {
+    let n = read_all(&mut rt.stdin(), text)?;
+    let further = read_further(rt, n == text.len())?;
+    Ok(n + further)
+}
+
+fn write(rt: &HostRuntime, bytes: &[u8]) {
+    if let Err(error) = rt.stdout().write_all(bytes) {
+        fail(rt, b"standard output", error);
     }
 }
 
-fn main() {
+fn main(rt: HostRuntime) {
     let mut text = [0; 32768];
     let mut out = io::large_buffer();
-    let input = read_all(STDIN_FILENO, &mut text);
-    let n = input.size;
-    let further = read_further(n == text.len());
-    if input.failed || further.failed {
-        os::fail(b"standard input");
-        return;
-    }
-    if further.size > 0 {
+    let size = match read_text(&rt, &mut text) {
+        Ok(size) => size,
+        Err(error) => {
+            fail(&rt, b"standard input", error);
+            return;
+        }
+    };
+    if size > text.len() {
         let end = refuse_long(&mut out);
-        write(&out[..end]);
+        write(&rt, &out[..end]);
         return;
     }
-    let end = list(&text[..n], &mut out);
-    write(&out[..end]);
+    let end = list(&text[..size], &mut out);
+    write(&rt, &out[..end]);
 }

@@ -1,4 +1,5 @@
 -- The loop over the entries, and the tests before it. Assumes nothing.
+use Rattle.std.specs.Prelude.{if◌then◌else◌}
 use mathlib.Core.Bool.{Bool, true, false, ◌&&◌, not}
 use mathlib.Core.List.{List, [], ◌∷◌}
 use mathlib.Core.Option.{Option, some, none}
@@ -9,7 +10,7 @@ use native.Mathlib.Nat.{sub-zero}
 use native.Mathlib.Omega.{arith}
 use lib.ListN.{length, get_or, take, drop, length-take}
 use borrow.Author.Tests.{lt-ltb, le-ltb}
-use Rattle.definition.specs.Lists.{if◌then◌else◌, lower, zeroes}
+use Rattle.definition.specs.Lists.{lower, zeroes}
 use Rattle.definition.specs.Limits.{body_bytes}
 use Rattle.definition.specs.Text.{Part}
 use Rattle.definition.specs.Image as image

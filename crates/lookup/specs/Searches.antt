@@ -1,7 +1,6 @@
 -- What a search over the entries of an image finds: a lookup and a step of a walk are one.
-use Rattle.std.specs.Prelude.{Bool, true, false, ◌&&◌, not, List, [], ◌∷◌, ◌≡◌, ℕ, suc, ◌≤◌, min, ltb, length, get_or, take}
+use Rattle.std.specs.Prelude.{Bool, true, false, ◌&&◌, not, List, [], ◌∷◌, ◌≡◌, ℕ, suc, ◌≤◌, min, ltb, length, get_or, take, if◌then◌else◌}
 use Rattle.std.proofs.Math.Option.{Option, some, none}
-use Rattle.definition.specs.Lists.{if◌then◌else◌}
 use Rattle.definition.specs.Text.{Part}
 use Rattle.definition.specs.Image.{count_of, key_end, entries_in, is_image}
 use Rattle.definition.specs.Query.{Position, Query, positions, malformed, past_limit, Bounds, query_within}

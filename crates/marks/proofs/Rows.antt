@@ -10,7 +10,7 @@ use lib.Dec.{eqb, ltb}
 use lib.ListN.{length, take, drop, length-take, length-drop, length-append, take-append-drop, drop_of_length-le}
 use lib.Seq.{take_all, take-append-le, drop-append-le}
 use borrow.Author.Tests.{eqb-true, eqb-false, eq-eqb, ne_eqb, lt-ltb, le-ltb}
-use Rattle.definition.specs.Lists.{if◌then◌else◌, or_else, lower}
+use Rattle.definition.specs.Lists.{or_else, lower}
 use Rattle.definition.specs.Limits.{query_parts}
 use Rattle.definition.specs.Bytes.{star}
 use Rattle.definition.specs.Text.{Binding, tight, loose, Part, binding_of}

@@ -2,7 +2,7 @@
 use mathlib.Core.Bool.{true}
 use mathlib.Core.List.{List}
 use mathlib.Core.Option.{some, none}
-use mathlib.Core.Path.{◌≡◌, refl, sym, ap, ◌∙◌}
+use mathlib.Core.Path.{◌≡◌, refl, sym, ap}
 use Prim.Native.Nat.{ℕ, ◌≤◌}
 use native.Mathlib.Omega.{arith}
 use lib.ListN.{length, take}
@@ -10,7 +10,6 @@ use lib.Seq.{length-take-le}
 use Rattle.definition.specs.Limits.{file_name_bytes}
 use Rattle.definition.specs.Archive.{files_of, laid_out, path_of}
 use Rattle.archive.specs.declared.Member.{Member}
-use Rattle.archive.specs.Walk.{file_in}
 use Rattle.archive_find.specs.Finding.{find_in}
 use Rattle.archive_find.specs.declared.Found.{Found}
 use Rattle.archive_find.specs.declared.Found.TheVariants.{At, Nothing}

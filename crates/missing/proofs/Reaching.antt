@@ -1,4 +1,5 @@
 -- Files that are reached stand where the archive has them. Assumes nothing.
+use Rattle.std.specs.Prelude.{if◌then◌else◌}
 use mathlib.Core.Bool.{Bool, true, false, ◌&&◌}
 use mathlib.Core.List.{List, [], ◌∷◌}
 use mathlib.Core.Path.{◌≡◌, refl, ◌∙◌}
@@ -7,7 +8,7 @@ use native.Mathlib.Omega.{arith}
 use lib.Dec.{eqb, leb}
 use lib.ListN.{get_or, set, replicate, length-set, length-replicate}
 use borrow.Author.Tests.{le-leb, leb-true, leb-false}
-use Rattle.definition.specs.Lists.{if◌then◌else◌, all}
+use Rattle.definition.specs.Lists.{all}
 use Rattle.definition.specs.Limits.{archive_files}
 use Rattle.laws.proofs.Lists.{and_true, and_both}
 use Rattle.archive.specs.declared.Member.{Member}

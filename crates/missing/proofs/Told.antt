@@ -1,13 +1,13 @@
 -- What is told of a text, include by include: as `include_lines::next_include` gives them, and `look_for` says what each finds. Assumes nothing.
+use Rattle.std.specs.Prelude.{if◌then◌else◌}
 use mathlib.Core.Bool.{Bool, true, false}
 use mathlib.Core.List.{List, [], ◌∷◌, ◌++◌, map}
 use mathlib.Core.Path.{◌≡◌, refl, ◌∙◌}
 use Prim.Native.Nat.{ℕ}
-use lib.ListN.{drop}
-use Rattle.definition.specs.Lists.{if◌then◌else◌, filter}
+use Rattle.definition.specs.Lists.{filter}
 use Rattle.definition.specs.Archive.{File, files_of}
 use Rattle.include_lines.specs.Includes.{includes_of}
-use Rattle.missing.specs.Missing.{Seen, seen, is_missing, told, missing_of}
+use Rattle.missing.specs.Missing.{seen, is_missing, told, missing_of}
 use Rattle.missing.specs.Looking.{saying, Looks}
 use Rattle.missing.specs.declared.Look.{Look}
 

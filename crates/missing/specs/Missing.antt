@@ -1,7 +1,7 @@
 -- The includes of a text that find no file.
-use Rattle.std.specs.Prelude.{Bool, true, false, List, [], ◌∷◌, map, ◌≡◌, refl, ℕ}
+use Rattle.std.specs.Prelude.{Bool, true, false, List, [], ◌∷◌, map, ◌≡◌, refl, ℕ, if◌then◌else◌}
 use Rattle.std.proofs.Math.Option.{Option, some, none}
-use Rattle.definition.specs.Lists.{if◌then◌else◌, ascii, filter}
+use Rattle.definition.specs.Lists.{ascii, filter}
 use Rattle.definition.specs.Archive.{File, path_of, body_of}
 use Rattle.definition.specs.Evaluation.{definition, file}
 use Rattle.include_lines.specs.Includes.{included_by, includes_of}

@@ -1,6 +1,6 @@
 -- Files reached through includes, each once, in the order in which they are reached.
-use Rattle.std.specs.Prelude.{Bool, true, ◌&&◌, List, ◌≡◌, ℕ, ◌+◌, ◌≤◌, eqb, leb, length, get_or, set, replicate}
-use Rattle.definition.specs.Lists.{if◌then◌else◌, all}
+use Rattle.std.specs.Prelude.{Bool, true, ◌&&◌, List, ◌≡◌, ℕ, ◌+◌, ◌≤◌, eqb, leb, length, get_or, set, replicate, if◌then◌else◌}
+use Rattle.definition.specs.Lists.{all}
 use Rattle.definition.specs.Limits.{archive_files}
 use Rattle.archive.specs.declared.Member.{Member}
 use Rattle.missing.specs.declared.Reached.{Reached}

@@ -40,7 +40,7 @@ pub fn look_for<'a>(archive: &[u8], folder: &'a [u8], name: &'a [u8], path: &mut
 }
 
 // The files reached so far, in their order: the first `count` of `files`; of each file, by its number, whether it is among them.
-#[derive(Drop)]
+#[derive(Clone, Copy)]
 pub struct Reached {
     pub files: [Member; ARCHIVE_FILES],
     pub seen: [u8; ARCHIVE_FILES],

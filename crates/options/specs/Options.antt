@@ -1,6 +1,6 @@
 -- What an argument says by itself.
-use Rattle.std.specs.Prelude.{Bool, true, not, List, ℕ, eqb}
-use Rattle.definition.specs.Lists.{if◌then◌else◌, ascii, same}
+use Rattle.std.specs.Prelude.{Bool, true, not, List, ℕ, eqb, if◌then◌else◌}
+use Rattle.definition.specs.Lists.{ascii, same}
 use Rattle.argument_words.specs.Words.{descriptor, format_of, no_depth, depth_of}
 
 -- ---- What an argument is for

@@ -1,4 +1,5 @@
 -- Two lists are reordered just where they have, for every key, the same values under it in the same order. Assumes nothing.
+use Rattle.std.specs.Prelude.{if◌then◌else◌}
 use mathlib.Core.Bool.{Bool, true, false, ◌&&◌}
 use mathlib.Core.List.{List, [], ◌∷◌, ◌++◌, map}
 use mathlib.Core.Path.{◌≡◌, refl, sym, ap, ◌∙◌, subst}
@@ -7,7 +8,7 @@ use native.Mathlib.Omega.{arith}
 use native.Mathlib.Decide.{dec_lt}
 use lib.ListN.{length, get_or, take, drop}
 use lib.Seq.{length-take-le, get_or-take}
-use Rattle.definition.specs.Lists.{if◌then◌else◌, filter, same}
+use Rattle.definition.specs.Lists.{filter, same}
 use Rattle.definition.specs.Text.{Binding, tight, loose, Component, wildcard, name, Part, Entry}
 use Rattle.definition.specs.Lookup.{keys_of}
 use Rattle.definition.specs.Orders.{blank, Reordered, same_binding, same_component, same_key, values_under, SameUnderEachKey, OrdersAgree}

@@ -1,11 +1,11 @@
 -- Two images that hold reordered lists answer every query alike: the calls' contracts equate them with these. Assumes nothing.
+use Rattle.std.specs.Prelude.{if◌then◌else◌}
 use mathlib.Core.Bool.{Bool, true, false}
 use mathlib.Core.List.{List}
 use mathlib.Core.Option.{Option, some, none}
 use mathlib.Core.Path.{◌≡◌, refl, sym, ap, ◌∙◌}
 use Prim.Native.Nat.{ℕ}
 use native.Mathlib.Omega.{arith}
-use Rattle.definition.specs.Lists.{if◌then◌else◌}
 use Rattle.definition.specs.Image.{Row, rows_in, is_image}
 use Rattle.definition.specs.Query.{Query, positions, malformed, past_limit, Bounds, query_within}
 use Rattle.definition.specs.Ranking.{Best, no_entry, best, best_of}

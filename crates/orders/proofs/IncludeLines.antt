@@ -1,4 +1,5 @@
 -- What a main text of include lines alone meets: for each line, what the file that it looks for adds. Assumes nothing.
+use Rattle.std.specs.Prelude.{if◌then◌else◌}
 use mathlib.Core.Bool.{Bool, true, false, ◌&&◌}
 use mathlib.Core.List.{List, [], ◌∷◌, ◌++◌, flatten, map, append-nil}
 use mathlib.Core.Option.{Option, some, none, some-ne-none}
@@ -6,7 +7,7 @@ use mathlib.Core.Path.{◌≡◌, refl, sym, ap, ◌∙◌}
 use Prim.Native.Nat.{ℕ, zero, suc}
 use lib.Dec.{eqb}
 use borrow.Author.Tests.{eqb-true}
-use Rattle.definition.specs.Lists.{if◌then◌else◌, ascii, all, take_while, drop_while}
+use Rattle.definition.specs.Lists.{ascii, all, take_while, drop_while}
 use Rattle.definition.specs.Parsing.{found, Parsed, at_most, many, ◌>>=◌, after}
 use Rattle.definition.specs.Bytes.{newline, hash, is_space, not_newline}
 use Rattle.definition.specs.Archive.{File, files_of, body_of, folder_of, path_of}

@@ -1,5 +1,6 @@
 -- Two lists without a key in common may stand in either order; and of the same entries in whatever order one key decides a query. Assumes
 -- nothing.
+use Rattle.std.specs.Prelude.{if◌then◌else◌}
 use mathlib.Core.Bool.{Bool, true, false}
 use mathlib.Core.List.{List, [], ◌∷◌, ◌++◌, map, append-nil}
 use mathlib.Core.Logic.{◌⊎◌, inl, inr}
@@ -8,7 +9,7 @@ use mathlib.Core.Path.{◌≡◌, refl, sym, ap, ◌∙◌}
 use Prim.Native.Nat.{ℕ, zero, suc, ◌<◌}
 use native.Mathlib.Omega.{arith}
 use lib.ListN.{length, get_or}
-use Rattle.definition.specs.Lists.{if◌then◌else◌, filter}
+use Rattle.definition.specs.Lists.{filter}
 use Rattle.definition.specs.Text.{Part, Entry}
 use Rattle.definition.specs.Query.{Position, Query, positions, malformed, past_limit}
 use Rattle.definition.specs.Matching.{Aligned, Beats}

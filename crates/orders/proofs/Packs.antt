@@ -1,4 +1,5 @@
 -- Packs in any order: what rearranged include lines give under one key. Assumes nothing.
+use Rattle.std.specs.Prelude.{if◌then◌else◌}
 use mathlib.Core.Bool.{Bool, true, false}
 use mathlib.Core.List.{List, [], ◌∷◌, ◌++◌, flatten}
 use mathlib.Core.Logic.{◌⊎◌, inl, inr}
@@ -6,7 +7,7 @@ use mathlib.Core.Option.{Option, some, none}
 use mathlib.Core.Path.{◌≡◌, refl, sym, ap, ◌∙◌}
 use Prim.Native.Nat.{ℕ, zero, suc}
 use native.Mathlib.Omega.{arith}
-use Rattle.definition.specs.Lists.{if◌then◌else◌, filter}
+use Rattle.definition.specs.Lists.{filter}
 use Rattle.definition.specs.Archive.{File, body_of, folder_of, path_of}
 use Rattle.definition.specs.Text.{Part, Entry, Line, skipped, include, entry, lines_of}
 use Rattle.definition.specs.Including.{Chain, Event, opened, entered, events_of, opening, seeking, including, Entered, entries_of}

@@ -1,4 +1,5 @@
 -- For one query equal rows come only from equal keys: from the relation of alignments alone. Assumes nothing.
+use Rattle.std.specs.Prelude.{if◌then◌else◌}
 use mathlib.Core.Bool.{Bool, true, false}
 use mathlib.Core.List.{List, ◌∷◌}
 use mathlib.Core.Option.{Option, some, none, map, some-ne-none}
@@ -6,7 +7,6 @@ use mathlib.Core.Path.{◌≡◌, refl, sym, ap, ◌∙◌}
 use Prim.Native.Nat.{ℕ, ◌%◌}
 use native.Mathlib.Omega.{arith}
 use lib.Dec.{eqb, ltb}
-use Rattle.definition.specs.Lists.{if◌then◌else◌}
 use Rattle.definition.specs.Text.{Binding, tight, loose, Component, wildcard, name, Part}
 use Rattle.definition.specs.Query.{Position}
 use Rattle.definition.specs.Matching.{

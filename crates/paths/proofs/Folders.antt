@@ -1,4 +1,5 @@
 -- The folder of a name. Assumes nothing.
+use Rattle.std.specs.Prelude.{if◌then◌else◌}
 use mathlib.Core.Bool.{Bool, true, false, ◌&&◌, ◌||◌, not, or-true}
 use mathlib.Core.List.{List, [], ◌∷◌, ◌++◌}
 use mathlib.Core.Path.{◌≡◌, refl, sym, ap, ◌∙◌}
@@ -8,7 +9,7 @@ use lib.Dec.{eqb}
 use lib.ListN.{length, take, drop, get_or, length-append}
 use lib.Seq.{drop-cons}
 use borrow.Author.Tests.{eq-eqb, ne_eqb}
-use Rattle.definition.specs.Lists.{if◌then◌else◌, all, any, is_empty}
+use Rattle.definition.specs.Lists.{all, any, is_empty}
 use Rattle.definition.specs.Bytes.{slash}
 use Rattle.definition.specs.Archive.{folder_of, joined}
 use Rattle.laws.proofs.Lists.{not_both, any_append, any_get_d}

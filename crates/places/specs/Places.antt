@@ -1,6 +1,6 @@
 -- Where the line of an entry stands, in words.
-use Rattle.std.specs.Prelude.{List, [], ◌∷◌, ◌≡◌, refl, ℕ, ◌-◌, eqb, ltb, length, get_or}
-use Rattle.definition.specs.Lists.{if◌then◌else◌, ascii}
+use Rattle.std.specs.Prelude.{List, [], ◌∷◌, ◌≡◌, refl, ℕ, ◌-◌, eqb, ltb, length, get_or, if◌then◌else◌}
+use Rattle.definition.specs.Lists.{ascii}
 use Rattle.definition.specs.Archive.{File}
 use Rattle.definition.specs.Evaluation.{file}
 

@@ -1,7 +1,6 @@
 -- A line of the common form: what the code answers of it, and what it stores. proofs/Entries.antt shows that the line is the definition's.
-use Rattle.std.specs.Prelude.{List, ◌++◌, ℕ, ◌+◌, ◌-◌, ltb, length, drop}
+use Rattle.std.specs.Prelude.{List, ◌++◌, ℕ, ◌+◌, ◌-◌, ltb, length, drop, if◌then◌else◌}
 use Rattle.std.proofs.Math.Seq.{paste}
-use Rattle.definition.specs.Lists.{if◌then◌else◌}
 use Rattle.definition.specs.Limits.{most_parts}
 use Rattle.definition.specs.Text.{Entry, after_blanks}
 use Rattle.definition.specs.Image.{key_of}

@@ -1,4 +1,5 @@
 -- A text that ends with a newline: what is no newline has a byte after it. Assumes nothing.
+use Rattle.std.specs.Prelude.{if◌then◌else◌}
 use mathlib.Core.Bool.{Bool, true, false}
 use mathlib.Core.List.{List, [], ◌∷◌}
 use mathlib.Core.Path.{◌≡◌, refl, ap, ◌∙◌}
@@ -7,7 +8,7 @@ use native.Mathlib.Omega.{arith}
 use native.Mathlib.Decide.{dec_lt}
 use lib.ListN.{length, get_or, take, drop, length-drop}
 use lib.Seq.{get_or-drop}
-use Rattle.definition.specs.Lists.{if◌then◌else◌, take_while}
+use Rattle.definition.specs.Lists.{take_while}
 use Rattle.definition.specs.Bytes.{newline, is_digit, is_name, is_binding}
 use Rattle.laws.proofs.Lists.{not_both, part_rest}
 use Rattle.scan.proofs.Runs.{Passed, passed_none, passed_more, passed_stop}

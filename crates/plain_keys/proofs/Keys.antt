@@ -1,4 +1,5 @@
 -- Keys of the common form: as the code reads them, they are the definition's. Assumes nothing.
+use Rattle.std.specs.Prelude.{if◌then◌else◌}
 use mathlib.Core.Bool.{Bool, true, false, ◌||◌}
 use mathlib.Core.List.{List, [], ◌∷◌, ◌++◌, append_assoc, append-nil}
 use mathlib.Core.Path.{◌≡◌, refl, sym, ap, ◌∙◌}
@@ -9,7 +10,7 @@ use lib.Dec.{eqb, leb}
 use lib.ListN.{length, get_or, take, drop, length-drop}
 use lib.Seq.{take-add, drop-drop, drop-cons}
 use borrow.Author.Tests.{eqb-true, lt-leb, le-leb, leb-false, eq-eqb, ne_eqb}
-use Rattle.definition.specs.Lists.{if◌then◌else◌, any, take_while, drop_while, is_empty}
+use Rattle.definition.specs.Lists.{any, take_while, drop_while, is_empty}
 use Rattle.definition.specs.Limits.{most_parts}
 use Rattle.definition.specs.Parsing.{nothing, found, Parsed, many}
 use Rattle.definition.specs.Bytes.{colon, dot, star, is_digit, is_name, is_binding}

@@ -1,6 +1,6 @@
 -- Keys of the common form: what the code answers of them, name by name. proofs/Keys.antt shows that they are the definition's.
-use Rattle.std.specs.Prelude.{List, ◌≡◌, ℕ, zero, suc, ◌+◌, ◌-◌, eqb, leb, length, drop, get_or}
-use Rattle.definition.specs.Lists.{if◌then◌else◌, take_while}
+use Rattle.std.specs.Prelude.{List, ◌≡◌, ℕ, zero, suc, ◌+◌, ◌-◌, eqb, leb, length, drop, get_or, if◌then◌else◌}
+use Rattle.definition.specs.Lists.{take_while}
 use Rattle.definition.specs.Limits.{most_parts}
 use Rattle.definition.specs.Bytes as bytes
 use Rattle.definition.specs.Bytes.{is_name, is_binding}

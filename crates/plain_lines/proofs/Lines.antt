@@ -1,4 +1,5 @@
 -- Lines of the common form, one after another: reading all of a text comes to the same as reading the rest. Assumes nothing.
+use Rattle.std.specs.Prelude.{if◌then◌else◌}
 use mathlib.Core.Bool.{Bool, true, false, ◌&&◌}
 use mathlib.Core.List.{List, [], ◌∷◌}
 use mathlib.Core.Path.{◌≡◌, refl, sym, ap, ◌∙◌}
@@ -8,7 +9,7 @@ use lib.Dec.{eqb, ltb, leb}
 use lib.ListN.{length, get_or, drop, length-drop}
 use lib.Seq.{drop-drop}
 use borrow.Author.Tests.{eqb-true, eqb-false, ltb-true, leb-true, leb-false}
-use Rattle.definition.specs.Lists.{if◌then◌else◌, take_while, drop_while}
+use Rattle.definition.specs.Lists.{take_while, drop_while}
 use Rattle.definition.specs.Limits.{most_entries, body_bytes, contents_words}
 use Rattle.definition.specs.Parsing.{found}
 use Rattle.definition.specs.Bytes.{newline, exclamation, not_newline}

@@ -1,4 +1,5 @@
 -- The loop over lines of the common form: the lines from here on are the text's. Assumes nothing.
+use Rattle.std.specs.Prelude.{if◌then◌else◌}
 use mathlib.Core.Bool.{Bool, true, false, ◌&&◌}
 use mathlib.Core.List.{List}
 use mathlib.Core.Path.{◌≡◌, refl, sym, ap, ◌∙◌}
@@ -7,7 +8,7 @@ use native.Mathlib.Omega.{arith}
 use lib.Dec.{eqb, ltb, leb}
 use lib.ListN.{length, get_or, drop, length-drop}
 use borrow.Author.Tests.{lt-ltb, le-ltb, le-leb, lt-leb, eq-eqb, ne_eqb}
-use Rattle.definition.specs.Lists.{if◌then◌else◌, take_while}
+use Rattle.definition.specs.Lists.{take_while}
 use Rattle.definition.specs.Limits.{most_entries, body_bytes}
 use Rattle.definition.specs.Bytes.{newline, exclamation, not_newline}
 use Rattle.laws.proofs.Lists.{part_rest}

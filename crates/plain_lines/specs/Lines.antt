@@ -1,7 +1,7 @@
 -- Lines of the common form, one after another: how far the code goes, and what it leaves. proofs/Lines.antt shows that reading all of a
 -- text comes to the same as reading the rest from there.
-use Rattle.std.specs.Prelude.{Bool, ◌&&◌, List, ℕ, zero, suc, ◌+◌, ◌-◌, eqb, ltb, leb, length, drop, get_or}
-use Rattle.definition.specs.Lists.{if◌then◌else◌, take_while}
+use Rattle.std.specs.Prelude.{Bool, ◌&&◌, List, ℕ, zero, suc, ◌+◌, ◌-◌, eqb, ltb, leb, length, drop, get_or, if◌then◌else◌}
+use Rattle.definition.specs.Lists.{take_while}
 use Rattle.definition.specs.Limits.{most_entries}
 use Rattle.definition.specs.Bytes.{newline, exclamation, not_newline}
 use Rattle.image.specs.Rows.{with_row}

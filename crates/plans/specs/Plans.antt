@@ -1,6 +1,5 @@
 -- A plan: what is given for what, and what the next argument is for.
-use Rattle.std.specs.Prelude.{Bool, true, false, ◌&&◌, ◌||◌, not, List, ℕ, eqb, ltb, get_or, set, replicate}
-use Rattle.definition.specs.Lists.{if◌then◌else◌}
+use Rattle.std.specs.Prelude.{Bool, true, false, ◌&&◌, ◌||◌, not, List, ℕ, eqb, ltb, get_or, set, replicate, if◌then◌else◌}
 use Rattle.definition.specs.Limits.{greatest_depth, default_depth}
 use Rattle.options.specs.Options.{text, name, class, without, anything, operand}
 use Rattle.plans.specs.declared.Plan.{Plan}

@@ -1,4 +1,5 @@
 -- The mark of a key's part at a position. Assumes nothing.
+use Rattle.std.specs.Prelude.{if◌then◌else◌}
 use mathlib.Core.Bool.{Bool, true, false}
 use mathlib.Core.List.{List, [], ◌∷◌}
 use mathlib.Core.Option.{Option, some, none, map}
@@ -9,7 +10,7 @@ use lib.Dec.{eqb}
 use lib.ListN.{length, get_or, take, drop, length-take, length-drop}
 use lib.Seq.{get_or-take, get_or-drop}
 use borrow.Author.Tests.{eqb-true, eqb-false, eq-eqb, ne_eqb}
-use Rattle.definition.specs.Lists.{if◌then◌else◌, any, same}
+use Rattle.definition.specs.Lists.{any, same}
 use Rattle.definition.specs.Bytes.{star, question}
 use Rattle.definition.specs.Text.{Binding, tight, loose, Part, binding_of}
 use Rattle.definition.specs.Query.{Position}

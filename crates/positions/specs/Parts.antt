@@ -1,7 +1,6 @@
 -- What name and class have at a position of a query, and a mark there, as the code holds them.
-use Rattle.std.specs.Prelude.{List, [], ◌∷◌, ℕ, ltb, length}
+use Rattle.std.specs.Prelude.{List, [], ◌∷◌, ℕ, ltb, length, if◌then◌else◌}
 use Rattle.std.proofs.Math.Option.{Option, some, none}
-use Rattle.definition.specs.Lists.{if◌then◌else◌}
 use Rattle.definition.specs.Query.{Position, positions_of}
 use Rattle.query.specs.Splits.{part_in, names_in}
 

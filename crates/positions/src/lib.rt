@@ -1,8 +1,8 @@
 // What name and class have at a position of a query, and how a key's part matches there: the Rust's `compare_matches` for one pair.
 #![tactic(auto)]
 
-ghost use Rattle.std.specs.Prelude.{◌≡◌, ◌+◌, ◌-◌, ◌≤◌, ◌<◌, max, length};
-ghost use Rattle.definition.specs.Lists.{if◌then◌else◌, same};
+ghost use Rattle.std.specs.Prelude.{◌≡◌, ◌+◌, ◌-◌, ◌≤◌, ◌<◌, max, length, if◌then◌else◌};
+ghost use Rattle.definition.specs.Lists.{same};
 ghost use Rattle.definition.specs.Matching.{mark_at};
 ghost use Rattle.key.specs.Keys.{part_between};
 ghost use Rattle.query.specs.Splits.{Inside};

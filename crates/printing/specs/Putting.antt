@@ -1,6 +1,5 @@
 -- Bytes put into a buffer, as the copies say it, and a number in decimal.
-use Rattle.std.specs.Prelude.{List, [], ◌∷◌, ◌++◌, ℕ, zero, suc, ◌+◌, ◌/◌, ◌%◌, ltb}
-use Rattle.definition.specs.Lists.{if◌then◌else◌}
+use Rattle.std.specs.Prelude.{List, [], ◌∷◌, ◌++◌, ℕ, zero, suc, ◌+◌, ◌/◌, ◌%◌, ltb, if◌then◌else◌}
 pub use Rattle.copies.specs.Appended.{Appends}
 
 -- n in decimal, with no zero in front, in at most k digits

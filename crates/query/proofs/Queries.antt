@@ -1,4 +1,5 @@
 -- What the parses of name and class say of the query. Assumes nothing.
+use Rattle.std.specs.Prelude.{if◌then◌else◌}
 use mathlib.Core.Bool.{Bool, true, false, ◌||◌}
 use mathlib.Core.List.{List, map}
 use mathlib.Core.Option.{Option, some, none}
@@ -9,7 +10,7 @@ use lib.Dec.{ltb}
 use lib.ListN.{length, take, length-map}
 use lib.Seq.{take_all}
 use borrow.Author.Tests.{lt-ltb, le-ltb, ltb-false}
-use Rattle.definition.specs.Lists.{if◌then◌else◌, take_while, zeroes}
+use Rattle.definition.specs.Lists.{take_while, zeroes}
 use Rattle.definition.specs.Limits.{query_bytes, query_parts}
 use Rattle.definition.specs.Bytes.{is_name}
 use Rattle.definition.specs.Query.{Position, positions, malformed, past_limit, positions_of, names_of, Bounds, counted_query, query_within, shell}

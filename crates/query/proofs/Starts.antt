@@ -1,4 +1,5 @@
 -- Where the parts of a text begin, as the code comes to them. Assumes nothing.
+use Rattle.std.specs.Prelude.{if◌then◌else◌}
 use mathlib.Core.Bool.{Bool, true, false, ◌&&◌, not}
 use mathlib.Core.List.{List, [], ◌∷◌, ◌++◌}
 use mathlib.Core.Path.{◌≡◌, refl, sym, ap, ◌∙◌}
@@ -7,7 +8,7 @@ use native.Mathlib.Omega.{arith}
 use lib.Dec.{eqb}
 use lib.ListN.{length, get_or, drop}
 use borrow.Author.Tests.{eqb-true}
-use Rattle.definition.specs.Lists.{if◌then◌else◌, take_while, drop_while}
+use Rattle.definition.specs.Lists.{take_while, drop_while}
 use Rattle.definition.specs.Bytes.{dot, is_digit, is_name}
 use Rattle.laws.proofs.Lists.{drop_while_le}
 use Rattle.query.specs.Splits.{starts_from}

@@ -1,4 +1,5 @@
 -- Laws of a query's names, as the code takes them off its text. Assumes nothing.
+use Rattle.std.specs.Prelude.{if◌then◌else◌}
 use mathlib.Core.Bool.{Bool, true, false}
 use mathlib.Core.List.{List, [], ◌∷◌, ◌++◌, append_assoc}
 use mathlib.Core.Option.{Option, some, none}
@@ -7,7 +8,7 @@ use Prim.Native.Nat.{ℕ, ◌≤◌, ◌<◌}
 use native.Mathlib.Omega.{arith}
 use lib.Dec.{eqb}
 use lib.ListN.{length}
-use Rattle.definition.specs.Lists.{if◌then◌else◌, take_while, drop_while, is_empty}
+use Rattle.definition.specs.Lists.{take_while, drop_while, is_empty}
 use Rattle.definition.specs.Parsing.{Parsed, many, at_most}
 use Rattle.definition.specs.Bytes.{dot, is_name}
 use Rattle.definition.specs.Query.{query_part_at, names_of}

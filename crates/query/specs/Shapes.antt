@@ -1,7 +1,7 @@
 -- What a text's parse is, and what those of name and class make of a query.
-use Rattle.std.specs.Prelude.{List, [], ◌∷◌, map, ℕ, ltb, length, take}
+use Rattle.std.specs.Prelude.{List, [], ◌∷◌, map, ℕ, ltb, length, take, if◌then◌else◌}
 use Rattle.std.proofs.Math.Option.{Option, some, none}
-use Rattle.definition.specs.Lists.{if◌then◌else◌, zeroes}
+use Rattle.definition.specs.Lists.{zeroes}
 use Rattle.definition.specs.Limits.{query_bytes, query_parts}
 use Rattle.definition.specs.Parsing.{many}
 use Rattle.definition.specs.Query.{Position, Query, positions, malformed, past_limit, query_part_at, names_of, Bounds, shell}

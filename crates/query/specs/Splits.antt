@@ -1,6 +1,6 @@
 -- Where the parts of a text stand in it.
-use Rattle.std.specs.Prelude.{Bool, false, ◌&&◌, not, List, [], ◌∷◌, ◌++◌, ◌≡◌, ℕ, zero, suc, ◌+◌, ◌≤◌, ◌<◌, length, get_or, take, drop}
-use Rattle.definition.specs.Lists.{if◌then◌else◌, take_while}
+use Rattle.std.specs.Prelude.{Bool, false, ◌&&◌, not, List, [], ◌∷◌, ◌++◌, ◌≡◌, ℕ, zero, suc, ◌+◌, ◌≤◌, ◌<◌, length, get_or, take, drop, if◌then◌else◌}
+use Rattle.definition.specs.Lists.{take_while}
 use Rattle.definition.specs.Limits.{query_parts}
 use Rattle.definition.specs.Bytes.{is_name}
 

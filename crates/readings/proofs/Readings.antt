@@ -1,11 +1,11 @@
 -- The readings of a value that was looked up. Assumes nothing.
+use Rattle.std.specs.Prelude.{if◌then◌else◌}
 use mathlib.Core.Bool.{Bool, true, false}
 use mathlib.Core.List.{List}
 use mathlib.Core.Option.{Option, some, none}
 use mathlib.Core.Path.{◌≡◌, refl, sym, ap}
 use Prim.Native.Nat.{ℕ}
 use native.Mathlib.Omega.{arith}
-use Rattle.definition.specs.Lists.{if◌then◌else◌}
 use Rattle.definition.specs.Query.{Bounds}
 use Rattle.definition.specs.Lookup.{Reply, given, no_value, refused, Place, get_bytes_within, bytes_at}
 use Rattle.definition.specs.Value.{is_utf8, replied, read_as, as_string, bytes_or, shown_by, shown_within}

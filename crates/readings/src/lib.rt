@@ -17,7 +17,7 @@ use utf8::is_utf8;
 // The bytes that stand at a value's place.
 fn bytes_at(bodies: &[u8], place: usize, size: usize) -> &[u8]
     requires { place + size ≤ length bodies.now }
-    ensures { (result.now ≡ bytes_at bodies.now (record { start = place; length = size })) × (result.ptr ≡ (bodies.entry.ref_ptr.0, place + bodies.entry.ref_ptr.1)) }
+    ensures { (result.now ≡ bytes_at bodies.now (record { start = place; length = size })) × (result.ref_ptr ≡ (bodies.entry.ref_ptr.0, place + bodies.entry.ref_ptr.1)) }
 {
     &bodies[place..place + size]
 }

@@ -1,10 +1,11 @@
 -- How long the words are. Assumes nothing.
+use Rattle.std.specs.Prelude.{if◌then◌else◌}
 use mathlib.Core.Bool.{Bool, true, false}
 use Prim.Native.Nat.{ℕ, ◌≤◌}
 use native.Mathlib.Omega.{arith}
 use lib.Dec.{eqb}
 use lib.ListN.{length}
-use Rattle.definition.specs.Lists.{if◌then◌else◌, ascii}
+use Rattle.definition.specs.Lists.{ascii}
 use Rattle.refusals.specs.Refusals.{refusal_of}
 
 pub reason_most : (k : ℕ) → length (refusal_of k) ≤ 60

@@ -1,6 +1,6 @@
 -- The refusals of document 01's table, those of document 02 among them, in words.
-use Rattle.std.specs.Prelude.{List, ℕ, eqb}
-use Rattle.definition.specs.Lists.{if◌then◌else◌, ascii}
+use Rattle.std.specs.Prelude.{List, ℕ, eqb, if◌then◌else◌}
+use Rattle.definition.specs.Lists.{ascii}
 
 unfoldable pub refusal_of : ℕ → List ℕ
 refusal_of k =

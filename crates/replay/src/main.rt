@@ -30,15 +30,15 @@ fn replay_lines(lines: &[u8]) -> Tally {
 }
 
 // A file that cannot be read, or not whole, differs.
-fn replay_file(name: &[u8]) -> Tally {
+fn replay_file(rt: &HostRuntime, name: &[u8]) -> Tally {
     let mut lines = file_buffer();
-    let input = read_file(name, &mut lines);
+    let input = read_file(rt, name, &mut lines);
     let n = input.size;
     let mut tally = replay_lines(&lines[..n]);
     if input.failed {
         tally = count_line(tally, false);
     }
-    write_tally(name, tally, b", line ", b" differs");
+    write_tally(rt, name, tally, b", line ", b" differs");
     tally
 }
 
@@ -53,7 +53,7 @@ fn added(total: Tally, tally: Tally) -> Tally {
 }
 
 // Replays the files that are named, a name a line.
-fn replay_files(names: &[u8]) -> Tally {
+fn replay_files(rt: &HostRuntime, names: &[u8]) -> Tally {
     let mut total = Tally {
         lines: 0,
         equal: 0,
@@ -65,16 +65,17 @@ fn replay_files(names: &[u8]) -> Tally {
         if n >= rest.len() {
             return total;
         }
-        total = added(total, replay_file(&rest[..n]));
+        total = added(total, replay_file(rt, &rest[..n]));
         rest = &rest[n + 1..];
     }
     total
 }
 
-fn main() {
+fn main(rt: HostRuntime) {
     let total = replay_files(
+        &rt,
         b"small.txt\nnamed.txt\nlimits.txt\nlong.txt\nkeys.txt\nvalues.txt\nlines.txt\n\
         includes.txt\nlookups.txt\nstruck.txt\nreadings.txt\ndamaged.txt\nrealistic.txt\n",
     );
-    write_tally(b"total", total, b", files that differ: ", b"");
+    write_tally(&rt, b"total", total, b", files that differ: ", b"");
 }

@@ -29,14 +29,14 @@ fn replay_lines(lines: &[u8]) -> Tally {
 }
 
 // A file that cannot be read, or not whole, differs.
-fn main() {
+fn main(rt: HostRuntime) {
     let name = b"default.txt";
     let mut lines = file_buffer();
-    let input = read_file(name, &mut lines);
+    let input = read_file(&rt, name, &mut lines);
     let n = input.size;
     let mut tally = replay_lines(&lines[..n]);
     if input.failed {
         tally = count_line(tally, false);
     }
-    write_tally(name, tally, b", line ", b" differs");
+    write_tally(&rt, name, tally, b", line ", b" differs");
 }

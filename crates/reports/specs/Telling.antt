@@ -1,6 +1,6 @@
 -- What getres writes for an answer, to which of its two outputs, and its status.
-use Rattle.std.specs.Prelude.{Bool, true, false, List, ◌++◌, ◌≡◌, ℕ, ◌+◌, ◌*◌}
-use Rattle.definition.specs.Lists.{if◌then◌else◌, ascii}
+use Rattle.std.specs.Prelude.{Bool, true, false, List, ◌++◌, ◌≡◌, ℕ, ◌+◌, ◌*◌, if◌then◌else◌}
+use Rattle.definition.specs.Lists.{ascii}
 use Rattle.definition.specs.Limits.{body_bytes}
 use Rattle.io.specs.Counts.{IsPrefixLen}
 use Rattle.printing.specs.Putting.{Appends}

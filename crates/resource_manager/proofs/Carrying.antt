@@ -1,12 +1,12 @@
 -- What document 02 (viii) says of the calls, by their contracts: after a migration that is accepted, each call on the new buffers gives and leaves
 -- what the definition says of the old image with rows of three words. Assumes nothing.
+use Rattle.std.specs.Prelude.{if◌then◌else◌}
 use mathlib.Core.Bool.{Bool, true, false, not}
 use mathlib.Core.List.{List}
 use mathlib.Core.Path.{◌≡◌, refl, sym, ap, ◌∙◌}
 use Prim.Native.Nat.{ℕ, ◌*◌}
 use native.Mathlib.Omega.{arith}
 use lib.IntN.{ℤ}
-use Rattle.definition.specs.Lists.{if◌then◌else◌}
 use Rattle.definition.specs.Limits.{row_words, old_row_words}
 use Rattle.definition.specs.Image.{is_image_by, too_short}
 use Rattle.definition.specs.Reading.{Outcome, outcome, refused}

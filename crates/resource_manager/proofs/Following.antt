@@ -1,5 +1,6 @@
 -- What document 02 (ix) says of the calls, by their contracts: after every list of calls on a board that was made, each answer, refusal and report is
 -- that of the history, and a pack that leaves changes an answer's bytes (or none) just where the striking_off rule says. Assumes nothing.
+use Rattle.std.specs.Prelude.{if◌then◌else◌}
 use mathlib.Core.Bool.{Bool, true, false, ◌||◌, not}
 use mathlib.Core.List.{List, [], ◌∷◌}
 use mathlib.Core.Logic.{◌↔◌, ◌⊎◌}
@@ -7,7 +8,6 @@ use mathlib.Core.Path.{◌≡◌, refl, sym, ap, ◌∙◌}
 use Prim.Native.Nat.{ℕ}
 use native.Mathlib.Omega.{arith}
 use lib.Dec.{eqb}
-use Rattle.definition.specs.Lists.{if◌then◌else◌}
 use Rattle.definition.specs.Lookup.{Reply, given, refused}
 use Rattle.definition.specs.Adding.{over}
 use Rattle.definition.specs.ThirdTerm.{NoneThroughBeats, SameBytesWithout}

@@ -1,10 +1,10 @@
 -- The answers of a board's calls are small enough for their codes, and what the boundary makes of each. Assumes nothing.
+use Rattle.std.specs.Prelude.{if◌then◌else◌}
 use mathlib.Core.Bool.{Bool, true, false}
 use mathlib.Core.List.{List, [], ◌∷◌}
 use mathlib.Core.Path.{◌≡◌, refl, sym, ap, ◌∙◌}
 use Prim.Native.Nat.{ℕ}
 use native.Mathlib.Omega.{arith}
-use Rattle.definition.specs.Lists.{if◌then◌else◌}
 use Rattle.definition.specs.Limits.{most_queries}
 use Rattle.definition.specs.Lookup.{given, refused}
 use Rattle.definition.specs.Adding.{over}

@@ -12,8 +12,7 @@ use limits::{DEFAULT_DEPTH, GREATEST_DEPTH};
 
 // A query's value with a file on the archive and with it struck off, both read at depth 20: 0 with the numbers of both lookups in `with_it`
 // and `without`; 65535 if the archive has no such file, or the refusal, with both as they were.
-#[unsafe(no_mangle)]
-pub extern "C" fn resource_manager_compare_without<'a>(
+pub fn resource_manager_compare_without<'a>(
     text: &'a [u8],
     shelf: &[u8],
     file: usize,
@@ -47,8 +46,7 @@ pub extern "C" fn resource_manager_compare_without<'a>(
 }
 
 // The same over what a reader starts with: document 02 (i), both at depth 100, with flags as `resource_manager_read_default` takes them.
-#[unsafe(no_mangle)]
-pub extern "C" fn resource_manager_compare_default_without<'a>(
+pub fn resource_manager_compare_default_without<'a>(
     property_format: u8,
     property: &'a [u8],
     xresources_read: u8,

@@ -1,11 +1,11 @@
-// The calls for C, Rust and the tests to link. A slice passes as a pointer and an element count.
+// The calls that resource_manager_c gives to C, Rust and the tests to link.
 #![tactic(auto)]
 
-mod boards;
-mod comparing;
-mod nesting;
-mod walking;
-mod window;
+pub mod boards;
+pub mod comparing;
+pub mod nesting;
+pub mod walking;
+pub mod window;
 
 ghost use Rattle.std.specs.Prelude.{[], ◌∷◌, ◌≡◌};
 ghost use Rattle.definition.specs.Limits.{greatest_depth, default_depth};
@@ -27,8 +27,7 @@ use limits::{DEFAULT_DEPTH, GREATEST_DEPTH};
 
 // Document 01's reading call, at depth 20. The low 16 bits are 0, or the number of the refusal and that alone; entries stand in bits 16 to
 // 31 and opens in bits 32 to 47.
-#[unsafe(no_mangle)]
-pub extern "C" fn resource_manager_read(
+pub fn resource_manager_read(
     text: &[u8],
     shelf: &[u8],
     contents: &mut [u16],
@@ -42,8 +41,7 @@ pub extern "C" fn resource_manager_read(
 
 // The reading call over what a reader starts with: document 02 (i), at depth 100. A flag is no if it is 0, else yes. The answer is that
 // of `resource_manager_read`.
-#[unsafe(no_mangle)]
-pub extern "C" fn resource_manager_read_default<'a>(
+pub fn resource_manager_read_default<'a>(
     property_format: u8,
     property: &'a [u8],
     xresources_read: u8,
@@ -82,8 +80,7 @@ pub extern "C" fn resource_manager_read_default<'a>(
 }
 
 // Carries an old image, whose rows have three words, over into new buffers: the answer is that of `resource_manager_read`, with no opens.
-#[unsafe(no_mangle)]
-pub extern "C" fn resource_manager_migrate(
+pub fn resource_manager_migrate(
     old_contents: &[u16],
     old_bodies: &[u8],
     contents: &mut [u16],
@@ -96,13 +93,7 @@ pub extern "C" fn resource_manager_migrate(
 }
 
 // The value of a query: its place in the bodies in bits 16 to 31 and its length from bit 32 on; 65535 for none; or the refusal.
-#[unsafe(no_mangle)]
-pub extern "C" fn resource_manager_get_bytes(
-    contents: &[u16],
-    bodies: &[u8],
-    name: &[u8],
-    class: &[u8],
-) -> u64
+pub fn resource_manager_get_bytes(contents: &[u16], bodies: &[u8], name: &[u8], class: &[u8]) -> u64
     ensures { result ≡ place_code (get_bytes contents.now bodies.now name.now class.now) }
 {
     let found = lookup::get_bytes(contents, bodies, name, class);
@@ -111,15 +102,14 @@ pub extern "C" fn resource_manager_get_bytes(
 
 // The value of a query, or else a default: the answer is that of `resource_manager_get_bytes`. `shown` is lent as the default, and with
 // status 0 it is the value's bytes afterwards, a part of the bodies; with any other it stays the default.
-#[unsafe(no_mangle)]
-pub extern "C" fn resource_manager_show<'a>(
+pub fn resource_manager_show<'a>(
     contents: &[u16],
     bodies: &'a [u8],
     name: &[u8],
     class: &[u8],
     shown: &mut &'a [u8],
 ) -> u64
-    ensures { (result ≡ place_code (get_bytes contents.now bodies.now name.now class.now)) × (shown.new.now ≡ definition.shown contents.now bodies.now name.now class.now shown.old.now) × (shown.new.ptr ≡ shown_at (get_bytes contents.now bodies.now name.now class.now) bodies.entry.ref_ptr shown.old.ptr) }
+    ensures { (result ≡ place_code (get_bytes contents.now bodies.now name.now class.now)) × (shown.new.now ≡ definition.shown contents.now bodies.now name.now class.now shown.old.now) × (shown.new.ref_ptr ≡ shown_at (get_bytes contents.now bodies.now name.now class.now) bodies.entry.ref_ptr shown.old.ref_ptr) }
 {
     let default = *shown;
     let found = lookup::get_bytes(contents, bodies, name, class);
@@ -128,8 +118,7 @@ pub extern "C" fn resource_manager_show<'a>(
 }
 
 // The same for a value that is well-formed UTF-8: else none.
-#[unsafe(no_mangle)]
-pub extern "C" fn resource_manager_get_string(
+pub fn resource_manager_get_string(
     contents: &[u16],
     bodies: &[u8],
     name: &[u8],
@@ -142,13 +131,7 @@ pub extern "C" fn resource_manager_get_string(
 }
 
 // 65536 for true, 0 for false, 65535 for none, or the refusal.
-#[unsafe(no_mangle)]
-pub extern "C" fn resource_manager_get_bool(
-    contents: &[u16],
-    bodies: &[u8],
-    name: &[u8],
-    class: &[u8],
-) -> u64
+pub fn resource_manager_get_bool(contents: &[u16], bodies: &[u8], name: &[u8], class: &[u8]) -> u64
     ensures { result ≡ bool_code (get_bool contents.now bodies.now name.now class.now) }
 {
     let truth = readings::get_bool(contents, bodies, name, class);
@@ -156,8 +139,7 @@ pub extern "C" fn resource_manager_get_bool(
 }
 
 // 0 with the number in `out`; 65534 if the value is not a number, 65535 for none, or the refusal, with `out` as it was.
-#[unsafe(no_mangle)]
-pub extern "C" fn resource_manager_get_value(
+pub fn resource_manager_get_value(
     contents: &[u16],
     bodies: &[u8],
     name: &[u8],
@@ -172,8 +154,7 @@ pub extern "C" fn resource_manager_get_value(
 
 // The text of an image's entries, at the front of `text`: its length from bit 32 on; or the refusal, with `text` as it was. Bytes past
 // the text stay.
-#[unsafe(no_mangle)]
-pub extern "C" fn resource_manager_write(contents: &[u16], bodies: &[u8], text: &mut [u8]) -> u64
+pub fn resource_manager_write(contents: &[u16], bodies: &[u8], text: &mut [u8]) -> u64
     ensures { filling result text.new ≡ fill_code (writing contents.now bodies.now text.old) }
 {
     let answer = writer::write(contents, bodies, text);
@@ -181,8 +162,7 @@ pub extern "C" fn resource_manager_write(contents: &[u16], bodies: &[u8], text: 
 }
 
 // Adds the entry that a text makes to an image: its number from bit 16 on; or the refusal, with both buffers as they were.
-#[unsafe(no_mangle)]
-pub extern "C" fn resource_manager_add(contents: &mut [u16], bodies: &mut [u8], text: &[u8]) -> u64
+pub fn resource_manager_add(contents: &mut [u16], bodies: &mut [u8], text: &[u8]) -> u64
     ensures { crossing result contents.new bodies.new ≡ add_crossed (adding contents.old bodies.old text.now) }
 {
     let answer = adding::add(contents, bodies, text);

@@ -10,8 +10,7 @@ ghost use Rattle.resource_manager.specs.Boundary.{yes, crossed, crossing, compar
 use codes::{compare_code, read_code};
 
 // `resource_manager_read` at a depth.
-#[unsafe(no_mangle)]
-pub extern "C" fn resource_manager_read_depth(
+pub fn resource_manager_read_depth(
     text: &[u8],
     shelf: &[u8],
     depth: u64,
@@ -25,8 +24,7 @@ pub extern "C" fn resource_manager_read_depth(
 }
 
 // `resource_manager_read_default` at a depth.
-#[unsafe(no_mangle)]
-pub extern "C" fn resource_manager_read_default_depth<'a>(
+pub fn resource_manager_read_default_depth<'a>(
     property_format: u8,
     property: &'a [u8],
     xresources_read: u8,
@@ -66,8 +64,7 @@ pub extern "C" fn resource_manager_read_default_depth<'a>(
 }
 
 // `resource_manager_compare_without` at a depth, which is that of both readings.
-#[unsafe(no_mangle)]
-pub extern "C" fn resource_manager_compare_without_depth<'a>(
+pub fn resource_manager_compare_without_depth<'a>(
     text: &'a [u8],
     shelf: &[u8],
     depth: u64,

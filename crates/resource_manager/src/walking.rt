@@ -7,8 +7,7 @@ use codes::{start_code, step_code};
 
 // A walk begins: 0, with 0 in `next` and the image's entry count in `count`, for a malformed query too; or the refusal, with both as
 // they were.
-#[unsafe(no_mangle)]
-pub extern "C" fn resource_manager_walk_start(
+pub fn resource_manager_walk_start(
     contents: &[u16],
     bodies: &[u8],
     name: &[u8],
@@ -24,8 +23,7 @@ pub extern "C" fn resource_manager_walk_start(
 
 // A step from any state: the number of the entry in bits 16 to 31, with one more in `next`; 65535 at the end, and for a malformed query;
 // or the refusal. With these two `next` is as it was.
-#[unsafe(no_mangle)]
-pub extern "C" fn resource_manager_walk_step(
+pub fn resource_manager_walk_step(
     contents: &[u16],
     bodies: &[u8],
     name: &[u8],

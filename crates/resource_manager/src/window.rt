@@ -9,8 +9,7 @@ ghost use Rattle.readings.specs.Showing.{shown_at};
 
 use codes::{bool_code, place_code, value_code};
 
-#[unsafe(no_mangle)]
-pub extern "C" fn resource_manager_window_get_bytes(
+pub fn resource_manager_window_get_bytes(
     contents: &[u16],
     bodies: &[u8],
     name: &[u8],
@@ -22,15 +21,14 @@ pub extern "C" fn resource_manager_window_get_bytes(
     place_code(found)
 }
 
-#[unsafe(no_mangle)]
-pub extern "C" fn resource_manager_window_show<'a>(
+pub fn resource_manager_window_show<'a>(
     contents: &[u16],
     bodies: &'a [u8],
     name: &[u8],
     class: &[u8],
     shown: &mut &'a [u8],
 ) -> u64
-    ensures { (result ≡ place_code (get_bytes_within window contents.now bodies.now name.now class.now)) × (shown.new.now ≡ shown_within window contents.now bodies.now name.now class.now shown.old.now) × (shown.new.ptr ≡ shown_at (get_bytes_within window contents.now bodies.now name.now class.now) bodies.entry.ref_ptr shown.old.ptr) }
+    ensures { (result ≡ place_code (get_bytes_within window contents.now bodies.now name.now class.now)) × (shown.new.now ≡ shown_within window contents.now bodies.now name.now class.now shown.old.now) × (shown.new.ref_ptr ≡ shown_at (get_bytes_within window contents.now bodies.now name.now class.now) bodies.entry.ref_ptr shown.old.ref_ptr) }
 {
     let default = *shown;
     let found = lookup::window_get_bytes(contents, bodies, name, class);
@@ -38,8 +36,7 @@ pub extern "C" fn resource_manager_window_show<'a>(
     place_code(found)
 }
 
-#[unsafe(no_mangle)]
-pub extern "C" fn resource_manager_window_get_string(
+pub fn resource_manager_window_get_string(
     contents: &[u16],
     bodies: &[u8],
     name: &[u8],
@@ -51,8 +48,7 @@ pub extern "C" fn resource_manager_window_get_string(
     place_code(found)
 }
 
-#[unsafe(no_mangle)]
-pub extern "C" fn resource_manager_window_get_bool(
+pub fn resource_manager_window_get_bool(
     contents: &[u16],
     bodies: &[u8],
     name: &[u8],
@@ -64,8 +60,7 @@ pub extern "C" fn resource_manager_window_get_bool(
     bool_code(truth)
 }
 
-#[unsafe(no_mangle)]
-pub extern "C" fn resource_manager_window_get_value(
+pub fn resource_manager_window_get_value(
     contents: &[u16],
     bodies: &[u8],
     name: &[u8],

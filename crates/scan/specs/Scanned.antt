@@ -1,6 +1,5 @@
 -- What the code's answers are.
-use Rattle.std.specs.Prelude.{Bool, true, false, List, [], ◌∷◌, ℕ, eqb}
-use Rattle.definition.specs.Lists.{if◌then◌else◌}
+use Rattle.std.specs.Prelude.{Bool, true, false, List, [], ◌∷◌, ℕ, eqb, if◌then◌else◌}
 
 -- does the second begin with the first?
 unfoldable pub starts_with : List ℕ → List ℕ → Bool

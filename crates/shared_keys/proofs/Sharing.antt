@@ -1,4 +1,5 @@
 -- The loop over the entries of an image, by their keys. Assumes nothing.
+use Rattle.std.specs.Prelude.{if◌then◌else◌}
 use mathlib.Core.Bool.{Bool, true, false}
 use mathlib.Core.List.{List, [], ◌∷◌}
 use mathlib.Core.Option.{some, none, some-ne-none}
@@ -10,7 +11,6 @@ use lib.ListN.{length, get_or, drop, drop_of_length-le, length-drop}
 use lib.Seq.{drop-cons}
 use borrow.Author.Tests.{lt-ltb}
 use lib.Dec.{ltb}
-use Rattle.definition.specs.Lists.{if◌then◌else◌}
 use Rattle.definition.specs.Text.{Part, Entry}
 use Rattle.definition.specs.Image.{count_of, key_at, key_parts, entry_at, is_key, is_image, key_of}
 use Rattle.definition.specs.Writing.{entries_of_image}

@@ -1,6 +1,6 @@
 -- Bytes as a terminal may show them: what is not printable, and a backslash, by its number in octal.
-use Rattle.std.specs.Prelude.{Bool, ◌&&◌, not, List, [], ◌∷◌, ◌++◌, ◌≡◌, refl, ℕ, ◌+◌, ◌/◌, ◌%◌, eqb}
-use Rattle.definition.specs.Lists.{if◌then◌else◌, ascii}
+use Rattle.std.specs.Prelude.{Bool, ◌&&◌, not, List, [], ◌∷◌, ◌++◌, ◌≡◌, refl, ℕ, ◌+◌, ◌/◌, ◌%◌, eqb, if◌then◌else◌}
+use Rattle.definition.specs.Lists.{ascii}
 use Rattle.definition.specs.Bytes.{within, backslash}
 use Rattle.definition.specs.Evaluation.{definition}
 

@@ -1,4 +1,5 @@
 -- Which texts are chosen. Assumes nothing.
+use Rattle.std.specs.Prelude.{if◌then◌else◌}
 use mathlib.Core.Bool.{Bool, true, false, ◌&&◌, not}
 use mathlib.Core.List.{List, [], ◌∷◌}
 use mathlib.Core.Option.{Option, some}
@@ -8,7 +9,7 @@ use native.Mathlib.Omega.{arith}
 use lib.Dec.{eqb, ltb}
 use lib.ListN.{length}
 use borrow.Author.Tests.{lt-ltb, ne_eqb}
-use Rattle.definition.specs.Lists.{if◌then◌else◌, is_empty, or_else}
+use Rattle.definition.specs.Lists.{is_empty, or_else}
 use Rattle.definition.specs.StartUp.{first_text, second_text}
 use Rattle.sources.specs.Lending.{lending, or_empty, is_text, first_source, second_source}
 use Rattle.sources.specs.declared.FirstSource.{FirstSource}

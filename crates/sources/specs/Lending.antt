@@ -1,7 +1,7 @@
 -- A start-up as the calls lend it, and where its texts come from.
-use Rattle.std.specs.Prelude.{Bool, true, false, ◌&&◌, not, List, [], ℕ, eqb}
+use Rattle.std.specs.Prelude.{Bool, true, false, ◌&&◌, not, List, [], ℕ, eqb, if◌then◌else◌}
 use Rattle.std.proofs.Math.Option.{Option, some, none}
-use Rattle.definition.specs.Lists.{if◌then◌else◌, is_empty}
+use Rattle.definition.specs.Lists.{is_empty}
 use Rattle.definition.specs.StartUp.{StartUp}
 use Rattle.sources.specs.declared.FirstSource.{FirstSource}
 use Rattle.sources.specs.declared.FirstSource.TheVariants.{Property, Xresources, Xdefaults}

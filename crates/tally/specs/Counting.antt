@@ -1,6 +1,5 @@
 -- Lines, counted.
-use Rattle.std.specs.Prelude.{ℕ, ◌+◌, ◌%◌, ◌^◌, Bool, true, false, ◌==◌}
-use Rattle.definition.specs.Lists.{if◌then◌else◌}
+use Rattle.std.specs.Prelude.{ℕ, ◌+◌, ◌%◌, ◌^◌, Bool, true, false, ◌==◌, if◌then◌else◌}
 use Rattle.tally.specs.declared.Tally.{Tally}
 
 -- one more, in 64 bits

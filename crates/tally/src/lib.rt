@@ -6,8 +6,9 @@ ghost use Rattle.io.specs.Counts.{IsPrefixLen};
 ghost use Rattle.definition.specs.Lists.{zeroes};
 ghost use Rattle.tally.specs.Counting.{counted};
 
-use input::{Input, read_all};
-use libc::STDOUT_FILENO;
+use input::{Input, fail, open, read_all};
+use std::fs::File;
+use std::io::Print;
 use std::num::wrapping_add_usize;
 
 // What was seen of a file. `differs` is the number of the first line that differs, or 0. No file has so many lines that a
@@ -52,37 +53,49 @@ pub fn file_buffer() -> [u8; 524288]
     [0; 524288]
 }
 
-// Reads a file whole. One that fills the buffer is too long.
-pub fn read_file(name: &[u8], buffer: &mut [u8]) -> Input
+// Reads a file whole. One that fills the buffer is too long. A name that is not UTF-8 names no file here.
+pub fn read_file(rt: &HostRuntime, name: &[u8], buffer: &mut [u8]) -> Input
     ensures { IsPrefixLen result.size buffer.new }
 {
-    let fd = os::open_read(name);
-    if fd < 0 {
-        os::fail(name);
-        return Input {
+    match open(rt, name) {
+        Ok(mut file) => read_whole(&mut file, buffer),
+        Err(error) => {
+            fail(rt, name, error);
+            Input {
+                size: 0,
+                failed: true,
+            }
+        }
+    }
+}
+
+// Reads what is open. What fills the buffer is too long.
+fn read_whole(file: &mut File, buffer: &mut [u8]) -> Input
+    ensures { IsPrefixLen result.size buffer.new }
+{
+    match read_all(file, buffer) {
+        Ok(size) => Input {
+            size,
+            failed: size == buffer.len(),
+        },
+        Err(_) => Input {
             size: 0,
             failed: true,
-        };
-    }
-    let input = read_all(fd, buffer);
-    libc::close(fd);
-    Input {
-        size: input.size,
-        failed: input.failed || input.size == buffer.len(),
+        },
     }
 }
 
 // Writes a line: how many are equal, and what differs, a number between two words.
-pub fn write_tally(name: &[u8], tally: Tally, first: &[u8], last: &[u8]) {
-    io::write_all(STDOUT_FILENO, name);
-    io::write_all(STDOUT_FILENO, b": ");
-    io::print_decimal(STDOUT_FILENO, tally.equal as u64);
-    io::write_all(STDOUT_FILENO, b" equal");
+pub fn write_tally(out: &impl Print, name: &[u8], tally: Tally, first: &[u8], last: &[u8]) {
+    let _ = out.write_all(name);
+    let _ = out.write_all(b": ");
+    let _ = out.print(tally.equal);
+    let _ = out.write_all(b" equal");
     let differs = tally.differs;
     if differs > 0 {
-        io::write_all(STDOUT_FILENO, first);
-        io::print_decimal(STDOUT_FILENO, differs as u64);
-        io::write_all(STDOUT_FILENO, last);
+        let _ = out.write_all(first);
+        let _ = out.print(differs);
+        let _ = out.write_all(last);
     }
-    io::write_all(STDOUT_FILENO, b"\n");
+    let _ = out.write_all(b"\n");
 }

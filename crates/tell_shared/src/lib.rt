@@ -12,19 +12,19 @@ use archive::Member;
 use byte_classes::byte_classes;
 use image::row_at;
 use include_lines::{Next, next_include};
-use io::write_all;
-use libc::STDERR_FILENO;
 use limits::{BODY_BYTES, CONTENTS_WORDS, FILE_NAME_BYTES, MOST_ENTRIES, TEXT_BYTES};
 use missing::{Look, Reached, look_for, none_reached, reach};
 use printing::put;
 use reader::{Answer, read};
 use shared_keys::{Shared, next_shared};
 use shared_lines::{LINE_BYTES, put_shared};
+use std::io::Print;
 
 // ---- Entries
 
 // The line of entry `i` of the one file and entry `j` of the other, which have one key.
 fn tell_line(
+    rt: &HostRuntime,
     a: &[u8],
     b: &[u8],
     contents: &[u16],
@@ -52,11 +52,12 @@ fn tell_line(
         &stores[from..to],
         &mut out,
     );
-    write_all(STDERR_FILENO, &out[..n]);
+    let _ = rt.stderr().write_all(&out[..n]);
 }
 
 // Each entry of the other file with the key of entry `i`.
 fn tell_entry(
+    rt: &HostRuntime,
     a: &[u8],
     b: &[u8],
     contents: &[u16],
@@ -73,18 +74,26 @@ fn tell_entry(
         let Shared::At(j) = shared else {
             return;
         };
-        tell_line(a, b, contents, bodies, i, others, stores, j);
+        tell_line(rt, a, b, contents, bodies, i, others, stores, j);
         next = j + 1;
     }
 }
 
-fn tell_entries(a: &[u8], b: &[u8], contents: &[u16], bodies: &[u8], others: &[u16], stores: &[u8])
+fn tell_entries(
+    rt: &HostRuntime,
+    a: &[u8],
+    b: &[u8],
+    contents: &[u16],
+    bodies: &[u8],
+    others: &[u16],
+    stores: &[u8],
+)
     requires { (length a.now ≤ file_name_bytes) × (length b.now ≤ file_name_bytes) × (is_image contents.now bodies.now ≡ true) × (is_image others.now stores.now ≡ true) }
 {
     let count = contents[0] as usize;
     let mut i = 0;
     while i < count {
-        tell_entry(a, b, contents, bodies, i, others, stores);
+        tell_entry(rt, a, b, contents, bodies, i, others, stores);
         i += 1;
     }
 }
@@ -113,7 +122,7 @@ fn read_pack(
     }
 }
 
-fn tell_packs(a: &[u8], b: &[u8], archive: &[u8], depth: u64)
+fn tell_packs(rt: &HostRuntime, a: &[u8], b: &[u8], archive: &[u8], depth: u64)
     requires { (length a.now ≤ file_name_bytes) × (length b.now ≤ file_name_bytes) }
 {
     let mut contents = [0; CONTENTS_WORDS];
@@ -126,11 +135,11 @@ fn tell_packs(a: &[u8], b: &[u8], archive: &[u8], depth: u64)
     if !read_pack(b, archive, depth, &mut others, &mut stores) {
         return;
     }
-    tell_entries(a, b, &contents, &bodies, &others, &stores);
+    tell_entries(rt, a, b, &contents, &bodies, &others, &stores);
 }
 
 // Two files of the archive. No name has more than 96 bytes.
-fn tell_files(one: Member, other: Member, archive: &[u8], depth: u64)
+fn tell_files(rt: &HostRuntime, one: Member, other: Member, archive: &[u8], depth: u64)
     requires { (stands_in (length archive.now) one ≡ true) × (stands_in (length archive.now) other ≡ true) }
 {
     let start = one.start;
@@ -145,28 +154,28 @@ fn tell_files(one: Member, other: Member, archive: &[u8], depth: u64)
     if b.len() > FILE_NAME_BYTES {
         return;
     }
-    tell_packs(a, b, archive, depth);
+    tell_packs(rt, a, b, archive, depth);
 }
 
 // A file and each of those after it.
-fn tell_with(archive: &[u8], depth: u64, reached: Reached, first: usize)
+fn tell_with(rt: &HostRuntime, archive: &[u8], depth: u64, reached: Reached, first: usize)
     requires { Waiting (length archive.now) reached × (first < reached.count) }
 {
     let one = reached.files[first];
     let mut i = first + 1;
     while i < reached.count {
         let other = reached.files[i];
-        tell_files(one, other, archive, depth);
+        tell_files(rt, one, other, archive, depth);
         i += 1;
     }
 }
 
-fn tell_all(archive: &[u8], depth: u64, reached: Reached)
+fn tell_all(rt: &HostRuntime, archive: &[u8], depth: u64, reached: Reached)
     requires { Waiting (length archive.now) reached }
 {
     let mut i = 0;
     while i < reached.count {
-        tell_with(archive, depth, reached, i);
+        tell_with(rt, archive, depth, reached, i);
         i += 1;
     }
 }
@@ -216,20 +225,20 @@ fn with_text(classes: &[u8; 256], text: &[u8], archive: &[u8], reached: Reached)
 }
 
 // Tells the keys that two files of a main text share, at the depth of its reading.
-pub fn tell_shared(text: &[u8], archive: &[u8], depth: u64)
+pub fn tell_shared(rt: &HostRuntime, text: &[u8], archive: &[u8], depth: u64)
     requires { laid_out archive.now ≡ true }
 {
     let classes = byte_classes();
     let reached = with_text(&classes, text, archive, none_reached());
-    tell_all(archive, depth, reached);
+    tell_all(rt, archive, depth, reached);
 }
 
 // Tells those of the two texts of a start-up chain.
-pub fn tell_shared_chain(first: &[u8], second: &[u8], archive: &[u8], depth: u64)
+pub fn tell_shared_chain(rt: &HostRuntime, first: &[u8], second: &[u8], archive: &[u8], depth: u64)
     requires { laid_out archive.now ≡ true }
 {
     let classes = byte_classes();
     let mut reached = with_text(&classes, first, archive, none_reached());
     reached = with_text(&classes, second, archive, reached);
-    tell_all(archive, depth, reached);
+    tell_all(rt, archive, depth, reached);
 }

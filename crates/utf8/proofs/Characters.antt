@@ -1,4 +1,5 @@
 -- How the code takes characters off a text. Assumes nothing.
+use Rattle.std.specs.Prelude.{if◌then◌else◌}
 use mathlib.Core.Bool.{Bool, true, false}
 use mathlib.Core.List.{List, [], ◌∷◌, ◌++◌}
 use mathlib.Core.Option.{Option, some, none}
@@ -8,7 +9,7 @@ use native.Mathlib.Numerals.{add-one}
 use native.Mathlib.Omega.{arith}
 use lib.ListN.{length, get_or, take, drop, replicate, length-drop, length-replicate}
 use lib.Seq.{drop-cons, drop-drop}
-use Rattle.definition.specs.Lists.{if◌then◌else◌, or_else, is_empty}
+use Rattle.definition.specs.Lists.{or_else, is_empty}
 use Rattle.definition.specs.Parsing.{nothing, found, at_most, many}
 use Rattle.definition.specs.Bytes.{within}
 use Rattle.definition.specs.Value.{Range, table, after_row, first_row, character, character_at, is_utf8}
@@ -58,37 +59,37 @@ module _ (c : ℕ) (t : List ℕ) where
 
 -- the table's rows but the first, each by the byte that its first range begins with; no row has the bytes before C2 and after F4
 module _ (c : ℕ) where
-  pub lead_C2 : 0xC2 ≤ c → c ≤ 0xDF → (t : List ℕ) → first_row table (c ∷ t) ≡ after_lead (Second 0x80 0xBF 0) t
+  pub lead_c2 : 0xC2 ≤ c → c ≤ 0xDF → (t : List ℕ) → first_row table (c ∷ t) ≡ after_lead (Second 0x80 0xBF 0) t
   unfolding table after_lead
-  lead_C2 h k t = row_here c t (take 1 table) _ _ (drop 2 table) (omega arith) h k (omega arith)
+  lead_c2 h k t = row_here c t (take 1 table) _ _ (drop 2 table) (omega arith) h k (omega arith)
 
-  pub lead_E0 : 0xE0 ≤ c → c ≤ 0xE0 → (t : List ℕ) → first_row table (c ∷ t) ≡ after_lead (Second 0xA0 0xBF 1) t
+  pub lead_e0 : 0xE0 ≤ c → c ≤ 0xE0 → (t : List ℕ) → first_row table (c ∷ t) ≡ after_lead (Second 0xA0 0xBF 1) t
   unfolding table after_lead
-  lead_E0 h k t = row_here c t (take 2 table) _ _ (drop 3 table) (omega arith) h k (omega arith)
+  lead_e0 h k t = row_here c t (take 2 table) _ _ (drop 3 table) (omega arith) h k (omega arith)
 
-  pub lead_E1 : 0xE1 ≤ c → c ≤ 0xEC → (t : List ℕ) → first_row table (c ∷ t) ≡ after_lead (Second 0x80 0xBF 1) t
+  pub lead_e1 : 0xE1 ≤ c → c ≤ 0xEC → (t : List ℕ) → first_row table (c ∷ t) ≡ after_lead (Second 0x80 0xBF 1) t
   unfolding table after_lead
-  lead_E1 h k t = row_here c t (take 3 table) _ _ (drop 4 table) (omega arith) h k (omega arith)
+  lead_e1 h k t = row_here c t (take 3 table) _ _ (drop 4 table) (omega arith) h k (omega arith)
 
-  pub lead_ED : 0xED ≤ c → c ≤ 0xED → (t : List ℕ) → first_row table (c ∷ t) ≡ after_lead (Second 0x80 0x9F 1) t
+  pub lead_ed : 0xED ≤ c → c ≤ 0xED → (t : List ℕ) → first_row table (c ∷ t) ≡ after_lead (Second 0x80 0x9F 1) t
   unfolding table after_lead
-  lead_ED h k t = row_here c t (take 4 table) _ _ (drop 5 table) (omega arith) h k (omega arith)
+  lead_ed h k t = row_here c t (take 4 table) _ _ (drop 5 table) (omega arith) h k (omega arith)
 
-  pub lead_EE : 0xEE ≤ c → c ≤ 0xEF → (t : List ℕ) → first_row table (c ∷ t) ≡ after_lead (Second 0x80 0xBF 1) t
+  pub lead_ee : 0xEE ≤ c → c ≤ 0xEF → (t : List ℕ) → first_row table (c ∷ t) ≡ after_lead (Second 0x80 0xBF 1) t
   unfolding table after_lead
-  lead_EE h k t = row_here c t (take 5 table) _ _ (drop 6 table) (omega arith) h k (omega arith)
+  lead_ee h k t = row_here c t (take 5 table) _ _ (drop 6 table) (omega arith) h k (omega arith)
 
-  pub lead_F0 : 0xF0 ≤ c → c ≤ 0xF0 → (t : List ℕ) → first_row table (c ∷ t) ≡ after_lead (Second 0x90 0xBF 2) t
+  pub lead_f0 : 0xF0 ≤ c → c ≤ 0xF0 → (t : List ℕ) → first_row table (c ∷ t) ≡ after_lead (Second 0x90 0xBF 2) t
   unfolding table after_lead
-  lead_F0 h k t = row_here c t (take 6 table) _ _ (drop 7 table) (omega arith) h k (omega arith)
+  lead_f0 h k t = row_here c t (take 6 table) _ _ (drop 7 table) (omega arith) h k (omega arith)
 
-  pub lead_F1 : 0xF1 ≤ c → c ≤ 0xF3 → (t : List ℕ) → first_row table (c ∷ t) ≡ after_lead (Second 0x80 0xBF 2) t
+  pub lead_f1 : 0xF1 ≤ c → c ≤ 0xF3 → (t : List ℕ) → first_row table (c ∷ t) ≡ after_lead (Second 0x80 0xBF 2) t
   unfolding table after_lead
-  lead_F1 h k t = row_here c t (take 7 table) _ _ (drop 8 table) (omega arith) h k (omega arith)
+  lead_f1 h k t = row_here c t (take 7 table) _ _ (drop 8 table) (omega arith) h k (omega arith)
 
-  pub lead_F4 : 0xF4 ≤ c → c ≤ 0xF4 → (t : List ℕ) → first_row table (c ∷ t) ≡ after_lead (Second 0x80 0x8F 2) t
+  pub lead_f4 : 0xF4 ≤ c → c ≤ 0xF4 → (t : List ℕ) → first_row table (c ∷ t) ≡ after_lead (Second 0x80 0x8F 2) t
   unfolding table after_lead
-  lead_F4 h k t = row_here c t (take 8 table) _ _ (drop 9 table) (omega arith) h k (omega arith)
+  lead_f4 h k t = row_here c t (take 8 table) _ _ (drop 9 table) (omega arith) h k (omega arith)
 
   pub lead_before : 0x80 ≤ c → c < 0xC2 → (t : List ℕ) → first_row table (c ∷ t) ≡ after_lead Nothing t
   unfolding table after_lead

@@ -1,9 +1,8 @@
 // Well-formed UTF-8: the Rust's `str::from_utf8`.
 #![tactic(auto)]
 
-ghost use Rattle.std.specs.Prelude.{◌≡◌, List, ◌∷◌, ℕ, ◌≤◌, ◌<◌, length, drop, replicate};
+ghost use Rattle.std.specs.Prelude.{◌≡◌, List, ◌∷◌, ℕ, ◌≤◌, ◌<◌, length, drop, replicate, if◌then◌else◌};
 ghost use Rattle.std.proofs.Math.Option.{some, none};
-ghost use Rattle.definition.specs.Lists.{if◌then◌else◌};
 ghost use Rattle.definition.specs.Bytes.{within};
 ghost use Rattle.definition.specs.Value.{table, after_row, first_row, is_utf8};
 ghost use Rattle.utf8.specs.Characters.{trail, after_lead, Taken};

@@ -1,4 +1,5 @@
 -- The loop that decodes a value: what is stored is a beginning of the value, and the text that is left gives the rest. Assumes nothing.
+use Rattle.std.specs.Prelude.{if◌then◌else◌}
 use mathlib.Core.Bool.{Bool, true, false}
 use mathlib.Core.List.{List, [], ◌∷◌, ◌++◌, flatten}
 use mathlib.Core.Path.{◌≡◌, refl, sym, ap, ◌∙◌}
@@ -9,7 +10,7 @@ use native.Mathlib.Omega.{arith}
 use lib.ListN.{length, take, drop, get_or, set, length-append, length-take, length-drop, drop_of_length-le}
 use lib.Seq.{paste, paste-zero, length-paste, drop-drop, drop-cons, get_or-drop, take_at, drop_at}
 use borrow.Author.Tests.{le-leb, lt-leb, eq-eqb}
-use Rattle.definition.specs.Lists.{if◌then◌else◌, take_while}
+use Rattle.definition.specs.Lists.{take_while}
 use Rattle.definition.specs.Parsing.{nothing, Parsed}
 use Rattle.definition.specs.Bytes.{newline, backslash}
 use Rattle.definition.specs.Text.{piece_at}

@@ -1,4 +1,5 @@
 -- What a caller of `parse_value` reads off its answer. Assumes nothing.
+use Rattle.std.specs.Prelude.{if◌then◌else◌}
 use mathlib.Core.Bool.{Bool, true, false, ◌||◌}
 use mathlib.Core.List.{List, [], ◌∷◌, flatten}
 use mathlib.Core.Path.{◌≡◌, refl, ◌∙◌}
@@ -9,7 +10,6 @@ use lib.Dec.{eqb, leb}
 use lib.ListN.{length, drop, length-append, length-drop}
 use lib.Seq.{paste}
 use borrow.Author.Tests.{leb-true, leb-false}
-use Rattle.definition.specs.Lists.{if◌then◌else◌}
 use Rattle.definition.specs.Parsing.{Parse, nothing, found, continued, at_most, many}
 use Rattle.definition.specs.Bytes.{newline, backslash, letter_n, is_blank, is_octal}
 use Rattle.definition.specs.Text.{line_ends, octal_of, escape_at, piece_at}

@@ -1,8 +1,7 @@
 -- The blanks before a value, and the value at the front of a text whose blanks are skipped: what the code answers and stores.
 use mathlib.Core.List.{List, flatten}
-use Rattle.std.specs.Prelude.{◌≡◌, ℕ, ◌+◌, ◌-◌, min, leb, length}
+use Rattle.std.specs.Prelude.{◌≡◌, ℕ, ◌+◌, ◌-◌, min, leb, length, if◌then◌else◌}
 use Rattle.std.proofs.Math.Seq.{paste}
-use Rattle.definition.specs.Lists.{if◌then◌else◌}
 use Rattle.definition.specs.Parsing.{many}
 use Rattle.definition.specs.Text.{piece_at, after_blanks}
 use Rattle.values.specs.declared.Stored.{Stored}

@@ -1,4 +1,5 @@
 -- A step is a search for the first entry that aligns; and the tests before a start. Assumes nothing.
+use Rattle.std.specs.Prelude.{if◌then◌else◌}
 use mathlib.Core.Bool.{Bool, true, false, ◌&&◌, not}
 use mathlib.Core.List.{List, [], ◌∷◌}
 use mathlib.Core.Option.{Option, some, none}
@@ -8,7 +9,6 @@ use native.Mathlib.Numerals.{add-one}
 use native.Mathlib.Omega.{arith}
 use lib.ListN.{length, get_or, take, drop, length-take, drop_of_length-le}
 use lib.Seq.{drop-cons, get_or-take}
-use Rattle.definition.specs.Lists.{if◌then◌else◌}
 use Rattle.definition.specs.Text.{Entry}
 use Rattle.definition.specs.Image.{Row, rows_from, rows_in, count_of, entry_at, entries_in, is_image}
 use Rattle.definition.specs.Writing.{entries_of_image}

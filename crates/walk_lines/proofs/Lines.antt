@@ -1,4 +1,5 @@
 -- A line is put piece by piece, and how long the lines are. Assumes nothing.
+use Rattle.std.specs.Prelude.{if◌then◌else◌}
 use mathlib.Core.Bool.{Bool, true, false}
 use mathlib.Core.List.{List, [], ◌∷◌, ◌++◌}
 use mathlib.Core.Path.{◌≡◌, refl, sym, ap, ◌∙◌}
@@ -8,7 +9,7 @@ use native.Mathlib.Numerals.{add-one}
 use native.Mathlib.Omega.{arith}
 use lib.ListN.{length, drop, get_or, length-append}
 use lib.Seq.{drop-drop, get_or-drop}
-use Rattle.definition.specs.Lists.{if◌then◌else◌, ascii}
+use Rattle.definition.specs.Lists.{ascii}
 use Rattle.definition.specs.Limits.{file_name_bytes}
 use Rattle.definition.specs.Archive.{File, files_of, laid_out}
 use Rattle.definition.specs.Text.{Entry}

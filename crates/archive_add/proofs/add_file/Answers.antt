@@ -2,7 +2,6 @@
 use mathlib.Core.Path.{sym, ◌∙◌}
 use native.Mathlib.Omega.{arith}
 use borrow.Author.Tests.{not-true, not-false}
-use borrow.Author.Rules.{rules}
 use Rattle.archive.proofs.Walk.{length_files, rows_room}
 use Rattle.laws.proofs.Archive.{laid_out_says}
 use Rattle.archive_slot.proofs.Slots.{slot_taken}

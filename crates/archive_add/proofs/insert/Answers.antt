@@ -4,7 +4,6 @@ use Prim.Native.Nat.{ℕ, ◌+◌, ◌≤◌, ◌<◌}
 use native.Mathlib.Omega.{arith}
 use lib.ListN.{length}
 use lib.Seq.{paste}
-use borrow.Author.Rules.{rules}
 use Rattle.definition.specs.Limits.{archive_bytes}
 use Rattle.archive.specs.Walk.{lengths_at}
 use Rattle.archive.proofs.Walk.{rows_room}
@@ -100,7 +99,6 @@ copy_part-requires c =
 
 pub put_lengths-requires : goal.put_lengths-requires
 put_lengths-requires c =
-    let at₂ : tie.After-lengths-at = (PLACE After-lengths_at) in
     let Facts : ℕ → Type 0 =
     λ long. (c.file_count-count.result < 65536) × (c.args.slot.index ≤ c.file_count-count.result) × (lengths_at c.file_count-count.result ≤ c.args.slot.at) × (c.args.slot.at ≤ length c.args.archive.now) × (c.lengths_at-row.result ≡ lengths_at c.args.slot.index)
     × (length c.args.archive.now + (4 + length c.args.name.now + length c.args.body.now) ≤ archive_bytes)
@@ -112,13 +110,11 @@ put_lengths-requires c =
     (c.file_count-count.ensures.1, q.0, q.1, q.2, c.lengths_at-row.ensures, c.requires.2, c.requires.3)
     in
     let facts₁ : Facts (length c.put_word.new.out) = rw c.put_word.auto.out facts in
-    let facts₂ : Facts at₂ (length c.copy_part.new.out) = rw c.copy_part.auto.out facts₁ in
+    let facts₂ : Facts (length c.copy_part.new.out) = rw c.copy_part.auto.out facts₁ in
     omega (arith, facts₂)
 
 pub overflow_add-row : goal.overflow_add-row
 overflow_add-row c =
-    let at₂ : tie.After-lengths-at = (PLACE After-lengths_at) in
-    let at₃ : tie.After-lengths-at = at₂ in
     let Facts : ℕ → Type 0 =
     λ long. (c.file_count-count.result < 65536) × (c.args.slot.index ≤ c.file_count-count.result) × (lengths_at c.file_count-count.result ≤ c.args.slot.at) × (c.args.slot.at ≤ length c.args.archive.now) × (c.lengths_at-row.result ≡ lengths_at c.args.slot.index)
     × (length c.args.archive.now + (4 + length c.args.name.now + length c.args.body.now) ≤ archive_bytes)
@@ -130,14 +126,12 @@ overflow_add-row c =
     (c.file_count-count.ensures.1, q.0, q.1, q.2, c.lengths_at-row.ensures, c.requires.2, c.requires.3)
     in
     let facts₁ : Facts (length c.put_word.new.out) = rw c.put_word.auto.out facts in
-    let facts₂ : Facts at₂ (length c.copy_part.new.out) = rw c.copy_part.auto.out facts₁ in
-    let facts₃ : Facts at₃ (length c.put_lengths.new.out) = rw c.put_lengths.auto.out facts₂ in
+    let facts₂ : Facts (length c.copy_part.new.out) = rw c.copy_part.auto.out facts₁ in
+    let facts₃ : Facts (length c.put_lengths.new.out) = rw c.put_lengths.auto.out facts₂ in
     omega (arith, facts₃)
 
 pub copy_part-requires-2 : goal.copy_part-requires-2
 copy_part-requires-2 c =
-    let at₂ : tie.After-lengths-at = (PLACE After-lengths_at) in
-    let at₃ : tie.After-lengths-at = at₂ in
     let Facts : ℕ → Type 0 =
     λ long. (c.file_count-count.result < 65536) × (c.args.slot.index ≤ c.file_count-count.result) × (lengths_at c.file_count-count.result ≤ c.args.slot.at) × (c.args.slot.at ≤ length c.args.archive.now) × (c.lengths_at-row.result ≡ lengths_at c.args.slot.index)
     × (length c.args.archive.now + (4 + length c.args.name.now + length c.args.body.now) ≤ archive_bytes)
@@ -149,15 +143,12 @@ copy_part-requires-2 c =
     (c.file_count-count.ensures.1, q.0, q.1, q.2, c.lengths_at-row.ensures, c.requires.2, c.requires.3)
     in
     let facts₁ : Facts (length c.put_word.new.out) = rw c.put_word.auto.out facts in
-    let facts₂ : Facts at₂ (length c.copy_part.new.out) = rw c.copy_part.auto.out facts₁ in
-    let facts₃ : Facts at₃ (length c.put_lengths.new.out) = rw c.put_lengths.auto.out facts₂ in
+    let facts₂ : Facts (length c.copy_part.new.out) = rw c.copy_part.auto.out facts₁ in
+    let facts₃ : Facts (length c.put_lengths.new.out) = rw c.put_lengths.auto.out facts₂ in
     omega (arith, facts₃)
 
 pub copy_in-requires : goal.copy_in-requires
 copy_in-requires c =
-    let at₂ : tie.After-lengths-at = (PLACE After-lengths_at) in
-    let at₃ : tie.After-lengths-at = at₂ in
-    let at₄ : tie.After-lengths-at = at₃ in
     let Facts : ℕ → Type 0 =
     λ long. (c.file_count-count.result < 65536) × (c.args.slot.index ≤ c.file_count-count.result) × (lengths_at c.file_count-count.result ≤ c.args.slot.at) × (c.args.slot.at ≤ length c.args.archive.now) × (c.lengths_at-row.result ≡ lengths_at c.args.slot.index)
     × (length c.args.archive.now + (4 + length c.args.name.now + length c.args.body.now) ≤ archive_bytes)
@@ -169,17 +160,13 @@ copy_in-requires c =
     (c.file_count-count.ensures.1, q.0, q.1, q.2, c.lengths_at-row.ensures, c.requires.2, c.requires.3)
     in
     let facts₁ : Facts (length c.put_word.new.out) = rw c.put_word.auto.out facts in
-    let facts₂ : Facts at₂ (length c.copy_part.new.out) = rw c.copy_part.auto.out facts₁ in
-    let facts₃ : Facts at₃ (length c.put_lengths.new.out) = rw c.put_lengths.auto.out facts₂ in
-    let facts₄ : Facts at₄ (length c.copy_part-2.new.out) = rw c.copy_part-2.auto.out facts₃ in
+    let facts₂ : Facts (length c.copy_part.new.out) = rw c.copy_part.auto.out facts₁ in
+    let facts₃ : Facts (length c.put_lengths.new.out) = rw c.put_lengths.auto.out facts₂ in
+    let facts₄ : Facts (length c.copy_part-2.new.out) = rw c.copy_part-2.auto.out facts₃ in
     omega (arith, facts₄)
 
 pub copy_in-requires-2 : goal.copy_in-requires-2
 copy_in-requires-2 c =
-    let at₂ : tie.After-lengths-at = (PLACE After-lengths_at) in
-    let at₃ : tie.After-lengths-at = at₂ in
-    let at₄ : tie.After-lengths-at = at₃ in
-    let at₅ : tie.After-lengths-at = at₄ in
     let Facts : ℕ → Type 0 =
     λ long. (c.file_count-count.result < 65536) × (c.args.slot.index ≤ c.file_count-count.result) × (lengths_at c.file_count-count.result ≤ c.args.slot.at) × (c.args.slot.at ≤ length c.args.archive.now) × (c.lengths_at-row.result ≡ lengths_at c.args.slot.index)
     × (length c.args.archive.now + (4 + length c.args.name.now + length c.args.body.now) ≤ archive_bytes)
@@ -191,19 +178,14 @@ copy_in-requires-2 c =
     (c.file_count-count.ensures.1, q.0, q.1, q.2, c.lengths_at-row.ensures, c.requires.2, c.requires.3)
     in
     let facts₁ : Facts (length c.put_word.new.out) = rw c.put_word.auto.out facts in
-    let facts₂ : Facts at₂ (length c.copy_part.new.out) = rw c.copy_part.auto.out facts₁ in
-    let facts₃ : Facts at₃ (length c.put_lengths.new.out) = rw c.put_lengths.auto.out facts₂ in
-    let facts₄ : Facts at₄ (length c.copy_part-2.new.out) = rw c.copy_part-2.auto.out facts₃ in
-    let facts₅ : Facts at₅ (length c.copy_in.new.store) = rw c.copy_in.auto.store facts₄ in
+    let facts₂ : Facts (length c.copy_part.new.out) = rw c.copy_part.auto.out facts₁ in
+    let facts₃ : Facts (length c.put_lengths.new.out) = rw c.put_lengths.auto.out facts₂ in
+    let facts₄ : Facts (length c.copy_part-2.new.out) = rw c.copy_part-2.auto.out facts₃ in
+    let facts₅ : Facts (length c.copy_in.new.store) = rw c.copy_in.auto.store facts₄ in
     omega (arith, facts₅)
 
 pub copy_part-requires-3 : goal.copy_part-requires-3
 copy_part-requires-3 c =
-    let at₂ : tie.After-lengths-at = (PLACE After-lengths_at) in
-    let at₃ : tie.After-lengths-at = at₂ in
-    let at₄ : tie.After-lengths-at = at₃ in
-    let at₅ : tie.After-lengths-at = at₄ in
-    let at₆ : tie.After-lengths-at = at₅ in
     let Facts : ℕ → Type 0 =
     λ long. (c.file_count-count.result < 65536) × (c.args.slot.index ≤ c.file_count-count.result) × (lengths_at c.file_count-count.result ≤ c.args.slot.at) × (c.args.slot.at ≤ length c.args.archive.now) × (c.lengths_at-row.result ≡ lengths_at c.args.slot.index)
     × (length c.args.archive.now + (4 + length c.args.name.now + length c.args.body.now) ≤ archive_bytes)
@@ -215,9 +197,9 @@ copy_part-requires-3 c =
     (c.file_count-count.ensures.1, q.0, q.1, q.2, c.lengths_at-row.ensures, c.requires.2, c.requires.3)
     in
     let facts₁ : Facts (length c.put_word.new.out) = rw c.put_word.auto.out facts in
-    let facts₂ : Facts at₂ (length c.copy_part.new.out) = rw c.copy_part.auto.out facts₁ in
-    let facts₃ : Facts at₃ (length c.put_lengths.new.out) = rw c.put_lengths.auto.out facts₂ in
-    let facts₄ : Facts at₄ (length c.copy_part-2.new.out) = rw c.copy_part-2.auto.out facts₃ in
-    let facts₅ : Facts at₅ (length c.copy_in.new.store) = rw c.copy_in.auto.store facts₄ in
-    let facts₆ : Facts at₆ (length c.copy_in-2.new.store) = rw c.copy_in-2.auto.store facts₅ in
+    let facts₂ : Facts (length c.copy_part.new.out) = rw c.copy_part.auto.out facts₁ in
+    let facts₃ : Facts (length c.put_lengths.new.out) = rw c.put_lengths.auto.out facts₂ in
+    let facts₄ : Facts (length c.copy_part-2.new.out) = rw c.copy_part-2.auto.out facts₃ in
+    let facts₅ : Facts (length c.copy_in.new.store) = rw c.copy_in.auto.store facts₄ in
+    let facts₆ : Facts (length c.copy_in-2.new.store) = rw c.copy_in-2.auto.store facts₅ in
     omega (arith, facts₆)

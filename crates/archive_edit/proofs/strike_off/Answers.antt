@@ -3,7 +3,6 @@ use mathlib.Core.Path.{◌≡◌}
 use Prim.Native.Nat.{ℕ, ◌≤◌, ◌<◌}
 use native.Mathlib.Omega.{arith}
 use lib.ListN.{length}
-use borrow.Author.Rules.{rules}
 use Rattle.definition.specs.Archive.{struck_off}
 use Rattle.laws.proofs.Archive.{laid_out_says}
 use Rattle.archive.specs.Walk.{lengths_at}
@@ -68,7 +67,6 @@ copy_part-requires c =
 
 pub copy_part-requires-2 : goal.copy_part-requires-2
 copy_part-requires-2 c =
-    let at₂ : tie.After-member-of = (PLACE After-member_of) in
     let Facts : ℕ → Type 0 =
     λ long. Numbers c.args.archive.now c.args.file c.file_count-count.result c.member_of-member.result.start c.member_of-member.result.end × (c.lengths_at-row.result ≡ lengths_at c.args.file) × (c.file_count-count.result < 65536)
     × (length (struck_off c.args.file c.args.archive.now) ≤ long)
@@ -79,13 +77,11 @@ copy_part-requires-2 c =
     (q, c.lengths_at-row.ensures, c.file_count-count.ensures.1, c.requires.2)
     in
     let facts₁ : Facts (length c.put_word.new.out) = rw c.put_word.auto.out facts in
-    let facts₂ : Facts at₂ (length c.copy_part.new.out) = rw c.copy_part.auto.out facts₁ in
+    let facts₂ : Facts (length c.copy_part.new.out) = rw c.copy_part.auto.out facts₁ in
     omega (arith, facts₂)
 
 pub overflow_sub-at : goal.overflow_sub-at
 overflow_sub-at c =
-    let at₂ : tie.After-member-of = (PLACE After-member_of) in
-    let at₃ : tie.After-member-of = at₂ in
     let Facts : ℕ → Type 0 =
     λ long. Numbers c.args.archive.now c.args.file c.file_count-count.result c.member_of-member.result.start c.member_of-member.result.end × (c.lengths_at-row.result ≡ lengths_at c.args.file) × (c.file_count-count.result < 65536)
     × (length (struck_off c.args.file c.args.archive.now) ≤ long)
@@ -96,14 +92,12 @@ overflow_sub-at c =
     (q, c.lengths_at-row.ensures, c.file_count-count.ensures.1, c.requires.2)
     in
     let facts₁ : Facts (length c.put_word.new.out) = rw c.put_word.auto.out facts in
-    let facts₂ : Facts at₂ (length c.copy_part.new.out) = rw c.copy_part.auto.out facts₁ in
-    let facts₃ : Facts at₃ (length c.copy_part-2.new.out) = rw c.copy_part-2.auto.out facts₂ in
+    let facts₂ : Facts (length c.copy_part.new.out) = rw c.copy_part.auto.out facts₁ in
+    let facts₃ : Facts (length c.copy_part-2.new.out) = rw c.copy_part-2.auto.out facts₂ in
     omega (arith, facts₃)
 
 pub copy_part-requires-3 : goal.copy_part-requires-3
 copy_part-requires-3 c =
-    let at₂ : tie.After-member-of = (PLACE After-member_of) in
-    let at₃ : tie.After-member-of = at₂ in
     let Facts : ℕ → Type 0 =
     λ long. Numbers c.args.archive.now c.args.file c.file_count-count.result c.member_of-member.result.start c.member_of-member.result.end × (c.lengths_at-row.result ≡ lengths_at c.args.file) × (c.file_count-count.result < 65536)
     × (length (struck_off c.args.file c.args.archive.now) ≤ long)
@@ -114,14 +108,12 @@ copy_part-requires-3 c =
     (q, c.lengths_at-row.ensures, c.file_count-count.ensures.1, c.requires.2)
     in
     let facts₁ : Facts (length c.put_word.new.out) = rw c.put_word.auto.out facts in
-    let facts₂ : Facts at₂ (length c.copy_part.new.out) = rw c.copy_part.auto.out facts₁ in
-    let facts₃ : Facts at₃ (length c.copy_part-2.new.out) = rw c.copy_part-2.auto.out facts₂ in
+    let facts₂ : Facts (length c.copy_part.new.out) = rw c.copy_part.auto.out facts₁ in
+    let facts₃ : Facts (length c.copy_part-2.new.out) = rw c.copy_part-2.auto.out facts₂ in
     omega (arith, facts₃)
 
 pub overflow_sub-result : goal.overflow_sub-result
 overflow_sub-result c =
-    let at₂ : tie.After-member-of = (PLACE After-member_of) in
-    let at₃ : tie.After-member-of = at₂ in
     let Facts : ℕ → Type 0 =
     λ long. Numbers c.args.archive.now c.args.file c.file_count-count.result c.member_of-member.result.start c.member_of-member.result.end × (c.lengths_at-row.result ≡ lengths_at c.args.file) × (c.file_count-count.result < 65536)
     × (length (struck_off c.args.file c.args.archive.now) ≤ long)
@@ -132,14 +124,12 @@ overflow_sub-result c =
     (q, c.lengths_at-row.ensures, c.file_count-count.ensures.1, c.requires.2)
     in
     let facts₁ : Facts (length c.put_word.new.out) = rw c.put_word.auto.out facts in
-    let facts₂ : Facts at₂ (length c.copy_part.new.out) = rw c.copy_part.auto.out facts₁ in
-    let facts₃ : Facts at₃ (length c.copy_part-2.new.out) = rw c.copy_part-2.auto.out facts₂ in
+    let facts₂ : Facts (length c.copy_part.new.out) = rw c.copy_part.auto.out facts₁ in
+    let facts₃ : Facts (length c.copy_part-2.new.out) = rw c.copy_part-2.auto.out facts₂ in
     omega (arith, facts₃)
 
 pub overflow_sub-result-2 : goal.overflow_sub-result-2
 overflow_sub-result-2 c =
-    let at₂ : tie.After-member-of = (PLACE After-member_of) in
-    let at₃ : tie.After-member-of = at₂ in
     let Facts : ℕ → Type 0 =
     λ long. Numbers c.args.archive.now c.args.file c.file_count-count.result c.member_of-member.result.start c.member_of-member.result.end × (c.lengths_at-row.result ≡ lengths_at c.args.file) × (c.file_count-count.result < 65536)
     × (length (struck_off c.args.file c.args.archive.now) ≤ long)
@@ -150,14 +140,12 @@ overflow_sub-result-2 c =
     (q, c.lengths_at-row.ensures, c.file_count-count.ensures.1, c.requires.2)
     in
     let facts₁ : Facts (length c.put_word.new.out) = rw c.put_word.auto.out facts in
-    let facts₂ : Facts at₂ (length c.copy_part.new.out) = rw c.copy_part.auto.out facts₁ in
-    let facts₃ : Facts at₃ (length c.copy_part-2.new.out) = rw c.copy_part-2.auto.out facts₂ in
+    let facts₂ : Facts (length c.copy_part.new.out) = rw c.copy_part.auto.out facts₁ in
+    let facts₃ : Facts (length c.copy_part-2.new.out) = rw c.copy_part-2.auto.out facts₂ in
     omega (arith, facts₃)
 
 pub overflow_sub-result-3 : goal.overflow_sub-result-3
 overflow_sub-result-3 c =
-    let at₂ : tie.After-member-of = (PLACE After-member_of) in
-    let at₃ : tie.After-member-of = at₂ in
     let Facts : ℕ → Type 0 =
     λ long. Numbers c.args.archive.now c.args.file c.file_count-count.result c.member_of-member.result.start c.member_of-member.result.end × (c.lengths_at-row.result ≡ lengths_at c.args.file) × (c.file_count-count.result < 65536)
     × (length (struck_off c.args.file c.args.archive.now) ≤ long)
@@ -168,6 +156,6 @@ overflow_sub-result-3 c =
     (q, c.lengths_at-row.ensures, c.file_count-count.ensures.1, c.requires.2)
     in
     let facts₁ : Facts (length c.put_word.new.out) = rw c.put_word.auto.out facts in
-    let facts₂ : Facts at₂ (length c.copy_part.new.out) = rw c.copy_part.auto.out facts₁ in
-    let facts₃ : Facts at₃ (length c.copy_part-2.new.out) = rw c.copy_part-2.auto.out facts₂ in
+    let facts₂ : Facts (length c.copy_part.new.out) = rw c.copy_part.auto.out facts₁ in
+    let facts₃ : Facts (length c.copy_part-2.new.out) = rw c.copy_part-2.auto.out facts₂ in
     omega (arith, facts₃)

@@ -3,7 +3,6 @@ use mathlib.Core.Path.{ap, ◌∙◌}
 use Prim.Native.Nat.{◌-◌}
 use lib.ListN.{take, drop}
 use lib.Seq.{paste}
-use borrow.Author.Rules.{rules}
 use Rattle.archive.proofs.Walk.{part_size}
 use Rattle.archive_write.proofs.copy_part.Goals as goal
 

@@ -2,7 +2,6 @@
 use mathlib.Core.Path.{ap}
 use Rattle.integers.specs.Readings.{natural_in}
 use Rattle.argument_words.specs.Words.{depth_in, depth_of}
-use borrow.Author.Rules.{rules}
 use Rattle.argument_words.proofs.depth_of.Goals as goal
 
 pub returns-in-Is : goal.returns-in-Is

@@ -2,7 +2,6 @@
 use mathlib.Core.Path.{refl}
 use Rattle.laws.proofs.Lists.{in_range, below_range, above_range}
 use Rattle.argument_words.proofs.Words.{one_byte, other_bytes}
-use borrow.Author.Rules.{rules}
 use Rattle.argument_words.proofs.descriptor.Goals as goal
 
 pub returns-then-digit-lt51 : goal.returns-then-digit-lt51

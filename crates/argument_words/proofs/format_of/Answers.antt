@@ -5,7 +5,6 @@ use mathlib.Core.Path.{◌≡◌, refl, sym, ◌∙◌}
 use Prim.Native.Nat.{ℕ}
 use Rattle.definition.specs.Lists.{ascii, same}
 use Rattle.argument_words.specs.Words.{format_of}
-use borrow.Author.Rules.{rules}
 use Rattle.argument_words.proofs.format_of.Goals as goal
 
 pub returns-then-is_word : goal.returns-then-is_word
@@ -15,14 +14,17 @@ returns-then-is_word c = rw (← c.is_word.ensures, c.if-is_word.true) refl
 pub returns-then-is_word-2 : goal.returns-then-is_word-2
 unfolding format_of
 returns-then-is_word-2 c =
-    let e : tie.Else1 = (PLACE After-is_word-arg3) in
-    rw (not_8 e, ← c.is_word-2.ensures, c.if-is_word-2.true) refl
+    let given : List ℕ = c.args.argument.now in
+    let not_8 : same given (ascii "8") ≡ false = sym c.is_word.ensures ∙ c.if-is_word.false in
+    rw (not_8, ← c.is_word-2.ensures, c.if-is_word-2.true) refl
 
 pub returns-then-is_word-3 : goal.returns-then-is_word-3
 unfolding format_of
 returns-then-is_word-3 c =
-    let e : tie.Else2 = (PLACE After-is_word-arg5) in
-    rw (not_8 (up₁ e), not_16 e, ← c.is_word-3.ensures, c.if-is_word-3.true) refl
+    let given : List ℕ = c.args.argument.now in
+    let not_8 : same given (ascii "8") ≡ false = sym c.is_word.ensures ∙ c.if-is_word.false in
+    let not_16 : same given (ascii "16") ≡ false = sym c.is_word-2.ensures ∙ c.if-is_word-2.false in
+    rw (not_8, not_16, ← c.is_word-3.ensures, c.if-is_word-3.true) refl
 
 pub returns : goal.returns
 unfolding format_of

@@ -1,6 +1,5 @@
 -- `argument_words::is_option` meets its contract. Assumes nothing.
 use Rattle.argument_words.proofs.Words.{short_word, long_word}
-use borrow.Author.Rules.{rules}
 use Rattle.argument_words.proofs.is_option.Goals as goal
 
 pub returns-then-argument-lt2 : goal.returns-then-argument-lt2

@@ -1,6 +1,5 @@
 -- `argument_words::is_word` meets its contract. Assumes nothing.
 use Rattle.laws.proofs.Lists.{both_ways, eq_same, same_eq}
-use borrow.Author.Rules.{rules}
 use Rattle.argument_words.proofs.is_word.Goals as goal
 
 pub returns : goal.returns

@@ -1,11 +1,7 @@
 -- `arguments::name_end` meets its contract. Assumes nothing.
-use mathlib.Core.Path.{refl, sym}
 use Prim.Native.Nat.{◌-◌}
 use lib.ListN.{length}
-use lib.Seq.{length-take-le}
-use borrow.Author.Rules.{rules}
-use borrow.Author.Tests.{eq-eqb, ne_eqb}
-use Rattle.scan.proofs.Runs.{Passed, passed_none, passed_more, passed_stop, passed_end}
+use Rattle.scan.proofs.Runs.{Passed}
 use Rattle.arguments.specs.Planning.{not_equals}
 use Rattle.arguments.proofs.name_end.Given as goal
 

@@ -1,7 +1,6 @@
 -- `arguments::with_argument` meets its contract. Assumes nothing.
 use borrow.Author.Tests.{eq-eqb, ne_eqb}
 use Rattle.arguments.specs.Planning.{with_argument}
-use borrow.Author.Rules.{rules}
 use Rattle.arguments.proofs.with_argument.Goals as goal
 
 pub returns-then-plan-eq-OPERAND : goal.returns-then-plan-eq-OPERAND

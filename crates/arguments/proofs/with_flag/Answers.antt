@@ -1,11 +1,10 @@
 -- `arguments::with_flag` meets its contract. Assumes nothing.
+use Rattle.std.specs.Prelude.{if◌then◌else◌}
 use borrow.Author.Tests.{eq-eqb, ne_eqb}
 use mathlib.Core.Bool.{Bool}
 use mathlib.Core.Path.{◌≡◌, refl, sym, ap, ◌∙◌}
-use Rattle.definition.specs.Lists.{if◌then◌else◌}
 use Rattle.plans.specs.Plans.{to_write, to_list, misunderstood}
 use Rattle.arguments.specs.Planning.{with_flag}
-use borrow.Author.Rules.{rules}
 use Rattle.arguments.proofs.with_flag.Goals as goal
 
 pub returns-then-what-eq-HELP : goal.returns-then-what-eq-HELP

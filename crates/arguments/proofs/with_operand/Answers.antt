@@ -1,7 +1,6 @@
 -- `arguments::with_operand` meets its contract. Assumes nothing.
 use borrow.Author.Tests.{eq-eqb, ne_eqb}
 use Rattle.arguments.specs.Planning.{with_operand}
-use borrow.Author.Rules.{rules}
 use Rattle.arguments.proofs.with_operand.Goals as goal
 
 pub returns-then-given-eq0 : goal.returns-then-given-eq0

@@ -4,7 +4,6 @@ use mathlib.Core.Path.{refl}
 use Rattle.laws.proofs.Lists.{in_range, below_range, above_range}
 use Rattle.options.specs.Options.{format, anything}
 use Rattle.arguments.specs.Planning.{with_option}
-use borrow.Author.Rules.{rules}
 use Rattle.arguments.proofs.with_option.Goals as goal
 
 pub returns-then-what-gt-OPERAND : goal.returns-then-what-gt-OPERAND

@@ -2,7 +2,6 @@
 use borrow.Author.Tests.{lt-ltb, le-ltb}
 use mathlib.Core.Path.{refl}
 use Rattle.arguments.specs.Planning.{with_value}
-use borrow.Author.Rules.{rules}
 use Rattle.arguments.proofs.with_value.Goals as goal
 
 pub returns-then-takes : goal.returns-then-takes

@@ -42,6 +42,10 @@ overflow_cast-used c =
     let image : Holds c.args.contents.now c.args.bodies.now = image_holds c.args.contents.now c.args.bodies.now c.requires.3 in
     omega (arith, image.used_most)
 
+pub offset_bounds-words-at : goal.offset_bounds-words-at
+unfolding slot_start
+offset_bounds-words-at c = omega arith
+
 pub bounds-words-at : goal.bounds-words-at
 unfolding slot_start
 bounds-words-at c = omega (arith, c.requires.0.words_long)
@@ -54,6 +58,10 @@ slice_bounds-copy_words-end c =
     length-take-le (2 + row_words * count_of c.args.contents.now) c.args.contents.now (omega (arith, h.count_most, h.contents_long))
     in
     sym rows-there
+
+pub overflow_add-at : goal.overflow_add-at
+unfolding slot_start
+overflow_add-at c = omega arith
 
 pub copy_words-requires : goal.copy_words-requires
 unfolding slot_start

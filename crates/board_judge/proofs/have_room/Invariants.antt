@@ -11,7 +11,7 @@ use borrow.Author.Rules.{rules}
 use Rattle.board_judge.proofs.have_room.Given as goal
 
 abbrev pub invariant-loop-q : goal.invariant-loop-q
-invariant-loop-q l = all (have_room (lent l.words [])) (each (λ l.q. l.q) l.q (l.count - l.q)) ≡ all (have_room (lent l.words [])) (each (λ l.q. l.q) 0 l.count)
+invariant-loop-q l = all (have_room (lent l.words [])) (each (λ (q : ℕ). q) l.q (l.count - l.q)) ≡ all (have_room (lent l.words [])) (each (λ (q : ℕ). q) 0 l.count)
 
 abbrev pub decreases-loop-q : goal.decreases-loop-q
 decreases-loop-q l = l.count - l.q

@@ -2,8 +2,15 @@
 use native.Mathlib.Omega.{arith}
 use Rattle.definition.specs.Board.{text_start}
 use Rattle.board_layout.proofs.Parts.{class_part, room_lengths}
-use borrow.Author.Rules.{rules}
 use Rattle.board_layout.proofs.query_class.Goals as goal
+
+pub overflow_add-first : goal.overflow_add-first
+unfolding text_start
+overflow_add-first c = omega arith
+
+pub overflow_add-next : goal.overflow_add-next
+unfolding text_start
+overflow_add-next c = omega arith
 
 pub slice_bounds-result-end : goal.slice_bounds-result-end
 unfolding text_start

@@ -2,8 +2,11 @@
 use native.Mathlib.Omega.{arith}
 use Rattle.definition.specs.Board.{text_start}
 use Rattle.board_layout.proofs.Parts.{name_part, room_lengths}
-use borrow.Author.Rules.{rules}
 use Rattle.board_layout.proofs.query_name.Goals as goal
+
+pub overflow_add-next : goal.overflow_add-next
+unfolding text_start
+overflow_add-next c = omega arith
 
 pub slice_bounds-result-end : goal.slice_bounds-result-end
 unfolding text_start

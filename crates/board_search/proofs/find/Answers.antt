@@ -54,11 +54,9 @@ returns-in-Long c =
     let asked : List Position = positions_of (names_in name (starts_of first.split) (lengths_of first.split)) (names_in class (starts_of second.split) (lengths_of second.split)) in
     let name-told : Told shell name first.shape (starts_of first.split) (lengths_of first.split) = told_shell _ _ c.parse_query-instances.ensures in
     let class-told : Told shell class second.shape (starts_of second.split) (lengths_of second.split) = told_shell _ _ c.parse_query-classes.ensures in
+    let zero_add : query_of (query_at board (0 + c.args.q)).name (query_at board (0 + c.args.q)).class ≡ query_of (query_at board c.args.q).name (query_at board c.args.q).class = let e : 0 + c.args.q ≡ c.args.q = omega arith in rw e refl in
     let watched : query_of name class ≡ query_number (board_in board).queries c.args.q =
-      (λ t. query_of (c.query_name-name.ensures t) (c.query_class-class.ensures t)) ∙ sym (query_number_lem (query_at board) 0 (query_count board) c.args.q c.requires.1 ∙ zero-add (PLACE Start))
-    where
-      zero-add : ((PLACE Start) : tie.Start) → query_of (query_at board (0 + c.args.q)).name (query_at board (0 + c.args.q)).class ≡ query_of (query_at board c.args.q).name (query_at board c.args.q).class
-      zero-add (PLACE Start) = let e : 0 + c.args.q ≡ c.args.q = omega arith in rw e refl
+    (λ t. query_of (c.query_name-name.ensures t) (c.query_class-class.ensures t)) ∙ sym (query_number_lem (query_at board) 0 (query_count board) c.args.q c.requires.1 ∙ zero_add)
     in
     let asks : (x : Shape) → c.both-shape.result ≡ x → spot_of board c.args.skip (shaped x asked) ≡ spot_of board c.args.skip (query_number (board_in board).queries c.args.q) =
     λ x e. let q = query_is shell name class name-told class-told ∙ ap (λ (y : Shape). shaped y asked) (sym c.both-shape.ensures ∙ e) in
@@ -77,11 +75,9 @@ returns-in-Malformed c =
     let asked : List Position = positions_of (names_in name (starts_of first.split) (lengths_of first.split)) (names_in class (starts_of second.split) (lengths_of second.split)) in
     let name-told : Told shell name first.shape (starts_of first.split) (lengths_of first.split) = told_shell _ _ c.parse_query-instances.ensures in
     let class-told : Told shell class second.shape (starts_of second.split) (lengths_of second.split) = told_shell _ _ c.parse_query-classes.ensures in
+    let zero_add : query_of (query_at board (0 + c.args.q)).name (query_at board (0 + c.args.q)).class ≡ query_of (query_at board c.args.q).name (query_at board c.args.q).class = let e : 0 + c.args.q ≡ c.args.q = omega arith in rw e refl in
     let watched : query_of name class ≡ query_number (board_in board).queries c.args.q =
-      (λ t. query_of (c.query_name-name.ensures t) (c.query_class-class.ensures t)) ∙ sym (query_number_lem (query_at board) 0 (query_count board) c.args.q c.requires.1 ∙ zero-add (PLACE Start))
-    where
-      zero-add : ((PLACE Start) : tie.Start) → query_of (query_at board (0 + c.args.q)).name (query_at board (0 + c.args.q)).class ≡ query_of (query_at board c.args.q).name (query_at board c.args.q).class
-      zero-add (PLACE Start) = let e : 0 + c.args.q ≡ c.args.q = omega arith in rw e refl
+    (λ t. query_of (c.query_name-name.ensures t) (c.query_class-class.ensures t)) ∙ sym (query_number_lem (query_at board) 0 (query_count board) c.args.q c.requires.1 ∙ zero_add)
     in
     let asks : (x : Shape) → c.both-shape.result ≡ x → spot_of board c.args.skip (shaped x asked) ≡ spot_of board c.args.skip (query_number (board_in board).queries c.args.q) =
     λ x e. let q = query_is shell name class name-told class-told ∙ ap (λ (y : Shape). shaped y asked) (sym c.both-shape.ensures ∙ e) in
@@ -100,11 +96,9 @@ returns-in-Many c =
     let asked : List Position = positions_of (names_in name (starts_of first.split) (lengths_of first.split)) (names_in class (starts_of second.split) (lengths_of second.split)) in
     let name-told : Told shell name first.shape (starts_of first.split) (lengths_of first.split) = told_shell _ _ c.parse_query-instances.ensures in
     let class-told : Told shell class second.shape (starts_of second.split) (lengths_of second.split) = told_shell _ _ c.parse_query-classes.ensures in
+    let zero_add : query_of (query_at board (0 + c.args.q)).name (query_at board (0 + c.args.q)).class ≡ query_of (query_at board c.args.q).name (query_at board c.args.q).class = let e : 0 + c.args.q ≡ c.args.q = omega arith in rw e refl in
     let watched : query_of name class ≡ query_number (board_in board).queries c.args.q =
-      (λ t. query_of (c.query_name-name.ensures t) (c.query_class-class.ensures t)) ∙ sym (query_number_lem (query_at board) 0 (query_count board) c.args.q c.requires.1 ∙ zero-add (PLACE Start))
-    where
-      zero-add : ((PLACE Start) : tie.Start) → query_of (query_at board (0 + c.args.q)).name (query_at board (0 + c.args.q)).class ≡ query_of (query_at board c.args.q).name (query_at board c.args.q).class
-      zero-add (PLACE Start) = let e : 0 + c.args.q ≡ c.args.q = omega arith in rw e refl
+    (λ t. query_of (c.query_name-name.ensures t) (c.query_class-class.ensures t)) ∙ sym (query_number_lem (query_at board) 0 (query_count board) c.args.q c.requires.1 ∙ zero_add)
     in
     let asks : (x : Shape) → c.both-shape.result ≡ x → spot_of board c.args.skip (shaped x asked) ≡ spot_of board c.args.skip (query_number (board_in board).queries c.args.q) =
     λ x e. let q = query_is shell name class name-told class-told ∙ ap (λ (y : Shape). shaped y asked) (sym c.both-shape.ensures ∙ e) in
@@ -123,11 +117,9 @@ returns-in-Good c =
     let asked : List Position = positions_of (names_in name (starts_of first.split) (lengths_of first.split)) (names_in class (starts_of second.split) (lengths_of second.split)) in
     let name-told : Told shell name first.shape (starts_of first.split) (lengths_of first.split) = told_shell _ _ c.parse_query-instances.ensures in
     let class-told : Told shell class second.shape (starts_of second.split) (lengths_of second.split) = told_shell _ _ c.parse_query-classes.ensures in
+    let zero_add : query_of (query_at board (0 + c.args.q)).name (query_at board (0 + c.args.q)).class ≡ query_of (query_at board c.args.q).name (query_at board c.args.q).class = let e : 0 + c.args.q ≡ c.args.q = omega arith in rw e refl in
     let watched : query_of name class ≡ query_number (board_in board).queries c.args.q =
-      (λ t. query_of (c.query_name-name.ensures t) (c.query_class-class.ensures t)) ∙ sym (query_number_lem (query_at board) 0 (query_count board) c.args.q c.requires.1 ∙ zero-add (PLACE Start))
-    where
-      zero-add : ((PLACE Start) : tie.Start) → query_of (query_at board (0 + c.args.q)).name (query_at board (0 + c.args.q)).class ≡ query_of (query_at board c.args.q).name (query_at board c.args.q).class
-      zero-add (PLACE Start) = let e : 0 + c.args.q ≡ c.args.q = omega arith in rw e refl
+    (λ t. query_of (c.query_name-name.ensures t) (c.query_class-class.ensures t)) ∙ sym (query_number_lem (query_at board) 0 (query_count board) c.args.q c.requires.1 ∙ zero_add)
     in
     let asks : (x : Shape) → c.both-shape.result ≡ x → spot_of board c.args.skip (shaped x asked) ≡ spot_of board c.args.skip (query_number (board_in board).queries c.args.q) =
     λ x e. let q = query_is shell name class name-told class-told ∙ ap (λ (y : Shape). shaped y asked) (sym c.both-shape.ensures ∙ e) in

@@ -19,8 +19,8 @@ pub loop-next-preserved : goal.loop-next-preserved
 loop-next-preserved c =
     counting_next c.loop-next.invariant c.next_part-next.ensures c.if-end-start.false _
     (elim c.if-start-ne1.branch [
-      then-start-ne1 w ↦ w.verbatim-is ∙ flag_odd c.loop-next.verbatim c.loop-next.count c.next_part-next.result.start w.if-start-ne1.true
-    | else-start-ne1 w ↦ w.verbatim-is ∙ flag_one c.loop-next.verbatim c.loop-next.count c.next_part-next.result.start w.if-start-ne1.false
+      | then-start-ne1 w ↦ w.verbatim-is ∙ flag_odd c.loop-next.verbatim c.loop-next.count c.next_part-next.result.start w.if-start-ne1.true
+      | else-start-ne1 w ↦ w.verbatim-is ∙ flag_one c.loop-next.verbatim c.loop-next.count c.next_part-next.result.start w.if-start-ne1.false
     ])
 
 pub loop-next-init : goal.loop-next-init

@@ -1,6 +1,5 @@
 -- `include_lines::line_after` meets its contract. Assumes nothing.
 use native.Mathlib.Omega.{arith}
-use borrow.Author.Rules.{rules}
 use Rattle.parser.proofs.Entries.{value_inside}
 use Rattle.include_lines.proofs.Passing.{passed_inside, after_newline, at_the_end}
 use Rattle.include_lines.proofs.line_after.Goals as goal

@@ -1,5 +1,4 @@
 -- `include_lines::piece_length` meets its contract. Assumes nothing.
-use borrow.Author.Rules.{rules}
 use Rattle.include_lines.proofs.Passing.{piece_takes, takes_none, takes_byte, takes_escape}
 use Rattle.include_lines.proofs.piece_length.Goals as goal
 

@@ -1,9 +1,6 @@
 -- `include_lines::value_length` meets its contract. The invariant: what follows the value is the same from here on. Assumes nothing.
-use Prim.Native.Nat.{◌-◌}
 use native.Mathlib.Omega.{arith}
-use lib.ListN.{length}
-use borrow.Author.Rules.{rules}
-use Rattle.include_lines.proofs.Passing.{some_part, Passing, passing_first, passed_all, piece_inside, passed_value, passing_next}
+use Rattle.include_lines.proofs.Passing.{some_part, passing_first, passed_all, piece_inside, passed_value, passing_next}
 use Rattle.include_lines.proofs.value_length.Goals as goal
 
 pub piece_length-n-requires : goal.piece_length-n-requires

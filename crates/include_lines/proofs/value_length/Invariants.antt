@@ -1,9 +1,7 @@
 -- `include_lines::value_length` meets its contract. The invariant: what follows the value is the same from here on. Assumes nothing.
 use Prim.Native.Nat.{◌-◌}
-use native.Mathlib.Omega.{arith}
 use lib.ListN.{length}
-use borrow.Author.Rules.{rules}
-use Rattle.include_lines.proofs.Passing.{some_part, Passing, passing_first, passed_all, piece_inside, passed_value, passing_next}
+use Rattle.include_lines.proofs.Passing.{Passing}
 use Rattle.include_lines.proofs.value_length.Given as goal
 
 abbrev pub invariant-loop-i : goal.invariant-loop-i

@@ -1,10 +1,9 @@
 -- The line reader and the include function, which call each other, meet their contracts: the depth left falls. Assumes nothing.
 use mathlib.Core.List.{List}
 use mathlib.Core.Path.{◌∙◌}
-use Prim.Native.Nat.{ℕ, ◌+◌, ◌*◌, ◌-◌, ◌≤◌, ◌<◌}
+use Prim.Native.Nat.{ℕ, ◌-◌, ◌≤◌, ◌<◌}
 use native.Mathlib.Omega.{arith}
 use lib.ListN.{length, take, drop}
-use borrow.Author.Rules.{rules}
 use Rattle.definition.specs.Limits.{archive_files}
 use Rattle.definition.specs.Archive.{files_of}
 use Rattle.definition.specs.Text.{line_at}
@@ -18,41 +17,17 @@ use Rattle.includes.proofs.Opening.{no_depth, Sought, not_found, is_at, all_open
 use Rattle.includes.proofs.Loop.{Reading, reading_first, reading_done, plain_inside, reading_plain, reading_skip, skip_less, reading_include, include_less, include_stops, reading_entry, entry_inside, entry_less, entry_stops}
 use Rattle.includes.proofs.+include_parse_database.Goals as goal
 
-abbrev μ-include : Measures 5 include-kinds.ps ℕ
-μ-include κs a = 2 * a.1.1.1.1.0
-
-abbrev μ-parse-database : Measures 5 parse-database-kinds.ps ℕ
-μ-parse-database κs a = 2 * a.1.1.1.1.0 + 1
-
-abbrev include-at : ℕ → In 5 include-kinds.ps
-include-at t = and 5 include-kinds.ps (is 5 include-kinds.ps μ-include t) include.Pre
-
-abbrev include-below : ℕ → In 5 include-kinds.ps
-include-below t = and 5 include-kinds.ps (falls 5 include-kinds.ps ◌<◌ μ-include t) include.Pre
-
-abbrev parse-database-at : ℕ → In 5 parse-database-kinds.ps
-parse-database-at t = and 5 parse-database-kinds.ps (is 5 parse-database-kinds.ps μ-parse-database t) parse-database.Pre
-
-abbrev parse-database-below : ℕ → In 5 parse-database-kinds.ps
-parse-database-below t = and 5 parse-database-kinds.ps (falls 5 parse-database-kinds.ps ◌<◌ μ-parse-database t) parse-database.Pre
-
-abbrev include-calls : ℕ → include-lts.Claims
-include-calls t = (find-reads.Asked, find-reads.Learnt, folder-of-reads.Asked, folder-of-reads.Learnt, parse-database-below t, parse-database.Post)
-
-abbrev parse-database-calls : ℕ → parse-database-lts.Claims
-parse-database-calls t = (plain-lines-reads.Asked, plain-lines-reads.Learnt, parse-line-reads.Asked, parse-line-reads.Learnt, include-below t, include.Post, parse-entry-reads.Asked, parse-entry-reads.Learnt)
-
 pub include-returns-then-depth-eq0 : goal.include-returns-then-depth-eq0
 include-returns-then-depth-eq0 t c = no_depth c.args.archive.now c.args.folder.now c.args.name.now c.args.depth c.args.totals c.args.words.now c.args.store.now c.if-depth-eq0.true
 
 pub include-parse_database-requires : goal.include-parse_database-requires
 include-parse_database-requires t c =
-    let sought : (Sought c.args.archive.now c.args.folder.now c.args.name.now c.args.depth c.args.totals c.args.words.now c.args.store.now c.find_include-found.result) = record { deep = omega (arith, c.if-depth-eq0.false); room = c.requires.1.0; laid = c.requires.1.1; found = c.find_include-found.ensures } in
-    (omega (arith, c.requires.0, c.if-depth-eq0.false), (room_on sought c.in-At.is c.if-opens-ge-MOST_OPENS.false, c.requires.1.1, c.requires.1.2))
+    let sought : (Sought c.args.archive.now c.args.folder.now c.args.name.now c.args.depth c.args.totals c.args.words.now c.args.store.now c.find_include-found.result) = record { deep = omega (arith, c.if-depth-eq0.false); room = c.requires.0; laid = c.requires.1; found = c.find_include-found.ensures } in
+    (omega (arith, c.decreases, c.if-depth-eq0.false), (room_on sought c.in-At.is c.if-opens-ge-MOST_OPENS.false, c.requires.1, c.requires.2))
 
 pub include-returns : goal.include-returns
 include-returns t c =
-    let sought : (Sought c.args.archive.now c.args.folder.now c.args.name.now c.args.depth c.args.totals c.args.words.now c.args.store.now c.find_include-found.result) = record { deep = omega (arith, c.if-depth-eq0.false); room = c.requires.1.0; laid = c.requires.1.1; found = c.find_include-found.ensures } in
+    let sought : (Sought c.args.archive.now c.args.folder.now c.args.name.now c.args.depth c.args.totals c.args.words.now c.args.store.now c.find_include-found.result) = record { deep = omega (arith, c.if-depth-eq0.false); room = c.requires.0; laid = c.requires.1; found = c.find_include-found.ensures } in
     opened sought c.in-At.is c.if-opens-ge-MOST_OPENS.false c.folder_of-below.ensures.0 _ _ _ c.parse_database.ensures
 
 pub parse_database-overflow_add-name : goal.parse_database-overflow_add-name
@@ -60,13 +35,13 @@ parse_database-overflow_add-name t c =
     let rest_in : List ℕ = take (length c.loop-rest.rest.now - c.plain_lines-plain.result.taken) (drop c.plain_lines-plain.result.taken c.loop-rest.rest.now) in
     let named : (let rest = rest_in in Includes rest (line_at rest) c.in-Include.start c.in-Include.length c.in-Include.n) = rw c.in-Include.is at (lined _ (omega (arith, c.if-rest-eq0.false)) c.parse_line-line.ensures) in
     let here : (Reading c.args.origin c.args.depth (files_of c.args.archive.now) c.args.folder.now c.args.text.now (world c.args.totals c.args.words.now c.args.store.now) (ahead c.loop-rest.s c.plain_lines-plain.result) c.plain_lines-plain.new.words c.plain_lines-plain.new.store rest_in) = reading_plain c.loop-rest.invariant c.plain_lines-plain.ensures c.plain_lines-plain.auto.words c.plain_lines-plain.auto.store in
-    omega (arith, named.named, here.rest_most, c.well_formed.1.0.0)
+    omega (arith, named.named, here.rest_most)
 
 pub parse_database-include-step-requires : goal.parse_database-include-step-requires
 parse_database-include-step-requires t c =
     let rest_in : List ℕ = take (length c.loop-rest.rest.now - c.plain_lines-plain.result.taken) (drop c.plain_lines-plain.result.taken c.loop-rest.rest.now) in
     let here : (Reading c.args.origin c.args.depth (files_of c.args.archive.now) c.args.folder.now c.args.text.now (world c.args.totals c.args.words.now c.args.store.now) (ahead c.loop-rest.s c.plain_lines-plain.result) c.plain_lines-plain.new.words c.plain_lines-plain.new.store rest_in) = reading_plain c.loop-rest.invariant c.plain_lines-plain.ensures c.plain_lines-plain.auto.words c.plain_lines-plain.auto.store in
-    (omega (arith, c.requires.0), (here.room, c.requires.1.1, c.requires.1.2))
+    (omega (arith, c.decreases), (here.room, c.requires.1, c.requires.2))
 
 pub parse_database-loop-rest-smaller-in-Go : goal.parse_database-loop-rest-smaller-in-Go
 parse_database-loop-rest-smaller-in-Go t c =
@@ -108,7 +83,7 @@ parse_database-parse_entry-put-requires t c =
     let entered : (let rest = rest_in in Enters rest (line_at rest) c.in-Entry.from c.in-Entry.count c.in-Entry.size c.in-Entry.verbatim) = rw c.in-Entry.is at (lined _ (omega (arith, c.if-rest-eq0.false)) c.parse_line-line.ensures) in
     let here : (Reading c.args.origin c.args.depth (files_of c.args.archive.now) c.args.folder.now c.args.text.now (world c.args.totals c.args.words.now c.args.store.now) (ahead c.loop-rest.s c.plain_lines-plain.result) c.plain_lines-plain.new.words c.plain_lines-plain.new.store rest_in) = reading_plain c.loop-rest.invariant c.plain_lines-plain.ensures c.plain_lines-plain.auto.words c.plain_lines-plain.auto.store in
     let l = entered in (
-      c.requires.1.2,
+      c.requires.2,
       record { inside = l.inside; parts = l.parts; key = l.key; some_key = l.some_key; is_text = l.is_text; room = here.room },
     )
 
@@ -150,67 +125,67 @@ parse_database-returns-in-Stop-put t c =
 
 pub include-returns-in_default : goal.include-returns-in_default
 include-returns-in_default t c =
-    let sought : (Sought c.args.archive.now c.args.folder.now c.args.name.now c.args.depth c.args.totals c.args.words.now c.args.store.now c.find_include-found.result) = record { deep = omega (arith, c.if-depth-eq0.false); room = c.requires.1.0; laid = c.requires.1.1; found = c.find_include-found.ensures } in
+    let sought : (Sought c.args.archive.now c.args.folder.now c.args.name.now c.args.depth c.args.totals c.args.words.now c.args.store.now c.find_include-found.result) = record { deep = omega (arith, c.if-depth-eq0.false); room = c.requires.0; laid = c.requires.1; found = c.find_include-found.ensures } in
     not_found sought c.in_default.is
 
 pub include-returns-then-opens-ge-MOST_OPENS : goal.include-returns-then-opens-ge-MOST_OPENS
 include-returns-then-opens-ge-MOST_OPENS t c =
-    let sought : (Sought c.args.archive.now c.args.folder.now c.args.name.now c.args.depth c.args.totals c.args.words.now c.args.store.now c.find_include-found.result) = record { deep = omega (arith, c.if-depth-eq0.false); room = c.requires.1.0; laid = c.requires.1.1; found = c.find_include-found.ensures } in
+    let sought : (Sought c.args.archive.now c.args.folder.now c.args.name.now c.args.depth c.args.totals c.args.words.now c.args.store.now c.find_include-found.result) = record { deep = omega (arith, c.if-depth-eq0.false); room = c.requires.0; laid = c.requires.1; found = c.find_include-found.ensures } in
     all_opened sought c.in-At.is c.if-opens-ge-MOST_OPENS.true
 
 pub include-overflow_add-origin : goal.include-overflow_add-origin
 include-overflow_add-origin t c =
-    let sought : (Sought c.args.archive.now c.args.folder.now c.args.name.now c.args.depth c.args.totals c.args.words.now c.args.store.now c.find_include-found.result) = record { deep = omega (arith, c.if-depth-eq0.false); room = c.requires.1.0; laid = c.requires.1.1; found = c.find_include-found.ensures } in
+    let sought : (Sought c.args.archive.now c.args.folder.now c.args.name.now c.args.depth c.args.totals c.args.words.now c.args.store.now c.find_include-found.result) = record { deep = omega (arith, c.if-depth-eq0.false); room = c.requires.0; laid = c.requires.1; found = c.find_include-found.ensures } in
     let numbered : c.in-At.member.number < archive_files = small_number sought c.in-At.is in
     omega (arith, numbered)
 
 pub include-overflow_cast-origin : goal.include-overflow_cast-origin
 include-overflow_cast-origin t c =
-    let sought : (Sought c.args.archive.now c.args.folder.now c.args.name.now c.args.depth c.args.totals c.args.words.now c.args.store.now c.find_include-found.result) = record { deep = omega (arith, c.if-depth-eq0.false); room = c.requires.1.0; laid = c.requires.1.1; found = c.find_include-found.ensures } in
+    let sought : (Sought c.args.archive.now c.args.folder.now c.args.name.now c.args.depth c.args.totals c.args.words.now c.args.store.now c.find_include-found.result) = record { deep = omega (arith, c.if-depth-eq0.false); room = c.requires.0; laid = c.requires.1; found = c.find_include-found.ensures } in
     let numbered : c.in-At.member.number < archive_files = small_number sought c.in-At.is in
     omega (arith, numbered)
 
 pub include-slice_bounds-folder_of-count : goal.include-slice_bounds-folder_of-count
 include-slice_bounds-folder_of-count t c =
-    let sought : (Sought c.args.archive.now c.args.folder.now c.args.name.now c.args.depth c.args.totals c.args.words.now c.args.store.now c.find_include-found.result) = record { deep = omega (arith, c.if-depth-eq0.false); room = c.requires.1.0; laid = c.requires.1.1; found = c.find_include-found.ensures } in
+    let sought : (Sought c.args.archive.now c.args.folder.now c.args.name.now c.args.depth c.args.totals c.args.words.now c.args.store.now c.find_include-found.result) = record { deep = omega (arith, c.if-depth-eq0.false); room = c.requires.0; laid = c.requires.1; found = c.find_include-found.ensures } in
     let stands : (Stands c.args.archive.now c.in-At.member.start c.in-At.member) = (is_at sought c.in-At.is).inside in
     stands.name_in
 
 pub include-slice_bounds-folder_of-start : goal.include-slice_bounds-folder_of-start
 include-slice_bounds-folder_of-start t c =
-    let sought : (Sought c.args.archive.now c.args.folder.now c.args.name.now c.args.depth c.args.totals c.args.words.now c.args.store.now c.find_include-found.result) = record { deep = omega (arith, c.if-depth-eq0.false); room = c.requires.1.0; laid = c.requires.1.1; found = c.find_include-found.ensures } in
+    let sought : (Sought c.args.archive.now c.args.folder.now c.args.name.now c.args.depth c.args.totals c.args.words.now c.args.store.now c.find_include-found.result) = record { deep = omega (arith, c.if-depth-eq0.false); room = c.requires.0; laid = c.requires.1; found = c.find_include-found.ensures } in
     let stands : (Stands c.args.archive.now c.in-At.member.start c.in-At.member) = (is_at sought c.in-At.is).inside in
     let s = stands in omega (arith, s.name_in, s.body_in, s.end_in)
 
 pub include-slice_bounds-folder_of-end : goal.include-slice_bounds-folder_of-end
 include-slice_bounds-folder_of-end t c =
-    let sought : (Sought c.args.archive.now c.args.folder.now c.args.name.now c.args.depth c.args.totals c.args.words.now c.args.store.now c.find_include-found.result) = record { deep = omega (arith, c.if-depth-eq0.false); room = c.requires.1.0; laid = c.requires.1.1; found = c.find_include-found.ensures } in
+    let sought : (Sought c.args.archive.now c.args.folder.now c.args.name.now c.args.depth c.args.totals c.args.words.now c.args.store.now c.find_include-found.result) = record { deep = omega (arith, c.if-depth-eq0.false); room = c.requires.0; laid = c.requires.1; found = c.find_include-found.ensures } in
     let stands : (Stands c.args.archive.now c.in-At.member.start c.in-At.member) = (is_at sought c.in-At.is).inside in
     let s = stands in omega (arith, s.name_in, s.body_in, s.end_in)
 
 pub include-slice_bounds-parse_database-count : goal.include-slice_bounds-parse_database-count
 include-slice_bounds-parse_database-count t c =
-    let sought : (Sought c.args.archive.now c.args.folder.now c.args.name.now c.args.depth c.args.totals c.args.words.now c.args.store.now c.find_include-found.result) = record { deep = omega (arith, c.if-depth-eq0.false); room = c.requires.1.0; laid = c.requires.1.1; found = c.find_include-found.ensures } in
+    let sought : (Sought c.args.archive.now c.args.folder.now c.args.name.now c.args.depth c.args.totals c.args.words.now c.args.store.now c.find_include-found.result) = record { deep = omega (arith, c.if-depth-eq0.false); room = c.requires.0; laid = c.requires.1; found = c.find_include-found.ensures } in
     let stands : (Stands c.args.archive.now c.in-At.member.start c.in-At.member) = (is_at sought c.in-At.is).inside in
     stands.body_in
 
 pub include-slice_bounds-parse_database-start : goal.include-slice_bounds-parse_database-start
 include-slice_bounds-parse_database-start t c =
-    let sought : (Sought c.args.archive.now c.args.folder.now c.args.name.now c.args.depth c.args.totals c.args.words.now c.args.store.now c.find_include-found.result) = record { deep = omega (arith, c.if-depth-eq0.false); room = c.requires.1.0; laid = c.requires.1.1; found = c.find_include-found.ensures } in
+    let sought : (Sought c.args.archive.now c.args.folder.now c.args.name.now c.args.depth c.args.totals c.args.words.now c.args.store.now c.find_include-found.result) = record { deep = omega (arith, c.if-depth-eq0.false); room = c.requires.0; laid = c.requires.1; found = c.find_include-found.ensures } in
     let stands : (Stands c.args.archive.now c.in-At.member.start c.in-At.member) = (is_at sought c.in-At.is).inside in
     let s = stands in omega (arith, s.body_in, s.end_in)
 
 pub include-slice_bounds-parse_database-end : goal.include-slice_bounds-parse_database-end
 include-slice_bounds-parse_database-end t c =
-    let sought : (Sought c.args.archive.now c.args.folder.now c.args.name.now c.args.depth c.args.totals c.args.words.now c.args.store.now c.find_include-found.result) = record { deep = omega (arith, c.if-depth-eq0.false); room = c.requires.1.0; laid = c.requires.1.1; found = c.find_include-found.ensures } in
+    let sought : (Sought c.args.archive.now c.args.folder.now c.args.name.now c.args.depth c.args.totals c.args.words.now c.args.store.now c.find_include-found.result) = record { deep = omega (arith, c.if-depth-eq0.false); room = c.requires.0; laid = c.requires.1; found = c.find_include-found.ensures } in
     let stands : (Stands c.args.archive.now c.in-At.member.start c.in-At.member) = (is_at sought c.in-At.is).inside in
     let s = stands in omega (arith, s.body_in, s.end_in)
 
 pub parse_database-loop-rest-init : goal.parse_database-loop-rest-init
-parse_database-loop-rest-init t c = reading_first _ _ _ c.requires.1.0
+parse_database-loop-rest-init t c = reading_first _ _ _ c.requires.0
 
 pub parse_database-plain_lines-plain-requires : goal.parse_database-plain_lines-plain-requires
-parse_database-plain_lines-plain-requires t c = (c.requires.1.2, c.loop-rest.invariant.room)
+parse_database-plain_lines-plain-requires t c = (c.requires.2, c.loop-rest.invariant.room)
 
 pub parse_database-slice_bounds-rest-count : goal.parse_database-slice_bounds-rest-count
 parse_database-slice_bounds-rest-count t c = plain_inside c.loop-rest.invariant c.plain_lines-plain.ensures
@@ -237,7 +212,7 @@ parse_database-returns-then-rest-eq0 t c =
     reading_done here (omega (arith, c.if-rest-eq0.true))
 
 pub parse_database-parse_line-line-requires : goal.parse_database-parse_line-line-requires
-parse_database-parse_line-line-requires t c = (c.requires.1.2, omega (arith, c.if-rest-eq0.false))
+parse_database-parse_line-line-requires t c = (c.requires.2, omega (arith, c.if-rest-eq0.false))
 
 pub parse_database-slice_bounds-rest-count-in-Skip : goal.parse_database-slice_bounds-rest-count-in-Skip
 parse_database-slice_bounds-rest-count-in-Skip t c =

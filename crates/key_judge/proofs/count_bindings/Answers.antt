@@ -1,8 +1,8 @@
 -- `key_judge::count_bindings` meets its contract. The invariant: those counted and those left are all. Assumes nothing.
+use Rattle.std.specs.Prelude.{if◌then◌else◌}
 use mathlib.Core.Path.{◌≡◌}
 use native.Mathlib.Omega.{arith}
 use lib.ListN.{get_or}
-use Rattle.definition.specs.Lists.{if◌then◌else◌}
 use Rattle.definition.specs.Bytes.{is_binding}
 use Rattle.key_judge.proofs.Pairs.{bindings_more, bindings_end, bit_most}
 use Rattle.key_judge.proofs.count_bindings.Goals as goal

@@ -1,7 +1,6 @@
 -- `lines::parse_directive` meets its contract. Assumes nothing.
 use mathlib.Core.Path.{◌≡◌, sym, ◌∙◌}
 use native.Mathlib.Omega.{arith}
-use borrow.Author.Rules.{rules}
 use Rattle.lines.specs.Places.{directive_in, line_in}
 use Rattle.lines.proofs.Fronts.{directive_line, name_start}
 use Rattle.lines.proofs.parse_directive.Goals as goal

@@ -1,6 +1,5 @@
 -- `lines::parse_line` meets its contract. Assumes nothing.
 use mathlib.Core.Path.{◌∙◌}
-use borrow.Author.Rules.{rules}
 use Rattle.lines.proofs.Fronts.{newline_line, comment_line, resource_line}
 use Rattle.lines.proofs.parse_line.Goals as goal
 

@@ -1,6 +1,5 @@
 -- `lines::parse_resource` meets its contract. Assumes nothing.
 use borrow.Author.Tests.{not-true, not-false}
-use borrow.Author.Rules.{rules}
 use Rattle.definition.specs.Lists.{ascii}
 use Rattle.scan.proofs.Beginnings.{starts_yes, starts_no}
 use Rattle.lines.proofs.Fronts.{parts_inside, skipped_line, unnamed, no_colon, colon_at, entry_line}
@@ -25,3 +24,6 @@ pub returns : goal.returns
 returns c =
     entry_line _ c.parse_components-parts.result c.parse_components-parts.ensures _ c.skip_spaces-rest.ensures.0 (not-false _ c.if-not-parts.false)
     (starts_yes (ascii ":") _ c.starts_with.result c.starts_with.ensures (not-false _ c.if-not-starts_with.false-raw))
+
+pub slice_bounds-skip_spaces-start : goal.slice_bounds-skip_spaces-start
+slice_bounds-skip_spaces-start c = parts_inside _ c.parse_components-parts.result c.parse_components-parts.ensures

@@ -1,12 +1,11 @@
 -- `list_lines::put_entries` meets its contract. Assumes nothing.
 use mathlib.Core.List.{List, ◌++◌}
 use mathlib.Core.Path.{◌≡◌}
-use Prim.Native.Nat.{ℕ, ◌+◌, ◌-◌, ◌≤◌}
+use Prim.Native.Nat.{ℕ, ◌+◌, ◌-◌}
 use lib.ListN.{take, drop}
 use native.Mathlib.Omega.{arith}
-use borrow.Author.Rules.{rules}
 use Rattle.definition.specs.Image.{count_of}
-use Rattle.printing.proofs.Pieces.{piece_of, Walk, walk_begun, walk_next, walk_room, walk_ended}
+use Rattle.printing.proofs.Pieces.{piece_of, walk_begun, walk_next, walk_room, walk_ended}
 use Rattle.list_lines.specs.Lines.{entry_line}
 use Rattle.list_lines.proofs.Rows.{lines_left, lines_none, lines_next, lines_all, room_left, key_fits}
 use Rattle.list_lines.proofs.put_entries.Goals as goal

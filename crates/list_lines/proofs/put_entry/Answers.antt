@@ -1,7 +1,6 @@
 -- `list_lines::put_entry` meets its contract. Assumes nothing.
 use native.Mathlib.Omega.{arith}
 use Rattle.list_lines.proofs.Lines.{entry_long, entry_put}
-use borrow.Author.Rules.{rules}
 use Rattle.list_lines.proofs.put_entry.Goals as goal
 
 pub put_number-end-requires : goal.put_number-end-requires

@@ -1,7 +1,6 @@
 -- `list_lines::put_word` meets its contract. Assumes nothing.
 use native.Mathlib.Omega.{arith}
 use Rattle.list_lines.proofs.Lines.{word_long, word_put}
-use borrow.Author.Rules.{rules}
 use Rattle.list_lines.proofs.put_word.Goals as goal
 
 pub put-end-requires : goal.put-end-requires

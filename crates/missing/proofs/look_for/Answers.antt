@@ -2,7 +2,6 @@
 use mathlib.Core.Path.{sym}
 use native.Mathlib.Omega.{arith}
 use lib.Seq.{length-take-le}
-use borrow.Author.Rules.{rules}
 use Rattle.missing.proofs.Looked.{looks_nowhere, looks_file, looks_absent}
 use Rattle.missing.proofs.look_for.Goals as goal
 

@@ -1,6 +1,5 @@
 -- `missing::reach` meets its contract. Assumes nothing.
 use mathlib.Core.Path.{refl}
-use borrow.Author.Rules.{rules}
 use borrow.Author.Tests.{le-leb, lt-leb, eq-eqb, ne_eqb}
 use Rattle.missing.specs.Reaching.{reaching}
 use Rattle.missing.proofs.reach.Goals as goal

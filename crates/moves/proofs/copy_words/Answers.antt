@@ -1,9 +1,7 @@
 -- `moves::copy_words` meets its contract. Assumes nothing.
-use mathlib.Core.Path.{◌≡◌, refl, ◌∙◌}
-use Prim.Native.Nat.{◌-◌}
-use lib.ListN.{length, length-set}
-use Rattle.moves.proofs.Moving.{Stored, stored_first, stored_more, stored_all}
-use borrow.Author.Rules.{rules}
+use mathlib.Core.Path.{refl}
+use lib.ListN.{length-set}
+use Rattle.moves.proofs.Moving.{stored_first, stored_more, stored_all}
 use Rattle.moves.proofs.copy_words.Goals as goal
 
 pub loop-i-init : goal.loop-i-init

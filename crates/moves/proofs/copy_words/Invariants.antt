@@ -1,9 +1,8 @@
 -- `moves::copy_words` meets its contract. Assumes nothing.
-use mathlib.Core.Path.{◌≡◌, refl, ◌∙◌}
+use mathlib.Core.Path.{◌≡◌}
 use Prim.Native.Nat.{◌-◌}
-use lib.ListN.{length, length-set}
-use Rattle.moves.proofs.Moving.{Stored, stored_first, stored_more, stored_all}
-use borrow.Author.Rules.{rules}
+use lib.ListN.{length}
+use Rattle.moves.proofs.Moving.{Stored}
 use Rattle.moves.proofs.copy_words.Given as goal
 
 abbrev pub invariant-loop-i : goal.invariant-loop-i

@@ -1,11 +1,9 @@
 -- `moves::move_words` meets its contract. Assumes nothing.
-use mathlib.Core.Path.{◌≡◌, refl, ◌∙◌}
-use Prim.Native.Nat.{◌-◌}
+use mathlib.Core.Path.{refl}
 use native.Mathlib.Omega.{arith}
-use lib.ListN.{length, length-set}
-use lib.Seq.{slice, length-slice}
-use Rattle.moves.proofs.Moving.{Stored, stored_first, stored_more, stored_all, moved_fits, moved_at}
-use borrow.Author.Rules.{rules}
+use lib.ListN.{length-set}
+use lib.Seq.{length-slice}
+use Rattle.moves.proofs.Moving.{stored_first, stored_more, stored_all, moved_fits, moved_at}
 use Rattle.moves.proofs.move_words.Goals as goal
 
 pub loop-i-init : goal.loop-i-init

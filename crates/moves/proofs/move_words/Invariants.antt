@@ -1,11 +1,9 @@
 -- `moves::move_words` meets its contract. Assumes nothing.
-use mathlib.Core.Path.{◌≡◌, refl, ◌∙◌}
+use mathlib.Core.Path.{◌≡◌}
 use Prim.Native.Nat.{◌-◌}
-use native.Mathlib.Omega.{arith}
-use lib.ListN.{length, length-set}
-use lib.Seq.{slice, length-slice}
-use Rattle.moves.proofs.Moving.{Stored, stored_first, stored_more, stored_all, moved_fits, moved_at}
-use borrow.Author.Rules.{rules}
+use lib.ListN.{length}
+use lib.Seq.{slice}
+use Rattle.moves.proofs.Moving.{Stored}
 use Rattle.moves.proofs.move_words.Given as goal
 
 abbrev pub invariant-loop-i : goal.invariant-loop-i

@@ -2,7 +2,6 @@
 use mathlib.Core.Path.{refl}
 use borrow.Author.Tests.{eq-eqb, ne_eqb}
 use Rattle.options.specs.Options.{takes}
-use borrow.Author.Rules.{rules}
 use Rattle.options.proofs.takes.Goals as goal
 
 pub returns-then-what-eq-STATUS : goal.returns-then-what-eq-STATUS

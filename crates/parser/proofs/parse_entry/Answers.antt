@@ -1,7 +1,6 @@
 -- `parser::parse_entry` meets its contract: the limits in order, then the key, the value and the row. Assumes nothing.
 use Prim.Native.Nat.{◌+◌}
 use native.Mathlib.Omega.{arith}
-use borrow.Author.Rules.{rules}
 use Rattle.values.proofs.Values.{Fits, decoded_fits}
 use Rattle.parser.proofs.Entries.{many_parts, many_entries, long_key, Keyed, text_inside, long_value, value_after, ends_inside, passed_inside, done_next, done_last}
 use Rattle.parser.proofs.parse_entry.Goals as goal

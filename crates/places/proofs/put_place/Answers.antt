@@ -27,64 +27,56 @@ returns-then-file_count-origin c =
 
 pub put-requires-2 : goal.put-requires-2
 put-requires-2 c =
-    let begun : tie.Start = (PLACE Start) in
-    let s : tie.Start = begun in
-    let not-zero : begun.args.origin ≡ 0 → ⊥ = λ e. c.if-origin-eq0.false e in
-    let inside : begun.args.origin ≤ length (files_of begun.args.archive.now) = omega (arith, c.if-file_count-origin.false, c.file_count.ensures.0, length_files begun.args.archive.now) in
+    let not-zero : c.args.origin ≡ 0 → ⊥ = λ e. c.if-origin-eq0.false e in
+    let inside : c.args.origin ≤ length (files_of c.args.archive.now) = omega (arith, c.if-file_count-origin.false, c.file_count.ensures.0, length_files c.args.archive.now) in
     omega (
       arith,
-      s.requires.1,
-      ap length (place_name s.args.archive.now s.requires.0 s.args.origin not-zero inside c.member_of-member.result c.member_of-member.ensures),
+      c.requires.1,
+      ap length (place_name c.args.archive.now c.requires.0 c.args.origin not-zero inside c.member_of-member.result c.member_of-member.ensures),
     )
 
 pub returns : goal.returns
 returns c =
-    let begun : tie.Start = (PLACE Start) in
-    let s : tie.Start = begun in
-    let not-zero : begun.args.origin ≡ 0 → ⊥ = λ e. c.if-origin-eq0.false e in
-    let inside : begun.args.origin ≤ length (files_of begun.args.archive.now) = omega (arith, c.if-file_count-origin.false, c.file_count.ensures.0, length_files begun.args.archive.now) in
-    rw (place_name s.args.archive.now s.requires.0 s.args.origin not-zero inside c.member_of-member.result c.member_of-member.ensures)
+    let not-zero : c.args.origin ≡ 0 → ⊥ = λ e. c.if-origin-eq0.false e in
+    let inside : c.args.origin ≤ length (files_of c.args.archive.now) = omega (arith, c.if-file_count-origin.false, c.file_count.ensures.0, length_files c.args.archive.now) in
+    rw (place_name c.args.archive.now c.requires.0 c.args.origin not-zero inside c.member_of-member.result c.member_of-member.ensures)
     c.put-2.ensures
 
 pub member_of-member-requires : goal.member_of-member-requires
 member_of-member-requires c =
-    let begun : tie.Start = (PLACE Start) in
-    let inside : begun.args.origin ≤ length (files_of begun.args.archive.now) = omega (arith, c.if-file_count-origin.false, c.file_count.ensures.0, length_files begun.args.archive.now) in
-    let not-zero : begun.args.origin ≡ 0 → ⊥ = λ e. c.if-origin-eq0.false e in
-    (begun.requires.0, omega (arith, inside, not-zero))
+    let inside : c.args.origin ≤ length (files_of c.args.archive.now) = omega (arith, c.if-file_count-origin.false, c.file_count.ensures.0, length_files c.args.archive.now) in
+    let not-zero : c.args.origin ≡ 0 → ⊥ = λ e. c.if-origin-eq0.false e in
+    (c.requires.0, omega (arith, inside, not-zero))
 
 pub slice_bounds-put-count : goal.slice_bounds-put-count
 slice_bounds-put-count c =
-    let begun : tie.Start = (PLACE Start) in
-    let s : tie.Start = begun in
-    let inside : begun.args.origin ≤ length (files_of begun.args.archive.now) = omega (arith, c.if-file_count-origin.false, c.file_count.ensures.0, length_files begun.args.archive.now) in
-    let not-zero : begun.args.origin ≡ 0 → ⊥ = λ e. c.if-origin-eq0.false e in
-    let stands : (c.member_of-member.result.start ≤ c.member_of-member.result.body) × (c.member_of-member.result.body ≤ length s.args.archive.now) =
-    let i = member_in s.args.archive.now s.pre.0 (s.args.origin - 1) (omega (arith, inside, not-zero)) in
+    let inside : c.args.origin ≤ length (files_of c.args.archive.now) = omega (arith, c.if-file_count-origin.false, c.file_count.ensures.0, length_files c.args.archive.now) in
+    let not-zero : c.args.origin ≡ 0 → ⊥ = λ e. c.if-origin-eq0.false e in
+    let stands : (c.member_of-member.result.start ≤ c.member_of-member.result.body) × (c.member_of-member.result.body ≤ length c.args.archive.now) =
+    let i = member_in c.args.archive.now c.requires.0 (c.args.origin - 1) (omega (arith, inside, not-zero)) in
     omega (arith, i.begins, i.name_in, i.body_in, i.end_in, ap (λ m. m.start) c.member_of-member.ensures, ap (λ m. m.body) c.member_of-member.ensures)
     in
     stands.0
 
 pub slice_bounds-put-start : goal.slice_bounds-put-start
 slice_bounds-put-start c =
-    let begun : tie.Start = (PLACE Start) in
-    let s : tie.Start = begun in
-    let inside : begun.args.origin ≤ length (files_of begun.args.archive.now) = omega (arith, c.if-file_count-origin.false, c.file_count.ensures.0, length_files begun.args.archive.now) in
-    let not-zero : begun.args.origin ≡ 0 → ⊥ = λ e. c.if-origin-eq0.false e in
-    let stands : (c.member_of-member.result.start ≤ c.member_of-member.result.body) × (c.member_of-member.result.body ≤ length s.args.archive.now) =
-    let i = member_in s.args.archive.now s.pre.0 (s.args.origin - 1) (omega (arith, inside, not-zero)) in
+    let inside : c.args.origin ≤ length (files_of c.args.archive.now) = omega (arith, c.if-file_count-origin.false, c.file_count.ensures.0, length_files c.args.archive.now) in
+    let not-zero : c.args.origin ≡ 0 → ⊥ = λ e. c.if-origin-eq0.false e in
+    let stands : (c.member_of-member.result.start ≤ c.member_of-member.result.body) × (c.member_of-member.result.body ≤ length c.args.archive.now) =
+    let i = member_in c.args.archive.now c.requires.0 (c.args.origin - 1) (omega (arith, inside, not-zero)) in
     omega (arith, i.begins, i.name_in, i.body_in, i.end_in, ap (λ m. m.start) c.member_of-member.ensures, ap (λ m. m.body) c.member_of-member.ensures)
     in
     stands.0
 
 pub slice_bounds-put-end-2 : goal.slice_bounds-put-end-2
 slice_bounds-put-end-2 c =
-    let begun : tie.Start = (PLACE Start) in
-    let s : tie.Start = begun in
-    let inside : begun.args.origin ≤ length (files_of begun.args.archive.now) = omega (arith, c.if-file_count-origin.false, c.file_count.ensures.0, length_files begun.args.archive.now) in
-    let not-zero : begun.args.origin ≡ 0 → ⊥ = λ e. c.if-origin-eq0.false e in
-    let stands : (c.member_of-member.result.start ≤ c.member_of-member.result.body) × (c.member_of-member.result.body ≤ length s.args.archive.now) =
-    let i = member_in s.args.archive.now s.pre.0 (s.args.origin - 1) (omega (arith, inside, not-zero)) in
+    let inside : c.args.origin ≤ length (files_of c.args.archive.now) = omega (arith, c.if-file_count-origin.false, c.file_count.ensures.0, length_files c.args.archive.now) in
+    let not-zero : c.args.origin ≡ 0 → ⊥ = λ e. c.if-origin-eq0.false e in
+    let stands : (c.member_of-member.result.start ≤ c.member_of-member.result.body) × (c.member_of-member.result.body ≤ length c.args.archive.now) =
+    let i = member_in c.args.archive.now c.requires.0 (c.args.origin - 1) (omega (arith, inside, not-zero)) in
     omega (arith, i.begins, i.name_in, i.body_in, i.end_in, ap (λ m. m.start) c.member_of-member.ensures, ap (λ m. m.body) c.member_of-member.ensures)
     in
     stands.1
+
+pub file_count-requires : goal.file_count-requires
+file_count-requires c = omega (arith, rows_room c.args.archive.now c.requires.0)

@@ -3,7 +3,6 @@ use mathlib.Core.Path.{◌≡◌, sym, ap, ◌∙◌}
 use Prim.Native.Nat.{◌+◌, ◌≤◌, ◌<◌}
 use native.Mathlib.Omega.{arith}
 use lib.ListN.{length, length-set}
-use borrow.Author.Rules.{rules}
 use Rattle.definition.specs.Bytes.{is_blank}
 use Rattle.plain_values.proofs.Values.{from_on}
 use Rattle.definition.specs.Limits.{most_parts}

@@ -1,7 +1,6 @@
 -- `plain_keys::first_name` meets its contract. Assumes nothing.
 use mathlib.Core.Path.{sym, ◌∙◌}
 use native.Mathlib.Omega.{arith}
-use borrow.Author.Rules.{rules}
 use Rattle.plain_keys.proofs.Ends.{binding_on, ended_rest}
 use Rattle.plain_keys.proofs.Keys.{bound_first, free_first}
 use Rattle.plain_keys.proofs.first_name.Goals as goal

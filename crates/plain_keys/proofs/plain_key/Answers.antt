@@ -3,7 +3,6 @@ use mathlib.Core.Path.{sym, ◌∙◌}
 use Prim.Native.Nat.{◌+◌, ◌-◌, ◌<◌}
 use native.Mathlib.Omega.{arith}
 use lib.ListN.{length}
-use borrow.Author.Rules.{rules}
 use borrow.Author.Tests.{not-true, not-false}
 use Rattle.plain_keys.proofs.Ends.{binding_on, ended_rest}
 use Rattle.plain_keys.proofs.Keys.{first_most, Keying, keying_first, keying_none, keying_over, keying_other, keying_more}

@@ -1,5 +1,4 @@
 -- `plain_lines::passed_over` meets its contract. Assumes nothing.
-use borrow.Author.Rules.{rules}
 use Rattle.plain_lines.proofs.Lining.{over_empty, over_comment, over_other}
 use Rattle.plain_lines.proofs.passed_over.Goals as goal
 

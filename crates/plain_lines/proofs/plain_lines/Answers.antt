@@ -1,22 +1,23 @@
 -- `plain_lines::plain_lines` meets its contract. Assumes nothing.
-use mathlib.Core.Logic.{⊎_elim}
 use mathlib.Core.Path.{◌≡◌, sym, ◌∙◌}
-use Prim.Native.Nat.{◌+◌, ◌-◌, ◌≤◌, ◌<◌}
+use Prim.Native.Nat.{◌+◌, ◌≤◌, ◌<◌}
 use native.Mathlib.Omega.{arith}
 use lib.ListN.{length}
-use borrow.Author.Rules.{rules}
 use borrow.Author.Tests.{not-true, not-false, eqb-true, ltb-true, ltb-false}
 use Rattle.definition.specs.Limits.{most_entries, body_bytes}
 use Rattle.plain_keys.specs.Ended.{Ended}
-use Rattle.plain_lines.specs.Lines.{plain_lines}
-use Rattle.plain_lines.proofs.Lining.{Lining, lining_end, lining_full, rest_ends, rest_room, lining_other, passed_inside, lining_over, next_inside, next_room, lining_next, unread_empty, unread_long, unread_open, lining_first}
+use Rattle.plain_lines.proofs.Lining.{lining_end, lining_full, rest_ends, rest_room, lining_other, passed_inside, lining_over, next_inside, next_room, lining_next, unread_empty, unread_long, unread_open, lining_first}
 use Rattle.plain_lines.proofs.plain_lines.Goals as goal
+use Rattle.plain_lines.proofs.plain_lines.Goals.{then-n-eq0-via-then-n-eq0, then-n-eq0-via-else-n-eq0+then-n-store, then-n-eq0-via-else-n-eq0+else-n-store+then-text-n-ne10}
 
 -- the text is not read so
 pub returns-then-n-eq0 : goal.returns-then-n-eq0
 returns-then-n-eq0 c =
-    ⊎_elim (λ w. unread_empty _ _ _ _ _ _ w.taken)
-    (⊎_elim (λ w. unread_long _ _ _ _ _ _ (ltb-true _ _ w.1.taken)) (λ w. unread_open _ _ _ _ _ _ (not-true _ w.3.taken))) c.then-n-eq0.branch-raw
+    elim c.then-n-eq0.branch [
+      | then-n-eq0-via-then-n-eq0 w ↦ unread_empty _ _ _ _ _ _ w.if-n-eq0.true
+      | then-n-eq0-via-else-n-eq0+then-n-store w ↦ unread_long _ _ _ _ _ _ w.if-n-store.true
+      | then-n-eq0-via-else-n-eq0+else-n-store+then-text-n-ne10 w ↦ unread_open _ _ _ _ _ _ (not-true _ w.if-text-n-ne10.true-raw)
+    ]
 
 pub write_row-requires : goal.write_row-requires
 write_row-requires c =
@@ -98,7 +99,7 @@ overflow_add-taken c =
     let ends : Ended c.args.text.now = record { some = omega (arith, c.if-n-eq0.false); last = eqb-true _ _ (not-false _ c.if-text-n-ne10.false-raw) } in
     let less : c.loop-taken.entries < most_entries = ltb-true _ _ c.if-entries-lt-MOST_ENTRIES.true-raw in
     let over : c.loop-taken.taken + c.passed_over-over.result ≤ length c.args.text.now = passed_inside c.loop-taken.invariant ends c.loop-taken-test.true less c.plain_line-line.ensures.0 c.plain_line-line.ensures.1 c.if-line-eq0.true c.passed_over-over.ensures in
-    omega (arith, over, c.well_formed.1.0.0)
+    omega (arith, over)
 
 pub loop-taken-smaller-then-line-eq0 : goal.loop-taken-smaller-then-line-eq0
 loop-taken-smaller-then-line-eq0 c =
@@ -134,7 +135,7 @@ overflow_add-taken-in-loop-taken c =
     let less : c.loop-taken.entries < most_entries = ltb-true _ _ c.if-entries-lt-MOST_ENTRIES.true-raw in
     let some : 0 < c.plain_line-line.result.taken = omega (arith, c.if-line-eq0.false) in
     let fits : c.loop-taken.taken + c.plain_line-line.result.taken ≤ length c.args.text.now = next_inside c.loop-taken.invariant ends c.loop-taken-test.true less c.plain_line-line.ensures.0 c.plain_line-line.ensures.1 some in
-    omega (arith, fits, c.well_formed.1.0.0)
+    omega (arith, fits)
 
 pub loop-taken-smaller : goal.loop-taken-smaller
 loop-taken-smaller c =

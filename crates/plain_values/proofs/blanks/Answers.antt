@@ -1,10 +1,7 @@
 -- `plain_values::blanks` meets its contract. Assumes nothing.
 use mathlib.Core.Path.{sym, ◌∙◌}
-use Prim.Native.Nat.{◌-◌}
 use native.Mathlib.Omega.{arith}
-use lib.ListN.{length}
-use borrow.Author.Rules.{rules}
-use Rattle.plain_values.proofs.BlankRuns.{Blank, blank_first, blank_more, blank_over}
+use Rattle.plain_values.proofs.BlankRuns.{blank_first, blank_more, blank_over}
 use Rattle.plain_values.proofs.blanks.Goals as goal
 
 pub loop-i-preserved : goal.loop-i-preserved

@@ -2,7 +2,6 @@
 use mathlib.Core.Path.{ap}
 use native.Mathlib.Omega.{arith}
 use lib.ListN.{length}
-use borrow.Author.Rules.{rules}
 use Rattle.values.proofs.Skipping.{blanks_suffix}
 use Rattle.plain_values.proofs.Values.{after_pairs, no_pairs}
 use Rattle.plain_values.proofs.plain_value.Goals as goal

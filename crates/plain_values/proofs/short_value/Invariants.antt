@@ -1,9 +1,6 @@
 -- `plain_values::short_value` meets its contract. Assumes nothing.
-use mathlib.Core.Path.{◌∙◌}
 use Prim.Native.Nat.{◌-◌}
-use native.Mathlib.Omega.{arith}
-use borrow.Author.Rules.{rules}
-use Rattle.plain_values.proofs.Values.{Copying, copying_first, byte_room, copying_more, copying_done, copying_on}
+use Rattle.plain_values.proofs.Values.{Copying}
 use Rattle.plain_values.proofs.short_value.Given as goal
 
 abbrev pub invariant-loop-i : goal.invariant-loop-i

@@ -1,6 +1,5 @@
 -- `plain_values::value_on` meets its contract. Assumes nothing.
 use native.Mathlib.Omega.{arith}
-use borrow.Author.Rules.{rules}
 use Rattle.values.specs.Decoded.{Decoded}
 use Rattle.values.specs.declared.Stored.TheVariants.{Done}
 use Rattle.plain_values.proofs.Values.{from_on, never_full, passed_inside, valued_next, valued_last}

@@ -2,7 +2,6 @@
 use mathlib.Core.Path.{refl}
 use borrow.Author.Tests.{lt-ltb, le-ltb}
 use Rattle.plans.specs.Plans.{given_for}
-use borrow.Author.Rules.{rules}
 use Rattle.plans.proofs.given.Goals as goal
 
 pub returns-then-what-lt12 : goal.returns-then-what-lt12

@@ -1,6 +1,5 @@
 -- `plans::has_operands` meets its contract. Assumes nothing.
 use mathlib.Core.Path.{refl}
-use borrow.Author.Rules.{rules}
 use Rattle.plans.specs.Plans.{has_operands}
 use Rattle.plans.proofs.has_operands.Goals as goal
 

@@ -2,7 +2,6 @@
 use borrow.Author.Tests.{eq-eqb, ne_eqb, not-true, not-false}
 use mathlib.Core.Path.{refl}
 use Rattle.plans.specs.Plans.{is_whole}
-use borrow.Author.Rules.{rules}
 use Rattle.plans.proofs.is_whole.Goals as goal
 
 pub returns-then-not-has_operands : goal.returns-then-not-has_operands

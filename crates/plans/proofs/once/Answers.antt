@@ -2,7 +2,6 @@
 use borrow.Author.Tests.{eq-eqb, ne_eqb}
 use mathlib.Core.Path.{refl}
 use Rattle.plans.specs.Plans.{once}
-use borrow.Author.Rules.{rules}
 use Rattle.plans.proofs.once.Goals as goal
 
 pub returns-then-plan-what-eq0 : goal.returns-then-plan-what-eq0

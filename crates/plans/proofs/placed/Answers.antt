@@ -2,7 +2,6 @@
 use borrow.Author.Tests.{eq-eqb, ne_eqb}
 use mathlib.Core.Path.{refl, ◌∙◌}
 use Rattle.plans.specs.Plans.{in_chain, placed}
-use borrow.Author.Rules.{rules}
 use Rattle.plans.proofs.placed.Goals as goal
 
 pub returns-then-plan-eq0 : goal.returns-then-plan-eq0

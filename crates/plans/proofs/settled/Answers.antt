@@ -1,7 +1,6 @@
 -- `plans::settled` meets its contract. Assumes nothing.
 use mathlib.Core.Path.{refl, ◌∙◌, ap}
 use Rattle.plans.specs.Plans.{uncompared, unasked, settled}
-use borrow.Author.Rules.{rules}
 use Rattle.plans.proofs.settled.Goals as goal
 
 pub returns-then-plan : goal.returns-then-plan

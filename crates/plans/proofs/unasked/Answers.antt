@@ -1,7 +1,6 @@
 -- `plans::unasked` meets its contract. Assumes nothing.
 use mathlib.Core.Path.{refl, ◌∙◌}
 use Rattle.plans.specs.Plans.{unasked}
-use borrow.Author.Rules.{rules}
 use Rattle.plans.proofs.unasked.Goals as goal
 
 pub returns : goal.returns

@@ -1,7 +1,6 @@
 -- `plans::uncompared` meets its contract. Assumes nothing.
 use mathlib.Core.Path.{refl, ◌∙◌}
 use Rattle.plans.specs.Plans.{uncompared}
-use borrow.Author.Rules.{rules}
 use Rattle.plans.proofs.uncompared.Goals as goal
 
 pub returns : goal.returns

@@ -1,7 +1,6 @@
 -- `printing::put_number` meets its contract. Assumes nothing.
 use Rattle.printing.proofs.Pieces.{piece_of}
 use Rattle.printing.proofs.Numbers.{decimal_is}
-use borrow.Author.Rules.{rules}
 use Rattle.printing.proofs.put_number.Goals as goal
 
 pub put-requires : goal.put-requires

@@ -1,9 +1,9 @@
 -- `readings::bool_of` meets its contract. Assumes nothing.
+use Rattle.std.specs.Prelude.{if◌then◌else◌}
 use mathlib.Core.Bool.{Bool, true, false}
 use mathlib.Core.Option.{Option, some, none}
 use mathlib.Core.Path.{◌≡◌, sym, ap, ◌∙◌}
 use borrow.Author.Tests.{not-true, not-false}
-use Rattle.definition.specs.Lists.{if◌then◌else◌}
 use Rattle.definition.specs.Lookup.{given, Place}
 use Rattle.definition.specs.Value.{is_utf8, to_bool, replied, as_string, as_bool}
 use Rattle.booleans.specs.Readings.{boolean_in}

@@ -1,8 +1,8 @@
 -- `readings::string_of` meets its contract. Assumes nothing.
+use Rattle.std.specs.Prelude.{if◌then◌else◌}
 use mathlib.Core.Bool.{Bool, true, false}
 use mathlib.Core.Option.{some, none}
 use mathlib.Core.Path.{◌≡◌, sym, ap, ◌∙◌}
-use Rattle.definition.specs.Lists.{if◌then◌else◌}
 use Rattle.definition.specs.Lookup.{given, Place}
 use Rattle.definition.specs.Value.{is_utf8, replied, as_string}
 use Rattle.lookup.specs.Replies.{replied as looked_up}

@@ -2,7 +2,6 @@
 use mathlib.Core.Path.{sym, ap, ◌∙◌}
 use native.Mathlib.Omega.{arith}
 use lib.ListN.{length}
-use borrow.Author.Rules.{rules}
 use Rattle.printing.proofs.Pieces.{piece_of}
 use Rattle.shown_bytes.proofs.Showing.{byte_itself, byte_octal}
 use Rattle.shown_bytes.proofs.put_byte.Goals as goal

@@ -1,9 +1,7 @@
 -- `shown_bytes::put_shown` meets its contract. The invariant: what the bytes from here on show is still to be put. Assumes nothing.
-use Prim.Native.Nat.{◌+◌, ◌-◌}
-use native.Mathlib.Omega.{arith}
-use lib.ListN.{length, drop, get_or}
-use borrow.Author.Rules.{rules}
-use Rattle.printing.proofs.Pieces.{Walk, walk_begun, walk_next, walk_room, walk_ended}
+use Prim.Native.Nat.{◌+◌}
+use lib.ListN.{drop, get_or}
+use Rattle.printing.proofs.Pieces.{walk_begun, walk_next, walk_room, walk_ended}
 use Rattle.shown_bytes.specs.Shown.{shown_byte, shown}
 use Rattle.shown_bytes.proofs.Showing.{shown_turn, shown_none}
 use Rattle.shown_bytes.proofs.put_shown.Goals as goal

@@ -1,11 +1,8 @@
 -- `shown_bytes::put_shown` meets its contract. The invariant: what the bytes from here on show is still to be put. Assumes nothing.
-use Prim.Native.Nat.{◌+◌, ◌-◌}
-use native.Mathlib.Omega.{arith}
-use lib.ListN.{length, drop, get_or}
-use borrow.Author.Rules.{rules}
-use Rattle.printing.proofs.Pieces.{Walk, walk_begun, walk_next, walk_room, walk_ended}
-use Rattle.shown_bytes.specs.Shown.{shown_byte, shown}
-use Rattle.shown_bytes.proofs.Showing.{shown_turn, shown_none}
+use Prim.Native.Nat.{◌-◌}
+use lib.ListN.{length, drop}
+use Rattle.printing.proofs.Pieces.{Walk}
+use Rattle.shown_bytes.specs.Shown.{shown}
 use Rattle.shown_bytes.proofs.put_shown.Given as goal
 
 abbrev pub invariant-loop-i : goal.invariant-loop-i

@@ -1,6 +1,5 @@
 -- `sources::first_source` meets its contract. Assumes nothing.
 use mathlib.Core.Path.{refl, sym, ◌∙◌}
-use borrow.Author.Rules.{rules}
 use Rattle.sources.specs.Lending.{first_source}
 use Rattle.sources.proofs.first_source.Goals as goal
 

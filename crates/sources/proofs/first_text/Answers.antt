@@ -1,6 +1,5 @@
 -- `sources::first_text` meets its contract. Assumes nothing.
 use mathlib.Core.Path.{refl, sym, ◌∙◌}
-use borrow.Author.Rules.{rules}
 use Rattle.sources.specs.Lending.{lending}
 use Rattle.sources.specs.declared.FirstSource.TheVariants.{Property, Xresources, Xdefaults}
 use Rattle.sources.proofs.Choosing.{first_from}

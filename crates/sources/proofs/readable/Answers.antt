@@ -1,6 +1,5 @@
 -- `sources::readable` meets its contract. Assumes nothing.
 use mathlib.Core.Path.{refl}
-use borrow.Author.Rules.{rules}
 use Rattle.sources.proofs.readable.Goals as goal
 
 pub returns-then-read : goal.returns-then-read

@@ -1,6 +1,5 @@
 -- `sources::second_text` meets its contract. Assumes nothing.
 use mathlib.Core.Path.{sym, ◌∙◌}
-use borrow.Author.Rules.{rules}
 use Rattle.sources.specs.Lending.{lending}
 use Rattle.sources.specs.declared.SecondSource.TheVariants.{Xenvironment, Host}
 use Rattle.sources.proofs.Choosing.{second_from}

@@ -23,10 +23,10 @@ returns-then-c-ne92 c =
     let no-blank : is_blank (get_or c.args.text.now c.loop-i.i 0) ≡ false = sym c.is_blank.ensures ∙ c.if-is_blank.false in
     let b = no-blank in
     elim c.then-c-ne92.branch [
-      then-c-ne92-via-then-c-ne92 w ↦ dropping_other c.loop-i.invariant c.loop-i-test.true b w.if-c-ne92.true
-    | then-c-ne92-via-else-c-ne92+then-text-i-lt2 w ↦ dropping_last c.loop-i.invariant c.loop-i-test.true b w.if-text-i-lt2.true
-    | then-c-ne92-via-else-c-ne92+else-text-i-lt2+then-text-i-ne10 w ↦
-        dropping_kept c.loop-i.invariant c.loop-i-test.true b w.if-text-i-lt2.false w.if-text-i-ne10.true
+      | then-c-ne92-via-then-c-ne92 w ↦ dropping_other c.loop-i.invariant c.loop-i-test.true b w.if-c-ne92.true
+      | then-c-ne92-via-else-c-ne92+then-text-i-lt2 w ↦ dropping_last c.loop-i.invariant c.loop-i-test.true b w.if-text-i-lt2.true
+      | then-c-ne92-via-else-c-ne92+else-text-i-lt2+then-text-i-ne10 w ↦
+          dropping_kept c.loop-i.invariant c.loop-i-test.true b w.if-text-i-lt2.false w.if-text-i-ne10.true
     ]
 
 pub loop-i-preserved : goal.loop-i-preserved

@@ -1,0 +1,6 @@
+-- `replay::replay_files` is safe and ends: what is left of the names falls. Assumes nothing.
+use Rattle.std.proofs.Common.{◌≤◌, length, sym, arith, length-take-le, rules}
+use Rattle.replay.proofs.replay_files.Goals as goal
+
+pub slice_bounds-replay_file-end : goal.slice_bounds-replay_file-end
+slice_bounds-replay_file-end c = sym (length-take-le _ _ (omega arith))

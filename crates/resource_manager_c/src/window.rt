@@ -1,0 +1,69 @@
+// The dictionary window's calls. They take little stack.
+ghost use Rattle.std.specs.Prelude.{◌≡◌};
+ghost use Rattle.definition.specs.Query.{window};
+ghost use Rattle.definition.specs.Lookup.{get_bytes_within};
+ghost use Rattle.definition.specs.Value.{get_string_within, get_bool_within, get_value_within, shown_within};
+ghost use Rattle.codes.specs.Codes.{place_code, bool_code, taking, taken};
+ghost use Rattle.readings.specs.Showing.{shown_at};
+
+#[unsafe(no_mangle)]
+pub extern "C" fn resource_manager_window_get_bytes(
+    contents: &[u16],
+    bodies: &[u8],
+    name: &[u8],
+    class: &[u8],
+) -> u64
+    ensures { result ≡ place_code (get_bytes_within window contents.now bodies.now name.now class.now) }
+{
+    resource_manager::window::resource_manager_window_get_bytes(contents, bodies, name, class)
+}
+
+#[unsafe(no_mangle)]
+pub extern "C" fn resource_manager_window_show<'a>(
+    contents: &[u16],
+    bodies: &'a [u8],
+    name: &[u8],
+    class: &[u8],
+    shown: &mut &'a [u8],
+) -> u64
+    ensures { (result ≡ place_code (get_bytes_within window contents.now bodies.now name.now class.now)) × (shown.new.now ≡ shown_within window contents.now bodies.now name.now class.now shown.old.now) × (shown.new.ref_ptr ≡ shown_at (get_bytes_within window contents.now bodies.now name.now class.now) bodies.entry.ref_ptr shown.old.ref_ptr) }
+{
+    resource_manager::window::resource_manager_window_show(contents, bodies, name, class, shown)
+}
+
+#[unsafe(no_mangle)]
+pub extern "C" fn resource_manager_window_get_string(
+    contents: &[u16],
+    bodies: &[u8],
+    name: &[u8],
+    class: &[u8],
+) -> u64
+    ensures { result ≡ place_code (get_string_within window contents.now bodies.now name.now class.now) }
+{
+    resource_manager::window::resource_manager_window_get_string(contents, bodies, name, class)
+}
+
+#[unsafe(no_mangle)]
+pub extern "C" fn resource_manager_window_get_bool(
+    contents: &[u16],
+    bodies: &[u8],
+    name: &[u8],
+    class: &[u8],
+) -> u64
+    ensures { result ≡ bool_code (get_bool_within window contents.now bodies.now name.now class.now) }
+{
+    resource_manager::window::resource_manager_window_get_bool(contents, bodies, name, class)
+}
+
+#[unsafe(no_mangle)]
+pub extern "C" fn resource_manager_window_get_value(
+    contents: &[u16],
+    bodies: &[u8],
+    name: &[u8],
+    class: &[u8],
+    out: &mut i64,
+) -> u64
+    ensures { taking result out.new ≡ taken (get_value_within window contents.now bodies.now name.now class.now) out.old }
+{
+    resource_manager::window::resource_manager_window_get_value(contents, bodies, name, class, out)
+}
