@@ -1,7 +1,6 @@
 -- `reader::fill` meets its contract. Assumes nothing.
 use mathlib.Core.List.{map}
 use mathlib.Core.Path.{◌∙◌}
-use borrow.Author.Rules.{rules}
 use Rattle.reader.proofs.Finishing.{ready, finished_is}
 use Rattle.reader.proofs.fill.Goals as goal
 

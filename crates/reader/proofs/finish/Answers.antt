@@ -1,5 +1,4 @@
 -- `reader::finish` meets its contract. Assumes nothing.
-use borrow.Author.Rules.{rules}
 use Rattle.reader.proofs.Finishing.{stop_finished, go_finished}
 use Rattle.reader.proofs.finish.Goals as goal
 

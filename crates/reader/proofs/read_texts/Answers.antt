@@ -2,7 +2,6 @@
 use mathlib.Core.List.{map}
 use mathlib.Core.Path.{sym, ◌∙◌}
 use borrow.Author.Tests.{not-true, not-false}
-use borrow.Author.Rules.{rules}
 use Rattle.reader.proofs.Finishing.{short_contents, short_bodies, long_text, not_laid_out, too_deep, Admitted, words_front, bytes_front, fronts}
 use Rattle.reader.proofs.read_texts.Goals as goal
 

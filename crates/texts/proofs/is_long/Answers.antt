@@ -1,9 +1,6 @@
 -- `texts::is_long` meets its contract. Assumes nothing.
 use mathlib.Core.Path.{refl}
-use Prim.Native.Nat.{◌-◌}
-use lib.ListN.{length}
-use borrow.Author.Rules.{rules}
-use Rattle.texts.proofs.Texts.{Passed, long_here, long_later, long_nowhere}
+use Rattle.texts.proofs.Texts.{long_here, long_later, long_nowhere}
 use Rattle.texts.proofs.is_long.Goals as goal
 
 pub loop-i-preserved : goal.loop-i-preserved

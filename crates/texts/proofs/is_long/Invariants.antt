@@ -1,9 +1,7 @@
 -- `texts::is_long` meets its contract. Assumes nothing.
-use mathlib.Core.Path.{refl}
 use Prim.Native.Nat.{◌-◌}
 use lib.ListN.{length}
-use borrow.Author.Rules.{rules}
-use Rattle.texts.proofs.Texts.{Passed, long_here, long_later, long_nowhere}
+use Rattle.texts.proofs.Texts.{Passed}
 use Rattle.texts.proofs.is_long.Given as goal
 
 abbrev pub invariant-loop-i : goal.invariant-loop-i

@@ -1,9 +1,6 @@
 -- `texts::parse_texts` meets its contract. Assumes nothing.
 use mathlib.Core.Path.{◌∙◌}
-use Prim.Native.Nat.{◌-◌}
-use lib.ListN.{length}
-use borrow.Author.Rules.{rules}
-use Rattle.texts.proofs.Texts.{Reading, reading_first, reading_done, reading_text, text_stops}
+use Rattle.texts.proofs.Texts.{reading_first, reading_done, reading_text, text_stops}
 use Rattle.texts.proofs.parse_texts.Goals as goal
 
 pub loop-i-init : goal.loop-i-init

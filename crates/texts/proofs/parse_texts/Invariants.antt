@@ -1,9 +1,7 @@
 -- `texts::parse_texts` meets its contract. Assumes nothing.
-use mathlib.Core.Path.{◌∙◌}
 use Prim.Native.Nat.{◌-◌}
 use lib.ListN.{length}
-use borrow.Author.Rules.{rules}
-use Rattle.texts.proofs.Texts.{Reading, reading_first, reading_done, reading_text, text_stops}
+use Rattle.texts.proofs.Texts.{Reading}
 use Rattle.texts.proofs.parse_texts.Given as goal
 
 abbrev pub invariant-loop-i : goal.invariant-loop-i
