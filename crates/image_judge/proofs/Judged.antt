@@ -82,7 +82,7 @@ pub old_packed : (contents bodies : List ℕ) → is_image_by old_row_words cont
 old_packed contents bodies =
     by_packed old_row_words contents bodies
     ∙ ap (λ (o : Bool). is_packed_by old_row_words contents bodies && o) (old_origins (count_of contents) (drop 2 contents))
-    ∙ mathlib.Core.Bool.and_true (is_packed_by old_row_words contents bodies)
+    ∙ mathlib.Core.Bool.and-true (is_packed_by old_row_words contents bodies)
 
 pub not_packed : (contents bodies : List ℕ) → is_packed_by row_words contents bodies ≡ false → is_image contents bodies ≡ false
 not_packed contents bodies e = by_packed row_words contents bodies ∙ rw e refl

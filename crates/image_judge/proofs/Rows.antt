@@ -46,7 +46,7 @@ module _ (at : ℕ) (r : Row) (rows : List Row) (used : ℕ) (bodies : List ℕ)
 
 holds_done : (at used : ℕ) (bodies : List ℕ) → holds at [] used bodies ≡ eqb at used
 unfolding holds packed all
-holds_done at used bodies = mathlib.Core.Bool.and_true (eqb at used)
+holds_done at used bodies = mathlib.Core.Bool.and-true (eqb at used)
 
 -- ---- A turn of the loop
 

@@ -1,5 +1,5 @@
 -- The line of an include that finds no file.
-use Rattle.std.specs.Prelude.{List, ◌++◌, ◌≡◌, ℕ, ◌+◌, ◌*◌, ◌≤◌, length}
+use Rattle.std.specs.Prelude.{List, ◌++◌, ℕ, ◌+◌, ◌*◌, ◌≤◌, length}
 use Rattle.definition.specs.Lists.{ascii}
 use Rattle.definition.specs.Limits.{archive_bytes}
 use Rattle.io.specs.Counts.{IsPrefixLen}

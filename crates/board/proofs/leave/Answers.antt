@@ -25,7 +25,11 @@ bounds-words-0 c =
     omega (arith, (laid board b.0).words_long)
 
 pub overflow_cast-count : goal.overflow_cast-count
-overflow_cast-count c = omega (arith, c.type_inv.words 0)
+overflow_cast-count c =
+    let call : Call = leave c.args.number in
+    let board : Lent = lent c.args.words.now c.args.bytes.now in
+    let b = call_board call board _ (sym (ap replied c.in-Done.is) ∙ c.leave_reply-reply.ensures) in
+    omega (arith, (laid board b.0).packs_most)
 
 pub slots_before-i-requires : goal.slots_before-i-requires
 slots_before-i-requires c =

@@ -6,7 +6,6 @@ use borrow.Author.Tests.{not-true, not-false}
 use Rattle.definition.specs.Limits.{row_words}
 use Rattle.image_judge.specs.Rows.{is_packed_by}
 use Rattle.image_judge.proofs.Judged.{rows_room, packed_long, not_packed, packed_origins}
-use borrow.Author.Rules.{rules}
 use Rattle.image_judge.proofs.is_image.Goals as goal
 
 pub bounds-contents-0 : goal.bounds-contents-0

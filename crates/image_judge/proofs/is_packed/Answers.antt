@@ -2,7 +2,6 @@
 use mathlib.Core.Path.{sym, ◌∙◌}
 use native.Mathlib.Omega.{arith}
 use Rattle.image_judge.proofs.Judged.{contents_short, bodies_short, too_many, too_much, by_rows, rows_room}
-use borrow.Author.Rules.{rules}
 use Rattle.image_judge.proofs.is_packed.Goals as goal
 
 pub rows_hold-requires : goal.rows_hold-requires

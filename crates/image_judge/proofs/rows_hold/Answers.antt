@@ -1,10 +1,9 @@
 -- `image_judge::rows_hold` meets its contract. The invariant: the rows hold if those from row i on do, packed from `at`. Assumes nothing.
 use mathlib.Core.Path.{◌≡◌, sym, ◌∙◌}
-use Prim.Native.Nat.{◌+◌, ◌-◌, ◌^◌, ◌<◌}
+use Prim.Native.Nat.{◌+◌, ◌^◌, ◌<◌}
 use native.Mathlib.Omega.{arith}
 use borrow.Author.Tests.{not-true, not-false}
-use Rattle.image_judge.proofs.Rows.{row_room, Judging, judging_first, judging_done, RowHere, judging_apart, judging_past, judging_no_key, judging_next}
-use borrow.Author.Rules.{rules}
+use Rattle.image_judge.proofs.Rows.{row_room, judging_first, judging_done, RowHere, judging_apart, judging_past, judging_no_key, judging_next}
 use Rattle.image_judge.proofs.rows_hold.Goals as goal
 
 pub row_by-row-requires : goal.row_by-row-requires

@@ -1,7 +1,6 @@
 -- `lookup::consider` meets its contract. Assumes nothing.
 use mathlib.Core.List.{[], ◌∷◌}
 use mathlib.Core.Path.{sym, ◌∙◌}
-use borrow.Author.Rules.{rules}
 use Rattle.lookup.proofs.Looking.{takes, keeps}
 use Rattle.lookup.proofs.consider.Goals as goal
 

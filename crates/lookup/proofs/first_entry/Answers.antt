@@ -1,8 +1,7 @@
 -- `lookup::first_entry` meets its contract: 8, what the shape of name and class decides, and the search. Assumes nothing.
 use mathlib.Core.Bool.{true}
-use mathlib.Core.Path.{◌≡◌, refl, sym, ◌∙◌}
+use mathlib.Core.Path.{◌≡◌, sym, ◌∙◌}
 use native.Mathlib.Omega.{arith}
-use borrow.Author.Rules.{rules}
 use borrow.Author.Tests.{lt-ltb, le-ltb, not-true, not-false}
 use Rattle.definition.specs.Image.{is_image}
 use Rattle.definition.specs.Query.{shell}

@@ -1,7 +1,6 @@
 -- `lookup::match_entry` meets its contract. Assumes nothing.
 use mathlib.Core.Path.{sym}
 use lib.Seq.{length-take-le}
-use borrow.Author.Rules.{rules}
 use Rattle.definition.specs.Lists.{zeroes}
 use Rattle.marks.specs.Rows.{best_in}
 use Rattle.lookup.proofs.Looking.{begun_none}

@@ -1,18 +1,16 @@
 -- `lookup::search` meets its contract: going on from entry i with the best so far comes to what is looked for. Assumes nothing.
 use mathlib.Core.Bool.{true}
-use mathlib.Core.Logic.{⊎_elim}
 use mathlib.Core.Path.{◌≡◌, sym, ◌∙◌}
-use Prim.Native.Nat.{◌+◌, ◌-◌, ◌<◌, max}
+use Prim.Native.Nat.{◌+◌, ◌-◌, ◌<◌}
 use native.Mathlib.Omega.{arith}
-use lib.ListN.{length, take, drop}
-use borrow.Author.Rules.{rules}
+use lib.ListN.{take, drop}
 use Rattle.definition.specs.Image.{count_of, is_key}
-use Rattle.positions.specs.Parts.{queried}
 use Rattle.key_end.proofs.Ends.{refused}
 use Rattle.image_judge.proofs.Judged.{judged}
 use Rattle.image_judge.proofs.Parts.{rows_inside, key_part_lem, key_within, key_is}
-use Rattle.lookup.proofs.Looking.{queried_long, Searching, searching_first, searching_ends, passes, loses, goes_on, stops, key_short}
+use Rattle.lookup.proofs.Looking.{queried_long, searching_first, searching_ends, passes, loses, goes_on, stops, key_short}
 use Rattle.lookup.proofs.search.Goals as goal
+use Rattle.lookup.proofs.search.Goals.{then-may_match+then-consider+else-first, then-may_match+else-consider, else-may_match}
 
 pub loop-i-init : goal.loop-i-init
 loop-i-init c = searching_first _ _ _ _ _ _ _ _ c.requires.4
@@ -51,16 +49,16 @@ loop-i-preserved c =
     let key_in : is_key (take (c.row_at-row.result.start + c.row_at-row.result.key - c.row_at-row.result.start) (drop c.row_at-row.result.start c.args.bodies.now)) ≡ true = key_is c.args.contents.now c.args.bodies.now c.loop-i.i c.row_at-row.result c.row_at-row.ensures c.requires.0 below in
     let k = key_part_lem c.args.contents.now c.args.bodies.now c.loop-i.i c.row_at-row.result c.row_at-row.ensures in
     let long = queried_long _ c.args.name.now c.args.starts.now c.args.lengths.now c.args.class.now c.args.class_starts.now c.args.class_lengths.now in
-    ⊎_elim
-    (λ w. rw (w.5, w.6) (
-    goes_on _ _ _ _ _ _ _ _ _ _ _ c.loop-i.invariant c.loop-i-test.true long _ (rw k at w.2.ensures.0) _ (rw k at w.2.ensures.1) w.3.taken w.4.left))
-    (⊎_elim
-    (λ w. rw (w.4, w.5) (loses _ _ _ _ _ _ _ _ _ _ _ c.loop-i.invariant c.loop-i-test.true long _ (rw k at w.2.ensures.0) _ (rw k at w.2.ensures.1) w.3.left))
-    (λ w. rw (w.1, w.2) (
-    passes _ _ _ _ _ _ _ _ _ _ _ c.loop-i.invariant c.loop-i-test.true
-    (rw k at (refused _ key_in _ _ (sym c.may_match.ensures ∙ w.0.left) c.args.name.now _ _ c.args.class.now _ _ c.requires.1 c.requires.2
-    (rw c.longer-len.ensures at c.last_part-n.ensures) (rw c.longer-len.ensures at c.last_part-c.ensures))))))
-    c.if-may_match.branch-raw
+    elim c.if-may_match.branch [
+      | then-may_match+then-consider+else-first w ↦ rw (w.held-is, w.found-is) (
+          goes_on _ _ _ _ _ _ _ _ _ _ _ c.loop-i.invariant c.loop-i-test.true long _ (rw k at w.consider.ensures.0) _ (rw k at w.consider.ensures.1) w.if-consider.true w.if-first.false)
+      | then-may_match+else-consider w ↦ rw (w.held-is, w.found-is) (
+          loses _ _ _ _ _ _ _ _ _ _ _ c.loop-i.invariant c.loop-i-test.true long _ (rw k at w.consider.ensures.0) _ (rw k at w.consider.ensures.1) w.if-consider.false)
+      | else-may_match w ↦ rw (w.held-is, w.found-is) (
+          passes _ _ _ _ _ _ _ _ _ _ _ c.loop-i.invariant c.loop-i-test.true
+          (rw k at (refused _ key_in _ _ (sym c.may_match.ensures ∙ w.if-may_match.false) c.args.name.now _ _ c.args.class.now _ _ c.requires.1 c.requires.2
+          (rw c.longer-len.ensures at c.last_part-n.ensures) (rw c.longer-len.ensures at c.last_part-c.ensures))))
+    ]
 
 pub returns : goal.returns
 returns c = searching_ends _ _ _ _ _ _ _ _ _ _ _ c.loop-i.invariant c.loop-i-test.false

@@ -1,7 +1,6 @@
 -- `lookup::value_of` meets its contract. Assumes nothing.
 use mathlib.Core.List.{[]}
 use mathlib.Core.Path.{refl}
-use borrow.Author.Rules.{rules}
 use borrow.Author.Tests.{lt-ltb, le-ltb}
 use Rattle.lookup.specs.Searches.{entry_found, value_in}
 use Rattle.lookup.proofs.Looking.{found_is}

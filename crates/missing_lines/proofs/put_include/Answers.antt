@@ -1,6 +1,5 @@
 -- `missing_lines::put_include` meets its contract. Assumes nothing.
 use native.Mathlib.Omega.{arith}
-use borrow.Author.Rules.{rules}
 use Rattle.printing.proofs.Pieces.{piece_long}
 use Rattle.shown_bytes.proofs.Showing.{shown_most}
 use Rattle.missing_lines.proofs.Putting.{include_put}

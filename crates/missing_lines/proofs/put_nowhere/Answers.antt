@@ -1,6 +1,5 @@
 -- `missing_lines::put_nowhere` meets its contract. Assumes nothing.
 use native.Mathlib.Omega.{arith}
-use borrow.Author.Rules.{rules}
 use Rattle.printing.proofs.Pieces.{piece_long}
 use Rattle.missing_lines.proofs.Putting.{include_most, nowhere_put}
 use Rattle.missing_lines.proofs.put_nowhere.Goals as goal

@@ -1,7 +1,6 @@
 -- `refusals::put_reason` meets its contract. Assumes nothing.
 use borrow.Author.Tests.{ne_eqb}
 use Rattle.refusals.specs.Refusals.{refusal_of}
-use borrow.Author.Rules.{rules}
 use Rattle.refusals.proofs.put_reason.Goals as goal
 
 pub returns-in-1 : goal.returns-in-1

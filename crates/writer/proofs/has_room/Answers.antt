@@ -3,7 +3,6 @@ use mathlib.Core.Path.{ap}
 use Prim.Native.Nat.{ℕ}
 use native.Mathlib.Omega.{arith}
 use lib.Dec.{leb}
-use borrow.Author.Rules.{rules}
 use Rattle.image_judge.proofs.Judged.{Judged, judged}
 use Rattle.writer.proofs.Texts.{surely_room}
 use Rattle.writer.proofs.has_room.Goals as goal

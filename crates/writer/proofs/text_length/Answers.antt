@@ -1,16 +1,14 @@
 -- `writer::text_length` meets its contract. The invariant is `Measuring`. Assumes nothing.
 use mathlib.Core.Path.{sym, ap, ◌∙◌}
-use Prim.Native.Nat.{◌+◌, ◌-◌, ◌≤◌}
+use Prim.Native.Nat.{◌+◌, ◌≤◌}
 use native.Mathlib.Omega.{arith}
 use lib.ListN.{length}
 use lib.Seq.{length-take-le}
-use borrow.Author.Rules.{rules}
-use Rattle.definition.specs.Image.{count_of}
 use Rattle.laws.proofs.Writing.{image_text_long}
 use Rattle.blocks.proofs.Blocks.{bit_of}
 use Rattle.image_judge.proofs.Judged.{Judged, judged}
 use Rattle.image_judge.proofs.Parts.{row_within}
-use Rattle.writer.proofs.Texts.{Measuring, measuring_first, measuring_next, measured}
+use Rattle.writer.proofs.Texts.{measuring_first, measuring_next, measured}
 use Rattle.writer.proofs.text_length.Goals as goal
 
 pub slice_bounds-escapes_in-end : goal.slice_bounds-escapes_in-end
@@ -23,7 +21,7 @@ pub loop-i-init : goal.loop-i-init
 loop-i-init c = measuring_first _ _ _ c.requires c.escapes_in.ensures
 
 pub overflow_add-size-2 : goal.overflow_add-size-2
-overflow_add-size-2 c = omega (arith, (loop-holds (PLACE After-escapes_in)).same, image_text_long _ _ c.requires)
+overflow_add-size-2 c = omega (arith, (measuring_first _ _ _ c.requires c.escapes_in.ensures).same, image_text_long _ _ c.requires)
 
 pub loop-i-preserved : goal.loop-i-preserved
 loop-i-preserved c =
@@ -31,7 +29,7 @@ loop-i-preserved c =
     (c.bit.ensures ∙ ap bit_of c.begins_blank.ensures)
 
 pub overflow_add-size-in-loop-i : goal.overflow_add-size-in-loop-i
-overflow_add-size-in-loop-i c = omega (arith, (loop-again (PLACE After-bit)).same, image_text_long _ _ c.requires)
+overflow_add-size-in-loop-i c = omega (arith, (measuring_next c.loop-i.invariant c.requires c.loop-i-test.true c.row_at-row.result c.row_at-row.ensures _ (c.bit.ensures ∙ ap bit_of c.begins_blank.ensures)).same, image_text_long _ _ c.requires)
 
 pub bounds-contents-0 : goal.bounds-contents-0
 bounds-contents-0 c =
@@ -68,7 +66,7 @@ slice_bounds-begins_blank-end c =
     omega (arith, within)
 
 pub overflow_add-i : goal.overflow_add-i
-overflow_add-i c = omega (arith, (loop-again (PLACE After-bit)).passed, (judged _ _ c.requires).count_most)
+overflow_add-i c = omega (arith, (measuring_next c.loop-i.invariant c.requires c.loop-i-test.true c.row_at-row.result c.row_at-row.ensures _ (c.bit.ensures ∙ ap bit_of c.begins_blank.ensures)).passed, (judged _ _ c.requires).count_most)
 
 pub returns : goal.returns
 returns c = measured c.loop-i.invariant c.loop-i-test.false

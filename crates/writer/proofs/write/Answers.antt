@@ -2,7 +2,6 @@
 use mathlib.Core.Bool.{true}
 use mathlib.Core.Path.{◌≡◌, sym, ◌∙◌}
 use borrow.Author.Tests.{not-true, not-false, leb-true}
-use borrow.Author.Rules.{rules}
 use Rattle.definition.specs.Image.{is_image}
 use Rattle.copies.proofs.Pieces.{piece_long}
 use Rattle.writer.proofs.Texts.{no_image, no_room, text_put}

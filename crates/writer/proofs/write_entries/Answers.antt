@@ -1,12 +1,10 @@
 -- `writer::write_entries` meets its contract. The invariant is `Writing`. Assumes nothing.
-use Prim.Native.Nat.{◌+◌, ◌-◌, ◌≤◌}
+use Prim.Native.Nat.{◌+◌, ◌≤◌}
 use native.Mathlib.Omega.{arith}
 use lib.ListN.{length}
-use borrow.Author.Rules.{rules}
-use Rattle.definition.specs.Image.{count_of}
 use Rattle.image_judge.proofs.Judged.{judged}
 use Rattle.image_judge.proofs.Parts.{row_within}
-use Rattle.writer.proofs.Texts.{Writing, writing_first, line_room, line_written, all_written}
+use Rattle.writer.proofs.Texts.{writing_first, line_room, line_written, all_written}
 use Rattle.writer.proofs.write_entries.Goals as goal
 
 pub write_entry-size-requires : goal.write_entry-size-requires
@@ -38,7 +36,7 @@ slice_bounds-write_entry-end-in-loop-i c =
     omega (arith, within)
 
 pub overflow_add-i : goal.overflow_add-i
-overflow_add-i c = omega (arith, (loop-again (PLACE After-slice_known2)).passed, (judged _ _ c.requires.0).count_most)
+overflow_add-i c = omega (arith, (line_written c.loop-i.invariant c.requires.0 c.loop-i-test.true c.row_at-row.result c.row_at-row.ensures c.write_entry-size.ensures).passed, (judged _ _ c.requires.0).count_most)
 
 pub shape_of-text : goal.shape_of-text
 shape_of-text c = c.loop-i.invariant.walk.same_length

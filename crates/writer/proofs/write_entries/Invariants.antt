@@ -1,12 +1,7 @@
 -- `writer::write_entries` meets its contract. The invariant is `Writing`. Assumes nothing.
-use Prim.Native.Nat.{◌+◌, ◌-◌, ◌≤◌}
-use native.Mathlib.Omega.{arith}
-use lib.ListN.{length}
-use borrow.Author.Rules.{rules}
+use Prim.Native.Nat.{◌-◌}
 use Rattle.definition.specs.Image.{count_of}
-use Rattle.image_judge.proofs.Judged.{judged}
-use Rattle.image_judge.proofs.Parts.{row_within}
-use Rattle.writer.proofs.Texts.{Writing, writing_first, line_room, line_written, all_written}
+use Rattle.writer.proofs.Texts.{Writing}
 use Rattle.writer.proofs.write_entries.Given as goal
 
 abbrev pub invariant-loop-i : goal.invariant-loop-i
