@@ -1,5 +1,4 @@
 -- `shared_keys::next_shared` meets its contract: the entry's key, and then the loop. Assumes nothing.
-use borrow.Author.Rules.{rules}
 use mathlib.Core.Path.{◌∙◌}
 use native.Mathlib.Omega.{arith}
 use Rattle.image_judge.proofs.Parts.{rows_inside, key_part_lem, key_within, key_is}

@@ -4,12 +4,11 @@ use mathlib.Core.Path.{◌≡◌}
 use Prim.Native.Nat.{◌+◌, ◌-◌, ◌<◌}
 use native.Mathlib.Omega.{arith}
 use lib.ListN.{take, drop}
-use borrow.Author.Rules.{rules}
 use Rattle.definition.specs.Image.{count_of, key_parts, is_key}
 use Rattle.laws.proofs.Lists.{not_both}
 use Rattle.image_judge.proofs.Judged.{judged}
 use Rattle.image_judge.proofs.Parts.{rows_inside, key_part_lem, key_within, key_is}
-use Rattle.shared_keys.proofs.Sharing.{bytes_key, other_key, Looking, looking_first, looks_here, looking_more, looks_end}
+use Rattle.shared_keys.proofs.Sharing.{bytes_key, other_key, looking_first, looks_here, looking_more, looks_end}
 use Rattle.shared_keys.proofs.next_with.Goals as goal
 
 pub slice_bounds-other-end : goal.slice_bounds-other-end
@@ -54,4 +53,4 @@ pub overflow_add-end : goal.overflow_add-end
 overflow_add-end c = omega (arith, c.row_at-row.ensures.small)
 
 pub overflow_add-j : goal.overflow_add-j
-overflow_add-j c = omega (arith, below (PLACE In-loop), (judged c.args.contents.now c.args.bodies.now c.requires.0).count_most)
+overflow_add-j c = omega (arith, c.loop-j-test.true, (judged c.args.contents.now c.args.bodies.now c.requires.0).count_most)

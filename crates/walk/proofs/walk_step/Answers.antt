@@ -1,6 +1,5 @@
 -- `walk::walk_step` meets its contract: it is a search for the first entry that aligns. Assumes nothing.
 use mathlib.Core.Path.{sym, ap, ◌∙◌}
-use borrow.Author.Rules.{rules}
 use Rattle.lookup.specs.Replies.{entry_replied}
 use Rattle.walk.proofs.Walking.{steps}
 use Rattle.walk.proofs.walk_step.Goals as goal
