@@ -1,7 +1,6 @@
 -- `adding::add` meets its contract: 8, 2, 12, and then the only entry. Assumes nothing.
 use mathlib.Core.Path.{sym, ◌∙◌}
 use borrow.Author.Tests.{not-true, not-false}
-use borrow.Author.Rules.{rules}
 use Rattle.laws.proofs.Lists.{part_rest}
 use Rattle.adding.proofs.Appending.{no_image, long_text, not_one, one_added}
 use Rattle.adding.proofs.add.Goals as goal

@@ -1,6 +1,5 @@
 -- `adding::add_entry` meets its contract: 5, 6, 7, and then the entry behind those of the image. Assumes nothing.
 use native.Mathlib.Omega.{arith}
-use borrow.Author.Rules.{rules}
 use Rattle.laws.proofs.Image.{image_holds}
 use Rattle.adding.proofs.Appending.{entry_refused, entry_fits, entry_added}
 use Rattle.adding.proofs.add_entry.Goals as goal

@@ -2,7 +2,6 @@
 use mathlib.Core.Path.{refl}
 use native.Mathlib.Omega.{arith}
 use lib.ListN.{length-set}
-use borrow.Author.Rules.{rules}
 use Rattle.adding.proofs.Appending.{appended_is}
 use Rattle.adding.proofs.append.Goals as goal
 

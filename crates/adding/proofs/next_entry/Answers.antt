@@ -1,18 +1,15 @@
 -- `adding::next_entry` meets its contract. The invariant: the entries from `from` on are those from here on. Assumes nothing.
 use mathlib.Core.Path.{sym, ◌∙◌}
-use Prim.Native.Nat.{◌-◌}
 use native.Mathlib.Omega.{arith}
-use lib.ListN.{length}
-use borrow.Author.Rules.{rules}
 use Rattle.include_lines.proofs.Passing.{some_part}
-use Rattle.adding.proofs.Lines.{Seeking, seeking_first, seeking_done, skip_inside, skip_less, seeking_skip, include_inside, include_less, seeking_include, value_in, stands, entry_inside, seeking_found}
+use Rattle.adding.proofs.Lines.{seeking_first, seeking_done, skip_inside, skip_less, seeking_skip, include_inside, include_less, seeking_include, value_in, stands, entry_inside, seeking_found}
 use Rattle.adding.proofs.next_entry.Goals as goal
 
 pub parse_line-line-requires : goal.parse_line-line-requires
 parse_line-line-requires c = (c.requires, some_part c.args.text.now _ c.loop-at-test.true)
 
 pub overflow_add-at : goal.overflow_add-at
-overflow_add-at c = omega (arith, skip_inside c.loop-at.invariant c.loop-at-test.true (sym c.in-Skip.is ∙ c.parse_line-line.ensures), c.well_formed.1.0.0)
+overflow_add-at c = omega (arith, skip_inside c.loop-at.invariant c.loop-at-test.true (sym c.in-Skip.is ∙ c.parse_line-line.ensures))
 
 pub loop-at-smaller-in-Skip : goal.loop-at-smaller-in-Skip
 loop-at-smaller-in-Skip c =
@@ -23,7 +20,7 @@ pub loop-at-preserved-in-Skip : goal.loop-at-preserved-in-Skip
 loop-at-preserved-in-Skip c = seeking_skip c.loop-at.invariant c.loop-at-test.true (sym c.in-Skip.is ∙ c.parse_line-line.ensures)
 
 pub overflow_add-at-in-Include : goal.overflow_add-at-in-Include
-overflow_add-at-in-Include c = omega (arith, include_inside c.loop-at.invariant c.loop-at-test.true (sym c.in-Include.is ∙ c.parse_line-line.ensures), c.well_formed.1.0.0)
+overflow_add-at-in-Include c = omega (arith, include_inside c.loop-at.invariant c.loop-at-test.true (sym c.in-Include.is ∙ c.parse_line-line.ensures))
 
 pub loop-at-smaller : goal.loop-at-smaller
 loop-at-smaller c =
@@ -39,7 +36,7 @@ line_after-n-requires c = (c.requires, value_in c.loop-at.invariant c.loop-at-te
 pub overflow_add-result : goal.overflow_add-result
 overflow_add-result c =
     let e = sym c.in-Entry.is ∙ c.parse_line-line.ensures in
-    omega (arith, entry_inside c.loop-at.invariant c.loop-at-test.true e c.line_after-n.ensures, c.well_formed.1.0.0)
+    omega (arith, entry_inside c.loop-at.invariant c.loop-at-test.true e c.line_after-n.ensures)
 
 pub returns-in-Entry : goal.returns-in-Entry
 returns-in-Entry c =

@@ -1,5 +1,4 @@
 -- `adding::only_entry` meets its contract: there is a first entry, and no second one. Assumes nothing.
-use borrow.Author.Rules.{rules}
 use Rattle.adding.proofs.Lines.{none_only, one_only, many_only}
 use Rattle.adding.proofs.only_entry.Goals as goal
 

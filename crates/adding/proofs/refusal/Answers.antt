@@ -1,6 +1,5 @@
 -- `adding::refusal` meets its contract. Assumes nothing.
 use native.Mathlib.Omega.{arith}
-use borrow.Author.Rules.{rules}
 use Rattle.adding.proofs.Appending.{many_parts, many_entries, many_bytes, none_past}
 use Rattle.adding.proofs.refusal.Goals as goal
 

@@ -1,12 +1,7 @@
 -- `adding::value_size` meets its contract. The invariant: the bytes so far and those that the text from here on gives. Assumes nothing.
-use mathlib.Core.List.{List, [], ◌∷◌}
-use Prim.Native.Nat.{ℕ, ◌-◌, ◌≤◌}
-use native.Mathlib.Omega.{arith}
-use lib.ListN.{length, drop}
-use borrow.Author.Rules.{rules}
-use Rattle.values.proofs.Pieces.{Yields, IsPiece, answer_piece}
-use Rattle.values.proofs.Decoding.{escaped}
-use Rattle.adding.proofs.Sizes.{Measuring, measuring_first, measured_all, measured_line, piece_inside, measuring_byte, measuring_none, measuring_plain}
+use Prim.Native.Nat.{◌-◌}
+use lib.ListN.{length}
+use Rattle.adding.proofs.Sizes.{Measuring}
 use Rattle.adding.proofs.value_size.Given as goal
 
 abbrev pub invariant-loop-i : goal.invariant-loop-i
