@@ -13,14 +13,15 @@ minus_is : (z : ℤ) → le_z (pos 0) z ≡ false → negsuc 0 -ℤ z ≡ pos (m
 minus_is (pos n) e = absurd (omega (arith, leb-false 0 n e))
 minus_is (negsuc n) e = rw (lt-leb (suc (suc n)) 1 (omega arith)) (ap pos (omega arith))
 
-test-is : (b : Bool) → le_z (pos 0) (to_z w64 (of_z w64 z)) ≡ b → le_z (pos 0) z ≡ b
-test-is b e = ap (le_z (pos 0)) (sym (to_z-of_z f)) ∙ e
+module _ (z : ℤ) (f : SFits w64 z) where
+  test-is : (b : Bool) → le_z (pos 0) (to_z w64 (of_z w64 z)) ≡ b → le_z (pos 0) z ≡ b
+  test-is b e = ap (le_z (pos 0)) (sym (to_z-of_z f)) ∙ e
 
-minus_fits : le_z (pos 0) (to_z w64 (of_z w64 z)) ≡ false → SFits w64 (negsuc 0 -ℤ to_z w64 (of_z w64 z))
-minus_fits e = rw (to_z-of_z f, minus_is z (test-is false e)) (record { sfits = f.sfits })
+  minus_fits : le_z (pos 0) (to_z w64 (of_z w64 z)) ≡ false → SFits w64 (negsuc 0 -ℤ to_z w64 (of_z w64 z))
+  minus_fits e = rw (to_z-of_z f, minus_is z (test-is false e)) (record { sfits = f.sfits })
 
-minus-back : le_z (pos 0) (to_z w64 (of_z w64 z)) ≡ false → to_z w64 (of_z w64 (negsuc 0 -ℤ to_z w64 (of_z w64 z))) ≡ pos (mag z)
-minus-back e = to_z-of_z (minus_fits e) ∙ ap (λ x. negsuc 0 -ℤ x) (to_z-of_z f) ∙ minus_is z (test-is false e)
+  minus-back : le_z (pos 0) (to_z w64 (of_z w64 z)) ≡ false → to_z w64 (of_z w64 (negsuc 0 -ℤ to_z w64 (of_z w64 z))) ≡ pos (mag z)
+  minus-back e = to_z-of_z (minus_fits e) ∙ ap (λ x. negsuc 0 -ℤ x) (to_z-of_z f) ∙ minus_is z (test-is false e)
 
 pub overflow_cast-result : goal.overflow_cast-result
 overflow_cast-result c = rw (to_z-of_z c.ranges.number) (plus-cast c.args.number c.ranges.number (test-is c.args.number c.ranges.number true c.if-number-ge0.true))

@@ -7,4 +7,4 @@ abbrev pub invariant-loop-n : goal.invariant-loop-n
 invariant-loop-n l = Unit {0}
 
 abbrev pub decreases-loop-n : goal.decreases-loop-n
-decreases-loop-n l = 256 - n
+decreases-loop-n l = 256 - l.n
