@@ -259,7 +259,7 @@ value_same l is xs no_entry (best j s) h a = absurd a
 value_same l is xs (best i r) no_entry h a = absurd a
 value_same l is xs (best i r) (best j s) h a =
     ap (λ (v : List ℕ). some v)
-    (sym (named_value l is j h) ∙ sym (ap (λ (x : Brought). x.entry.value) a.1) ∙ sym (ap (λ (e : Entry). e.value) (ListN.get_d_map entry_of xs i nothing_brought)))
+    (sym (named_value l is j h) ∙ sym (ap (λ (x : Brought). x.entry.value) a.1) ∙ sym (ap (λ (e : Entry). e.value) (ListN.get_or-map entry_of xs i nothing_brought)))
 
 -- the bytes found at a number are those that the joined entries give
 pub value_is : (l : Lent) → is_board l ≡ true → (skip : ℕ) (q : Query)

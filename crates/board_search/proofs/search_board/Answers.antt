@@ -1,6 +1,5 @@
 -- `board_search::search_board` meets its contract: going on from slot i with the best so far comes to what is looked for. Assumes nothing.
 use mathlib.Core.Bool.{true, false}
-use mathlib.Core.Logic.{⊎_elim}
 use mathlib.Core.Path.{◌≡◌, refl, sym, ap, ◌∙◌}
 use Prim.Native.Nat.{◌-◌, ◌≤◌, ◌<◌, max}
 use native.Mathlib.Omega.{arith}
@@ -21,6 +20,7 @@ use Rattle.board_search.proofs.Asking.{spot_best}
 use Rattle.board_search.proofs.Numbering.{found_on}
 use Rattle.board_search.proofs.Searching.{slot_image, Passing, passing_first, passing_over, passing_on, passing_end}
 use Rattle.board_search.proofs.search_board.Goals as goal
+use Rattle.board_search.proofs.search_board.Goals.{then-i-skip, else-i-skip}
 
 pub bounds-words-0 : goal.bounds-words-0
 bounds-words-0 c =
@@ -97,14 +97,14 @@ loop-i-preserved c =
     let long = max (length c.args.starts.now) (length c.args.class_starts.now) in
     let all = searched_all a.contents a.bodies _ (best_in long (count_of a.contents) (row_held c.loop-i.held)) in
     let size = keys_long (rows_in a.contents) a.bodies ∙ count_rows a.contents in
-    ⊎_elim
-    (λ w.
-    let s = rw (w.1.ensures, w.3.ensures) at w.5.ensures in
-    let n = rw w.1.ensures at w.6.ensures in
-    let f = found_on long c.loop-i.i (count_of a.contents) c.loop-i.found (row_held c.loop-i.held) w.5.result _ _ _ size (s.2.is ∙ all) (s.0 ∙ ap (number_or (count_of a.contents)) all) in
-    rw (w.7, w.8, n) (passing_on board _ _ c.loop-i.invariant.0 c.loop-i-test.true w.0.taken _ f, s.2.kept))
-    (λ w. rw (w.1, w.2) (passing_over board _ _ c.loop-i.invariant.0 c.loop-i-test.true w.0.left, c.loop-i.invariant.1))
-    c.if-i-skip.branch-raw
+    elim c.if-i-skip.branch [
+      then-i-skip w ↦
+        let s = rw (w.slot_contents-contents.ensures, w.slot_bodies.ensures) at w.search-entry.ensures in
+        let n = rw w.slot_contents-contents.ensures at w.number_of-found.ensures in
+        let f = found_on long c.loop-i.i (count_of a.contents) c.loop-i.found (row_held c.loop-i.held) w.search-entry.result _ _ _ size (s.2.is ∙ all) (s.0 ∙ ap (number_or (count_of a.contents)) all) in
+        rw (w.found-is, w.held-is, n) (passing_on board _ _ c.loop-i.invariant.0 c.loop-i-test.true w.if-i-skip.true _ f, s.2.kept)
+      | else-i-skip w ↦ rw (w.found-is, w.held-is) (passing_over board _ _ c.loop-i.invariant.0 c.loop-i-test.true w.if-i-skip.false, c.loop-i.invariant.1)
+    ]
 
 pub returns-then-held-gt0 : goal.returns-then-held-gt0
 returns-then-held-gt0 c =

@@ -22,3 +22,11 @@ pub are_entries-requires : goal.are_entries-requires
 are_entries-requires c =
     let image-in : is_image c.args.contents.now c.args.bodies.now ≡ true = sym c.is_image.ensures ∙ not-false _ c.if-not-is_image.false-raw in
     image-in
+
+pub returns-then-not-is_image : goal.returns-then-not-is_image
+returns-then-not-is_image c = no_image _ _ _ _ _ (sym c.is_image.ensures ∙ not-true _ c.if-not-is_image.true-raw)
+
+pub returns-then-first-eq0 : goal.returns-then-first-eq0
+returns-then-first-eq0 c =
+    let image-in : is_image c.args.contents.now c.args.bodies.now ≡ true = sym c.is_image.ensures ∙ not-false _ c.if-not-is_image.false-raw in
+    other_opens _ _ _ _ _ image-in _ c.pass_number-first.ensures.0 c.if-first-eq0.true

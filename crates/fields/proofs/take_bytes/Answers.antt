@@ -31,3 +31,9 @@ pub returns : goal.returns
 returns c =
     let space-in : starts_with (ascii " ") c.args.rest.now ≡ true = sym c.starts_with.ensures ∙ not-false _ c.if-not-starts_with.false-raw in
     field_taken _ _ _ _ space-in c.decode-size.ensures _ (end_none _ _ c.if-size-gt0.false (sym c.starts_with-2.ensures ∙ c.if-starts_with.false)) (omega arith)
+
+pub returns-then-not-starts_with : goal.returns-then-not-starts_with
+returns-then-not-starts_with c = no_field _ _ (sym c.starts_with.ensures ∙ not-true _ c.if-not-starts_with.true-raw)
+
+pub slice_bounds-decode-start : goal.slice_bounds-decode-start
+slice_bounds-decode-start c = (starts_yes (ascii " ") _ _ c.starts_with.ensures (not-false _ c.if-not-starts_with.false-raw)).1

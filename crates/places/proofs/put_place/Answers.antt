@@ -3,7 +3,6 @@ use mathlib.Core.Path.{◌≡◌, ap}
 use Prim.Native.Nat.{◌-◌, ◌≤◌, ◌<◌}
 use native.Mathlib.Omega.{arith}
 use lib.ListN.{length}
-use borrow.Author.Rules.{rules}
 use Rattle.definition.specs.Archive.{files_of}
 use Rattle.archive.proofs.Walk.{rows_room, length_files, member_in}
 use Rattle.places.proofs.Placing.{place_text, place_unknown, place_name}

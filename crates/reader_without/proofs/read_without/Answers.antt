@@ -7,7 +7,6 @@ use lib.Seq.{length-take-le}
 use Rattle.definition.specs.Archive.{struck_off}
 use Rattle.laws.proofs.Archive.{struck_shorter}
 use Rattle.reader_without.proofs.Second.{second_read}
-use borrow.Author.Rules.{rules}
 use Rattle.reader_without.proofs.read_without.Goals as goal
 
 pub strike_off-n-requires : goal.strike_off-n-requires

@@ -7,7 +7,7 @@ use borrow.Author.Rules.{rules}
 use Rattle.reports.proofs.tell.Goals as goal
 
 pub overflow_add-place : goal.overflow_add-place
-overflow_add-place c = omega (arith, c.well_formed, (rw c.in-Found.is at c.requires.0), c.requires.1)
+overflow_add-place c = omega (arith, (rw c.in-Found.is at c.requires.0), c.requires.1)
 
 pub slice_bounds-put-end : goal.slice_bounds-put-end
 slice_bounds-put-end c = omega (arith, (rw c.in-Found.is at c.requires.0))

@@ -1,5 +1,4 @@
 -- `shared_lines::put_key` meets its contract. Assumes nothing.
-use borrow.Author.Rules.{rules}
 use Rattle.shared_lines.proofs.Putting.{key_put}
 use Rattle.shared_lines.proofs.put_key.Goals as goal
 

@@ -1,6 +1,5 @@
 -- `shared_lines::put_shared` meets its contract. Assumes nothing.
 use native.Mathlib.Omega.{arith}
-use borrow.Author.Rules.{rules}
 use Rattle.printing.proofs.Pieces.{piece_long}
 use Rattle.shown_bytes.proofs.Showing.{shown_most}
 use Rattle.shared_lines.proofs.Putting.{key_long, shared_put}

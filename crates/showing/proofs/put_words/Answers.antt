@@ -6,7 +6,7 @@ use borrow.Author.Rules.{rules}
 use Rattle.showing.proofs.put_words.Goals as goal
 
 pub overflow_add-place : goal.overflow_add-place
-overflow_add-place c = omega (arith, c.well_formed, (rw c.in-Found.is at c.requires.0))
+overflow_add-place c = omega (arith, (rw c.in-Found.is at c.requires.0))
 
 pub slice_bounds-put-end-in-Found : goal.slice_bounds-put-end-in-Found
 slice_bounds-put-end-in-Found c = omega (arith, (rw c.in-Found.is at c.requires.0))

@@ -7,16 +7,16 @@ use borrow.Author.Rules.{rules}
 use Rattle.showing.proofs.same_answer.Goals as goal
 
 pub overflow_add-p : goal.overflow_add-p
-overflow_add-p c = omega (arith, c.well_formed.1.0.0, (rw c.in-Found.is at c.requires.0))
+overflow_add-p c = omega (arith, (rw c.in-Found.is at c.requires.0))
 
 pub slice_bounds-same-end : goal.slice_bounds-same-end
-slice_bounds-same-end c = omega (arith, c.well_formed.1.0.0, (rw c.in-Found.is at c.requires.0))
+slice_bounds-same-end c = omega (arith, (rw c.in-Found.is at c.requires.0))
 
 pub overflow_add-q : goal.overflow_add-q
-overflow_add-q c = omega (arith, c.well_formed.1.1.1.0, (rw c.in-Found-b.is at c.requires.1))
+overflow_add-q c = omega (arith, (rw c.in-Found-b.is at c.requires.1))
 
 pub slice_bounds-same-end-in-Found-b : goal.slice_bounds-same-end-in-Found-b
-slice_bounds-same-end-in-Found-b c = omega (arith, c.well_formed.1.1.1.0, (rw c.in-Found-b.is at c.requires.1))
+slice_bounds-same-end-in-Found-b c = omega (arith, (rw c.in-Found-b.is at c.requires.1))
 
 pub returns-in-Found-b : goal.returns-in-Found-b
 returns-in-Found-b c = same_found c.args.bodies.now c.args.store.now c.args.a c.args.b _ _ _ _ c.in-Found.is c.in-Found-b.is _ c.same.ensures

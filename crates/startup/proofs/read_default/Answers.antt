@@ -1,6 +1,5 @@
 -- `startup::read_default` meets its contract. Assumes nothing.
 use mathlib.Core.Path.{◌∙◌}
-use borrow.Author.Rules.{rules}
 use Rattle.sources.specs.Lending.{lending, start_up}
 use Rattle.startup.proofs.Starting.{reads_start}
 use Rattle.startup.proofs.read_default.Goals as goal

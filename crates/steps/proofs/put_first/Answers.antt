@@ -1,6 +1,5 @@
 -- `steps::put_first` meets its contract. Assumes nothing.
 use Rattle.steps.specs.Steps.{first_line}
-use borrow.Author.Rules.{rules}
 use Rattle.steps.proofs.put_first.Goals as goal
 
 pub returns-then-xdefaults_read : goal.returns-then-xdefaults_read

@@ -1,6 +1,5 @@
 -- `steps::put_second` meets its contract. Assumes nothing.
 use Rattle.steps.specs.Steps.{second_line}
-use borrow.Author.Rules.{rules}
 use Rattle.steps.proofs.put_second.Goals as goal
 
 pub returns-then-xenvironment_read : goal.returns-then-xenvironment_read

@@ -2,7 +2,6 @@
 use native.Mathlib.Omega.{arith}
 use Rattle.printing.proofs.Pieces.{piece_long}
 use Rattle.steps.proofs.Lines.{first_most, steps_put}
-use borrow.Author.Rules.{rules}
 use Rattle.steps.proofs.put_steps.Goals as goal
 
 pub put_second-requires : goal.put_second-requires
