@@ -3,9 +3,7 @@ use Rattle.std.specs.Prelude.{Bool}
 use Rattle.definition.specs.Lookup.{Reply, given, no_value, refused}
 use Rattle.definition.specs.Value.{Number, number, not_a_number}
 use Rattle.readings.specs.declared.Truth.{Truth}
-use Rattle.readings.specs.declared.Truth.TheVariants as Truth
 use Rattle.readings.specs.declared.Value.{Value}
-use Rattle.readings.specs.declared.Value.TheVariants as Value
 
 abbrev pub truth_replied : Truth → Reply Bool
 truth_replied (Truth.Is b) = given b

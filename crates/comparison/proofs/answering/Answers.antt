@@ -1,6 +1,5 @@
 -- `comparison::answering` meets its contract. Assumes nothing.
 use mathlib.Core.Path.{refl}
-use borrow.Author.Rules.{rules}
 use Rattle.comparison.specs.Answering.{answering}
 use Rattle.comparison.proofs.answering.Goals as goal
 

@@ -1,5 +1,4 @@
 -- `comparison::look_up_both` meets its contract. Assumes nothing.
-use borrow.Author.Rules.{rules}
 use Rattle.comparison.proofs.look_up_both.Goals as goal
 
 pub returns : goal.returns

@@ -11,8 +11,7 @@ use Rattle.loading.proofs.add.Goals as goal
 
 pub slice_bounds-out-end : goal.slice_bounds-out-end
 slice_bounds-out-end c =
-    let start : tie.Start = (PLACE Start) in
-    let held : Holding (file_of start.args.name.now start.args.body.now) (take start.args.size start.args.archive.now) c.add_file-added.new.out c.in-Size.n =
+    let held : Holding (file_of c.args.name.now c.args.body.now) (take c.args.size c.args.archive.now) c.add_file-added.new.out c.in-Size.n =
     added_holds (file_of c.args.name.now c.args.body.now) (take c.args.size c.args.archive.now) _ c.add_file-added.new.out
     c.in-Size.n c.requires.1.laid (rw c.in-Size.is at c.add_file-added.ensures)
     in
@@ -20,8 +19,7 @@ slice_bounds-out-end c =
 
 pub slice_bounds-copy_in-end : goal.slice_bounds-copy_in-end
 slice_bounds-copy_in-end c =
-    let start : tie.Start = (PLACE Start) in
-    let held : Holding (file_of start.args.name.now start.args.body.now) (take start.args.size start.args.archive.now) c.add_file-added.new.out c.in-Size.n =
+    let held : Holding (file_of c.args.name.now c.args.body.now) (take c.args.size c.args.archive.now) c.add_file-added.new.out c.in-Size.n =
     added_holds (file_of c.args.name.now c.args.body.now) (take c.args.size c.args.archive.now) _ c.add_file-added.new.out
     c.in-Size.n c.requires.1.laid (rw c.in-Size.is at c.add_file-added.ensures)
     in
@@ -29,11 +27,17 @@ slice_bounds-copy_in-end c =
 
 pub copy_in-requires : goal.copy_in-requires
 copy_in-requires c =
-    let a : tie.After-added = (PLACE After-added) in
-    omega (arith, (start a).requires.0, (call a).add-file.auto.1.1.1.0, (held a).inside, length-take-le a.added.given.0.0 (call a).add-file.new.1.1.1.0 (held a).inside)
+    let held : Holding (file_of c.args.name.now c.args.body.now) (take c.args.size c.args.archive.now) c.add_file-added.new.out c.in-Size.n =
+    added_holds (file_of c.args.name.now c.args.body.now) (take c.args.size c.args.archive.now) _ c.add_file-added.new.out
+    c.in-Size.n c.requires.1.laid (rw c.in-Size.is at c.add_file-added.ensures)
+    in
+    omega (arith, c.requires.0, c.add_file-added.auto.out, held.inside, length-take-le c.in-Size.n c.add_file-added.new.out held.inside)
 
 pub returns : goal.returns
 returns c =
-    let a : tie.After-added = (PLACE After-added) in
-    put_holds _ _ c.copy_in.ensures (sym (length-take-le _ _ (held a).inside))
-    (omega (arith, (start a).requires.0, (call a).add-file.auto.1.1.1.0, (held a).inside, length-take-le a.added.given.0.0 (call a).add-file.new.1.1.1.0 (held a).inside)) (held a).laid
+    let held : Holding (file_of c.args.name.now c.args.body.now) (take c.args.size c.args.archive.now) c.add_file-added.new.out c.in-Size.n =
+    added_holds (file_of c.args.name.now c.args.body.now) (take c.args.size c.args.archive.now) _ c.add_file-added.new.out
+    c.in-Size.n c.requires.1.laid (rw c.in-Size.is at c.add_file-added.ensures)
+    in
+    put_holds _ _ c.copy_in.ensures (sym (length-take-le _ _ held.inside))
+    (omega (arith, c.requires.0, c.add_file-added.auto.out, held.inside, length-take-le c.in-Size.n c.add_file-added.new.out held.inside)) held.laid

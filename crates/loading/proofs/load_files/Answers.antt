@@ -15,4 +15,4 @@ pub loop-i-init : goal.loop-i-init
 loop-i-init c = (omega (arith, c.requires, c.copy_in.auto.store), put_holds c.args.archive.now no_files c.copy_in.ensures refl (omega (arith, c.requires)) none_laid)
 
 pub loop-i-preserved : goal.loop-i-preserved
-loop-i-preserved c = (omega (arith, c.load_argument-loaded.auto.i, c.loop-i.invariant.0), c.load_argument-loaded.ensures)
+loop-i-preserved c = (omega (arith, c.load_argument-loaded.auto.archive, c.loop-i.invariant.0), c.load_argument-loaded.ensures)

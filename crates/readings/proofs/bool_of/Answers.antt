@@ -9,7 +9,6 @@ use Rattle.definition.specs.Value.{is_utf8, to_bool, replied, as_string, as_bool
 use Rattle.booleans.specs.Readings.{boolean_in}
 use Rattle.lookup.specs.Replies.{replied as looked_up}
 use Rattle.readings.proofs.Readings.{read_refused, read_none, read_given, string_refused, string_none, string_read}
-use borrow.Author.Rules.{rules}
 use Rattle.readings.proofs.bool_of.Goals as goal
 
 pub bytes_at-bytes-requires : goal.bytes_at-bytes-requires
@@ -32,9 +31,7 @@ unfolding as_bool
 returns-in-Nothing c = read_none _ _ (string_none _ _ (sym (ap looked_up c.in-Nothing.is)))
 
 pub returns-in-True : goal.returns-in-True
-unfolding replied boolean_in
-
-unfolding as_bool replied
+unfolding replied boolean_in as_bool
 returns-in-True c =
     let value : Place = record { start = c.in-Found.place; length = c.in-Found.size } in
     let found : given value ≡ looked_up c.args.found = sym (ap looked_up c.in-Found.is) in
@@ -46,9 +43,7 @@ returns-in-True c =
     read (some true) (ap boolean_in c.in-True.is)
 
 pub returns-in-False : goal.returns-in-False
-unfolding replied boolean_in
-
-unfolding as_bool replied
+unfolding replied boolean_in as_bool
 returns-in-False c =
     let value : Place = record { start = c.in-Found.place; length = c.in-Found.size } in
     let found : given value ≡ looked_up c.args.found = sym (ap looked_up c.in-Found.is) in
@@ -60,9 +55,7 @@ returns-in-False c =
     read (some false) (ap boolean_in c.in-False.is)
 
 pub returns-in-Neither : goal.returns-in-Neither
-unfolding replied boolean_in
-
-unfolding as_bool replied
+unfolding replied boolean_in as_bool
 returns-in-Neither c =
     let value : Place = record { start = c.in-Found.place; length = c.in-Found.size } in
     let found : given value ≡ looked_up c.args.found = sym (ap looked_up c.in-Found.is) in

@@ -2,7 +2,6 @@
 use mathlib.Core.Path.{refl}
 use Prim.Native.Nat.{◌+◌}
 use Rattle.laws.proofs.Lists.{part_slice}
-use borrow.Author.Rules.{rules}
 use Rattle.readings.proofs.bytes_at.Goals as goal
 
 pub returns : goal.returns

@@ -7,7 +7,6 @@ use Rattle.definition.specs.Lookup.{given, Place}
 use Rattle.definition.specs.Value.{is_utf8, replied, as_string}
 use Rattle.lookup.specs.Replies.{replied as looked_up}
 use Rattle.readings.proofs.Readings.{string_refused, string_none, string_read}
-use borrow.Author.Rules.{rules}
 use Rattle.readings.proofs.string_of.Goals as goal
 
 pub bytes_at-requires : goal.bytes_at-requires

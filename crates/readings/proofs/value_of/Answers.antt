@@ -36,9 +36,7 @@ unfolding as_number
 returns-in-Nothing c = read_none _ _ (string_none _ _ (sym (ap looked_up c.in-Nothing.is)))
 
 pub returns-in-Is : goal.returns-in-Is
-unfolding number_of number_in
-
-unfolding as_number replied
+unfolding number_of number_in as_number replied
 returns-in-Is c =
     let value : Place = record { start = c.in-Found.place; length = c.in-Found.size } in
     let found : given value ≡ looked_up c.args.found = sym (ap looked_up c.in-Found.is) in
@@ -51,9 +49,7 @@ returns-in-Is c =
     rw (to_z-of_z fits) (read (some c.in-Is.n) (ap number_in c.in-Is.is))
 
 pub returns-in-NotANumber : goal.returns-in-NotANumber
-unfolding number_of number_in
-
-unfolding as_number replied
+unfolding number_of number_in as_number replied
 returns-in-NotANumber c =
     let value : Place = record { start = c.in-Found.place; length = c.in-Found.size } in
     let found : given value ≡ looked_up c.args.found = sym (ap looked_up c.in-Found.is) in

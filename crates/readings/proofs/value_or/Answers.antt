@@ -2,7 +2,6 @@
 use mathlib.Core.Path.{refl}
 use Rattle.definition.specs.Value.{bytes_or}
 use Rattle.readings.specs.Showing.{shown_at}
-use borrow.Author.Rules.{rules}
 use Rattle.readings.proofs.value_or.Goals as goal
 
 pub bytes_at-requires : goal.bytes_at-requires

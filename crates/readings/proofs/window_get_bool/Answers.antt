@@ -3,7 +3,6 @@ use mathlib.Core.Path.{ap, ◌∙◌}
 use Rattle.definition.specs.Query.{window}
 use Rattle.definition.specs.Value.{as_string, as_bool, get_string_by, get_bool_by}
 use Rattle.lookup.proofs.Looking.{bytes_within}
-use borrow.Author.Rules.{rules}
 use Rattle.readings.proofs.window_get_bool.Goals as goal
 
 pub bool_of-requires : goal.bool_of-requires

@@ -3,7 +3,6 @@ use mathlib.Core.Path.{ap, ◌∙◌}
 use Rattle.definition.specs.Query.{window}
 use Rattle.definition.specs.Value.{as_string, get_string_by}
 use Rattle.lookup.proofs.Looking.{bytes_within}
-use borrow.Author.Rules.{rules}
 use Rattle.readings.proofs.window_get_string.Goals as goal
 
 pub string_of-requires : goal.string_of-requires

@@ -3,7 +3,6 @@ use mathlib.Core.Path.{ap, ◌∙◌}
 use Rattle.definition.specs.Query.{window}
 use Rattle.definition.specs.Value.{as_string, as_number, get_string_by, get_value_by}
 use Rattle.lookup.proofs.Looking.{bytes_within}
-use borrow.Author.Rules.{rules}
 use Rattle.readings.proofs.window_get_value.Goals as goal
 
 pub value_of-requires : goal.value_of-requires

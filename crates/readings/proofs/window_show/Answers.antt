@@ -2,7 +2,6 @@
 use Rattle.definition.specs.Query.{window}
 use Rattle.lookup.proofs.Looking.{bytes_within}
 use Rattle.readings.proofs.Readings.{shows}
-use borrow.Author.Rules.{rules}
 use Rattle.readings.proofs.window_show.Goals as goal
 
 pub value_or-requires : goal.value_or-requires

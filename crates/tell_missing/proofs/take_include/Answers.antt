@@ -20,7 +20,8 @@ slice_bounds-tell_absent-end c =
 pub tell_absent-requires : goal.tell_absent-requires
 tell_absent-requires c =
     let l = rw c.in-Absent.is at c.look_for-look.ensures.stands in
-    (c.requires.1, c.requires.2, omega (arith, l, slice-aggregate-tell-absent (PLACE After-path3)))
+    let long = length-take-le c.in-Absent.n c.look_for-look.new.path (omega (arith, l, c.look_for-look.auto)) in
+    (c.requires.1, c.requires.2, omega (arith, l, long))
 
 pub returns-in-File : goal.returns-in-File
 returns-in-File c =
