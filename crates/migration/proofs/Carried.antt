@@ -1,19 +1,19 @@
 -- What is carried over is what the definition says. Assumes nothing.
 use Rattle.std.specs.Prelude.{if◌then◌else◌}
 use mathlib.Core.Bool.{Bool, true, false, not}
-use mathlib.Core.List.{List, [], ◌∷◌, ◌++◌, append_assoc}
+use mathlib.Core.List.{List, [], ◌∷◌, ◌++◌}
 use mathlib.Core.Path.{◌≡◌, refl, sym, ap, ◌∙◌}
-use Prim.Native.Nat.{ℕ, suc, ◌+◌, ◌-◌, ◌*◌, ◌≤◌, ◌<◌}
+use Prim.Native.Nat.{ℕ, ◌+◌, ◌-◌, ◌≤◌, ◌<◌}
 use native.Mathlib.Omega.{arith}
-use lib.Dec.{eqb, ltb}
+use lib.Dec.{eqb}
 use lib.ListN.{length, take, drop, set}
 use lib.Seq.{slice, slice_empty, paste, take-add, drop-drop, take-length, length-take-le}
 use borrow.Author.Tests.{eqb-true, lt-ltb, le-ltb}
 use Rattle.definition.specs.Lists.{all, zeroes}
-use Rattle.definition.specs.Limits.{contents_words, body_bytes, row_words, old_row_words, most_entries, most_opens, unknown_file}
+use Rattle.definition.specs.Limits.{contents_words, body_bytes, old_row_words, most_entries, most_opens, unknown_file}
 use Rattle.definition.specs.Text.{Entry}
-use Rattle.definition.specs.Image.{key_of, Sourced, bare, all_from, rows_of, store_of, contents_of, written_over, image_contents, image_bodies, Row, rows_from, count_of, used_of, rows_by, key_end, value_end, key_at, value_at, key_parts, entries_in, is_key, packed, is_origin, too_short, is_image_by}
-use Rattle.definition.specs.Reading.{Outcome, Answer, outcome, accepted, refused}
+use Rattle.definition.specs.Image.{key_of, Sourced, bare, all_from, rows_of, store_of, contents_of, written_over, image_contents, image_bodies, Row, count_of, used_of, rows_by, key_end, value_end, key_at, value_at, key_parts, entries_in, is_key, packed, is_origin, too_short, is_image_by}
+use Rattle.definition.specs.Reading.{Outcome, outcome, accepted, refused}
 use Rattle.definition.specs.Writing.{entries_by}
 use Rattle.definition.specs.Adding.{over}
 use Rattle.definition.specs.Migration.{carried, migrating}

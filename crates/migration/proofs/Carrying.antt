@@ -4,11 +4,10 @@ use mathlib.Core.Path.{◌≡◌, refl, sym, ap, ◌∙◌}
 use Prim.Native.Nat.{ℕ, suc, ◌+◌, ◌-◌, ◌*◌, ◌≤◌, ◌<◌}
 use native.Mathlib.Omega.{arith}
 use lib.ListN.{length, take, drop, length-append, length-drop, take-append-drop}
-use lib.Seq.{sets-eq, take_at, drop_at, drop-drop, drop-append-add, length-take-le}
+use lib.Seq.{sets-eq, take_at, drop_at, drop-drop, length-take-le}
 use Rattle.definition.specs.Limits.{old_row_words, row_words, unknown_file}
 use Rattle.definition.specs.Image.{Row, rows_from}
 use Rattle.definition.specs.Adding.{over}
-use Rattle.laws.proofs.Image.{rows_count}
 use Rattle.image.specs.Rows.{row_start, row_at_by, rows_left_by, row_of, with_row}
 use Rattle.image.specs.declared.Row as image
 use Rattle.image.proofs.Rows.{rows_turn_by}

@@ -2,7 +2,6 @@
 use mathlib.Core.Path.{sym, ◌∙◌}
 use native.Mathlib.Omega.{arith}
 use lib.Seq.{length-take-le}
-use borrow.Author.Rules.{rules}
 use Rattle.migration.proofs.Carried.{old_words, new_words, old_bytes_lem, first_words, fits_bytes, room_carried, carries}
 use Rattle.migration.proofs.carry.Goals as goal
 

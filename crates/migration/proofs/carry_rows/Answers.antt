@@ -1,8 +1,6 @@
 -- `migration::carry_rows` meets its contract. The invariant: the rows before row i are written. Assumes nothing.
-use Prim.Native.Nat.{◌-◌}
 use native.Mathlib.Omega.{arith}
-use borrow.Author.Rules.{rules}
-use Rattle.migration.proofs.Carrying.{Carrying, carrying_first, words_same, carrying_next, carrying_done}
+use Rattle.migration.proofs.Carrying.{carrying_first, words_same, carrying_next, carrying_done}
 use Rattle.migration.proofs.carry_rows.Goals as goal
 
 pub row_by-row-requires : goal.row_by-row-requires

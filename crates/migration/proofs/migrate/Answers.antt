@@ -4,7 +4,6 @@ use mathlib.Core.Path.{◌≡◌, sym, ◌∙◌}
 use native.Mathlib.Omega.{arith}
 use lib.Seq.{length-take-le}
 use borrow.Author.Tests.{not-true, not-false}
-use borrow.Author.Rules.{rules}
 use Rattle.definition.specs.Limits.{old_row_words, contents_words, body_bytes}
 use Rattle.definition.specs.Image.{is_image_by}
 use Rattle.laws.proofs.Image.{holds_by}
