@@ -13,7 +13,7 @@ use Rattle.definition.specs.Archive.{laid_out, files_of}
 use Rattle.definition.specs.Image.{too_short}
 use Rattle.definition.specs.Reading.{Answer, accepted, refused, Outcome, outcome, reading}
 use Rattle.definition.specs.Lookup.{Reply, Place, get_bytes_within}
-use Rattle.definition.specs.ThirdTerm.{Case, with_file, without_file, lookup, is_accepted, Given, ThirdTerm}
+use Rattle.definition.specs.ThirdTerm.{Case, with_file, without_file, lookup, is_accepted, Given}
 use Rattle.laws.proofs.Lists.{not_both}
 use Rattle.laws.proofs.Reading.{accepted_reads}
 use Rattle.laws.proofs.ThirdTerm.{third_term}

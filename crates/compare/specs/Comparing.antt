@@ -3,7 +3,7 @@ use Rattle.std.specs.Prelude.{List, ◌≡◌, ℕ, ◌≤◌, ltb, length, if�
 use Rattle.std.proofs.Math.Seq.{paste}
 use Rattle.definition.specs.Archive.{files_of, struck_off}
 use Rattle.definition.specs.Image.{too_short}
-use Rattle.definition.specs.Reading.{Answer, accepted, refused, Outcome}
+use Rattle.definition.specs.Reading.{Answer, accepted, refused}
 use Rattle.definition.specs.Query.{shell}
 use Rattle.definition.specs.ThirdTerm.{Case, with_file, without_file, lookup, Given, ThirdTerm}
 use Rattle.comparison.specs.declared.Compared.{Compared}

@@ -9,7 +9,6 @@ use Rattle.definition.specs.ThirdTerm.{Case, with_file}
 use Rattle.archive.proofs.Walk.{length_files, rows_room}
 use Rattle.compare.specs.Comparing.{asked}
 use Rattle.compare.proofs.Comparing.{read_is, read_laid_out, short_struck, short_contents, short_bodies, Room, first_refused, no_file_lem, both_left, promised}
-use borrow.Author.Rules.{rules}
 use Rattle.compare.proofs.compare_without.Goals as goal
 
 pub returns-then-struck-archive : goal.returns-then-struck-archive
@@ -24,7 +23,7 @@ returns-then-bodies_without-lt-BODY_BYTES c = promised _ _ _ (short_bodies _ _ c
 pub file_count-requires : goal.file_count-requires
 file_count-requires c =
     let case : Case = asked c.args.depth (map (λ x. x.now) c.args.texts.now) c.args.archive.now c.args.file c.args.name.now c.args.class.now c.args.contents.now c.args.bodies.now c.args.contents_without.now c.args.bodies_without.now in
-    let read-with : (outcome (accepted c.in-Accepted.field-0 c.in-Accepted.field-1) c.read_texts-first.last.1.1.1.0 c.read_texts-first.last.1.1.1.1.0 ≡ with_file case) = read_is c.read_texts-first.result _ _ _ _ c.read_texts-first.ensures c.in-Accepted.is in
+    let read-with : (outcome (accepted c.in-Accepted.field-0 c.in-Accepted.field-1) c.read_texts-first.new.contents c.read_texts-first.new.bodies ≡ with_file case) = read_is c.read_texts-first.result _ _ _ _ c.read_texts-first.ensures c.in-Accepted.is in
     let laid : laid_out case.archive ≡ true = read_laid_out _ _ _ _ _ _ _ _ _ read-with in
     omega (arith, rows_room _ laid)
 
@@ -32,13 +31,13 @@ pub returns-then-file-file_count : goal.returns-then-file-file_count
 returns-then-file-file_count c =
     let case : Case = asked c.args.depth (map (λ x. x.now) c.args.texts.now) c.args.archive.now c.args.file c.args.name.now c.args.class.now c.args.contents.now c.args.bodies.now c.args.contents_without.now c.args.bodies_without.now in
     let room : Room case c.args.struck.now = record { archive = c.if-struck-archive.false; contents = c.if-contents_without-lt-CONTENTS_WORDS.false; bodies = c.if-bodies_without-lt-BODY_BYTES.false } in
-    let read-with : (outcome (accepted c.in-Accepted.field-0 c.in-Accepted.field-1) c.read_texts-first.last.1.1.1.0 c.read_texts-first.last.1.1.1.1.0 ≡ with_file case) = read_is c.read_texts-first.result _ _ _ _ c.read_texts-first.ensures c.in-Accepted.is in
+    let read-with : (outcome (accepted c.in-Accepted.field-0 c.in-Accepted.field-1) c.read_texts-first.new.contents c.read_texts-first.new.bodies ≡ with_file case) = read_is c.read_texts-first.result _ _ _ _ c.read_texts-first.ensures c.in-Accepted.is in
     promised _ _ _ (no_file_lem _ _ room _ _ _ _ read-with (omega (arith, c.if-file-file_count.true, c.file_count.ensures.0, length_files case.archive)))
 
 pub read_without-second-requires : goal.read_without-second-requires
 read_without-second-requires c =
     let case : Case = asked c.args.depth (map (λ x. x.now) c.args.texts.now) c.args.archive.now c.args.file c.args.name.now c.args.class.now c.args.contents.now c.args.bodies.now c.args.contents_without.now c.args.bodies_without.now in
-    let read-with : (outcome (accepted c.in-Accepted.field-0 c.in-Accepted.field-1) c.read_texts-first.last.1.1.1.0 c.read_texts-first.last.1.1.1.1.0 ≡ with_file case) = read_is c.read_texts-first.result _ _ _ _ c.read_texts-first.ensures c.in-Accepted.is in
+    let read-with : (outcome (accepted c.in-Accepted.field-0 c.in-Accepted.field-1) c.read_texts-first.new.contents c.read_texts-first.new.bodies ≡ with_file case) = read_is c.read_texts-first.result _ _ _ _ c.read_texts-first.ensures c.in-Accepted.is in
     let laid : laid_out case.archive ≡ true = read_laid_out _ _ _ _ _ _ _ _ _ read-with in
     let room : Room case c.args.struck.now = record { archive = c.if-struck-archive.false; contents = c.if-contents_without-lt-CONTENTS_WORDS.false; bodies = c.if-bodies_without-lt-BODY_BYTES.false } in (
       laid,
@@ -56,7 +55,7 @@ pub returns-else-file-file_count : goal.returns-else-file-file_count
 returns-else-file-file_count c =
     let case : Case = asked c.args.depth (map (λ x. x.now) c.args.texts.now) c.args.archive.now c.args.file c.args.name.now c.args.class.now c.args.contents.now c.args.bodies.now c.args.contents_without.now c.args.bodies_without.now in
     let room : Room case c.args.struck.now = record { archive = c.if-struck-archive.false; contents = c.if-contents_without-lt-CONTENTS_WORDS.false; bodies = c.if-bodies_without-lt-BODY_BYTES.false } in
-    let read-with : (outcome (accepted c.in-Accepted.field-0 c.in-Accepted.field-1) c.read_texts-first.last.1.1.1.0 c.read_texts-first.last.1.1.1.1.0 ≡ with_file case) = read_is c.read_texts-first.result _ _ _ _ c.read_texts-first.ensures c.in-Accepted.is in
+    let read-with : (outcome (accepted c.in-Accepted.field-0 c.in-Accepted.field-1) c.read_texts-first.new.contents c.read_texts-first.new.bodies ≡ with_file case) = read_is c.read_texts-first.result _ _ _ _ c.read_texts-first.ensures c.in-Accepted.is in
     promised _ _ _ (both_left _ _ room _ _ _ _ read-with
     (omega (arith, c.if-file-file_count.false, c.file_count.ensures.0, length_files case.archive))
     c.look_up_both.result c.read_without-second.result _ _ _ c.read_without-second.ensures c.look_up_both.ensures)

@@ -1,5 +1,4 @@
 -- `compare_default::compare_default_without` meets its contract. Assumes nothing.
-use borrow.Author.Rules.{rules}
 use Rattle.compare_default.proofs.Started.{started}
 use Rattle.compare_default.proofs.compare_default_without.Goals as goal
 
