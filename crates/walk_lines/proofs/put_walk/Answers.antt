@@ -38,11 +38,11 @@ put_entry-end-requires c =
     let room : 0 + length (walk_lines (files_of c.args.archive.now) (query_of c.args.name.now c.args.class.now) (sources_of_image c.args.contents.now c.args.bodies.now)) ≤ length c.args.out.now = omega (arith, c.requires.2) in
     let gave : given number ≡ walk_step c.args.contents.now c.args.bodies.now c.args.name.now c.args.class.now (walk c.loop-next.next c.args.count) = rw c.in-Listed.is at c.walk_step-stepped.ensures in
     let inside : (c.loop-next.next ≤ number) × (number < c.args.count) × (number < count_of c.args.contents.now) = within _ _ _ _ _ c.requires.0 c.loop-next.next number gave in
-    let turn : more.loop.next ≡ line ++ more (number + 1) =
+    let turn : more c.loop-next.next ≡ line ++ more (number + 1) =
     lines_next _ _ _ _ _ c.requires.0 c.loop-next.next _ number gave
     ∙ ap (λ (l : List ℕ). l ++ more (number + 1)) (line_is _ _ _ _ _ c.requires.0 _ number c.row_at-row.result c.row_at-row.ensures inside.2)
     in
-    rw c.origin_at-origin.ensures (c.requires.1, walk_room line (more (number + 1)) room c.loop-next.inv turn)
+    rw c.origin_at-origin.ensures (c.requires.1, walk_room line (more (number + 1)) room c.loop-next.invariant turn)
 
 pub origin_at-origin-requires : goal.origin_at-origin-requires
 origin_at-origin-requires c =
@@ -65,11 +65,11 @@ loop-next-preserved c =
     let line : List ℕ = listed_line number (file_told (files_of c.args.archive.now) (origin_at c.args.contents.now number)) (take (c.row_at-row.result.start + c.row_at-row.result.key - c.row_at-row.result.start) (drop c.row_at-row.result.start c.args.bodies.now)) (take (c.row_at-row.result.start + c.row_at-row.result.key + c.row_at-row.result.value - (c.row_at-row.result.start + c.row_at-row.result.key)) (drop (c.row_at-row.result.start + c.row_at-row.result.key) c.args.bodies.now)) in
     let gave : given number ≡ walk_step c.args.contents.now c.args.bodies.now c.args.name.now c.args.class.now (walk c.loop-next.next c.args.count) = rw c.in-Listed.is at c.walk_step-stepped.ensures in
     let inside : (c.loop-next.next ≤ number) × (number < c.args.count) × (number < count_of c.args.contents.now) = within _ _ _ _ _ c.requires.0 c.loop-next.next number gave in
-    let turn : more.loop.next ≡ line ++ more (number + 1) =
+    let turn : more c.loop-next.next ≡ line ++ more (number + 1) =
     lines_next _ _ _ _ _ c.requires.0 c.loop-next.next _ number gave
     ∙ ap (λ (l : List ℕ). l ++ more (number + 1)) (line_is _ _ _ _ _ c.requires.0 _ number c.row_at-row.result c.row_at-row.ensures inside.2)
     in
-    walk_next c.loop-next.inv turn (rw c.origin_at-origin.ensures at c.put_entry-end.ensures)
+    walk_next c.loop-next.invariant turn (rw c.origin_at-origin.ensures at c.put_entry-end.ensures)
 
 pub returns-in-End : goal.returns-in-End
 returns-in-End c =
