@@ -164,7 +164,7 @@ fn write_status(rt: &HostRuntime, plan: Plan, status: u8) {
     }
     let mut buffer = io::buffer();
     let n = argument(rt, i, &mut buffer);
-    writing::write_status(rt, descriptor(&buffer[..n]) as i32, status);
+    writing::write_status(descriptor(&buffer[..n]) as i32, status);
 }
 
 fn main(rt: HostRuntime) {

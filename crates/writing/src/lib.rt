@@ -1,9 +1,8 @@
 // What getres writes beside answers: what went wrong, its help and its status.
 #![tactic(auto)]
 
-use std::fs::{OpenOptions, symlink_metadata};
-use std::io::{Error, Print, Write};
-use std::os::unix::fs::PermissionsExt;
+use io::write_all;
+use std::io::{Error, Print};
 
 // Says why the system refuses what.
 pub fn fail(rt: &HostRuntime, what: &[u8], error: Error) {
@@ -61,36 +60,12 @@ pub fn write_help(out: &impl Print) {
     );
 }
 
-// Writes to a descriptor by its number. The system opens once more what stands under the descriptor's name, which none has that is closed,
-// and tells whether it is open for writing.
-fn write_to(rt: &HostRuntime, fd: i32, bytes: &[u8]) {
-    if fd < 0 {
-        return;
-    }
-    let mut name = *b"/proc/self/fd/--------------------";
-    let mut digits = [0; 20];
-    let k = io::decimal(fd as u64, &mut digits);
-    name[14..14 + k].copy_from_slice(&digits[..k]);
-    let Ok(path) = std::str::from_utf8(&name[..14 + k]) else {
-        return;
-    };
-    let Ok(link) = symlink_metadata(rt, path) else {
-        return;
-    };
-    if link.permissions().mode() & 0o200 == 0 {
-        return;
-    }
-    if let Ok(mut file) = OpenOptions::new().append(true).open(rt, path) {
-        let _ = file.write_all(bytes);
-    }
-}
-
-pub fn write_status(rt: &HostRuntime, fd: i32, status: u8) {
+pub fn write_status(fd: i32, status: u8) {
     if status == 0 {
-        write_to(rt, fd, b"0");
+        write_all(fd, b"0");
     } else if status == 1 {
-        write_to(rt, fd, b"1");
+        write_all(fd, b"1");
     } else {
-        write_to(rt, fd, b"2");
+        write_all(fd, b"2");
     }
 }
