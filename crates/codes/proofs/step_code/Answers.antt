@@ -11,15 +11,15 @@ use Rattle.codes.proofs.step_code.Goals as goal
 
 pub returns-in-Listed : goal.returns-in-Listed
 unfolding after_step
-returns-in-Listed c = rw c.in-Listed.is (ap (stepping (from16 * c.in-Listed.entry)) (add-one c.in-Listed.entry))
+returns-in-Listed c count = rw c.in-Listed.is (ap (stepping (from16 * c.in-Listed.entry)) (add-one c.in-Listed.entry))
 
 pub returns-in-End : goal.returns-in-End
 unfolding after_step
-returns-in-End c = rw c.in-End.is refl
+returns-in-End c count = rw c.in-End.is refl
 
 pub returns-in-Refused : goal.returns-in-Refused
 unfolding after_step
-returns-in-Refused c = rw c.in-Refused.is refl
+returns-in-Refused c count = rw c.in-Refused.is refl
 
 pub overflow_cast-next : goal.overflow_cast-next
 overflow_cast-next c =
