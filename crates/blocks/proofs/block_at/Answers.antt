@@ -1,10 +1,6 @@
 -- `blocks::block_at` meets its contract: the first i bytes are copied. Assumes nothing.
 use mathlib.Core.Path.{◌≡◌, refl}
-use Prim.Native.Nat.{◌-◌, ◌≤◌}
 use native.Mathlib.Omega.{arith}
-use lib.ListN.{drop}
-use lib.Seq.{paste}
-use borrow.Author.Rules.{rules}
 use Rattle.definition.specs.Lists.{zeroes}
 use Rattle.blocks.proofs.Blocks.{block_next}
 use Rattle.blocks.proofs.block_at.Goals as goal

@@ -1,12 +1,9 @@
 -- `blocks::block_at` meets its contract: the first i bytes are copied. Assumes nothing.
-use mathlib.Core.Path.{◌≡◌, refl}
+use mathlib.Core.Path.{◌≡◌}
 use Prim.Native.Nat.{◌-◌, ◌≤◌}
-use native.Mathlib.Omega.{arith}
 use lib.ListN.{drop}
 use lib.Seq.{paste}
-use borrow.Author.Rules.{rules}
 use Rattle.definition.specs.Lists.{zeroes}
-use Rattle.blocks.proofs.Blocks.{block_next}
 use Rattle.blocks.proofs.block_at.Given as goal
 
 abbrev pub invariant-loop-i : goal.invariant-loop-i

@@ -1,12 +1,10 @@
 -- `blocks::block_has` meets its contract: what the first i bytes have is known. Assumes nothing.
-use mathlib.Core.Path.{◌≡◌, refl}
+use mathlib.Core.Path.{◌≡◌}
 use Prim.Native.Nat.{◌-◌, ◌≤◌}
-use native.Mathlib.Omega.{arith}
 use lib.ListN.{take, drop}
-use borrow.Author.Rules.{rules}
 use Rattle.definition.specs.Lists.{any}
 use Rattle.blocks.specs.Either.{either}
-use Rattle.blocks.proofs.Blocks.{bit_of, bit_is, block_more}
+use Rattle.blocks.proofs.Blocks.{bit_of}
 use Rattle.blocks.proofs.block_has.Given as goal
 
 abbrev pub invariant-loop-i : goal.invariant-loop-i
