@@ -2,14 +2,13 @@
 use mathlib.Core.List.{List}
 use mathlib.Core.Option.{Option, none}
 use mathlib.Core.Path.{◌≡◌, refl, sym, ap, ◌∙◌}
-use Prim.Native.Nat.{ℕ, ◌-◌}
+use Prim.Native.Nat.{ℕ}
 use native.Mathlib.Omega.{arith}
 use lib.ListN.{length}
 use Rattle.definition.specs.Text.{Entry}
 use Rattle.definition.specs.Query.{Query, positions, malformed, past_limit, shell, query_of}
 use Rattle.definition.specs.Reading.{Answer, accepted, refused as refusedReading, Outcome, outcome, reading, plain, read_entries}
 use Rattle.definition.specs.Lookup.{refused, get_bytes, answer_in, answer_of}
-use Rattle.definition.specs.ThirdTerm.{lookup}
 use Rattle.laws.proofs.Reading.{Reads, accepted_reads}
 use Rattle.laws.proofs.ThirdTerm.{reading_image, reading_answers, reading_replies}
 use Rattle.lookup.specs.declared.Lookup.{Lookup}

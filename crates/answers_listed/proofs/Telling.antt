@@ -1,8 +1,8 @@
 -- What is told of the entries that align, and of what was read. Assumes nothing.
 use mathlib.Core.Bool.{true, false}
-use mathlib.Core.List.{List, [], ◌∷◌, ◌++◌}
+use mathlib.Core.List.{List, [], ◌∷◌}
 use mathlib.Core.Path.{◌≡◌, refl, sym, ap, ◌∙◌}
-use Prim.Native.Nat.{ℕ, ◌+◌, ◌≤◌, ◌<◌}
+use Prim.Native.Nat.{ℕ, ◌≤◌, ◌<◌}
 use native.Mathlib.Omega.{arith}
 use lib.ListN.{length, get_or, length-append}
 use lib.Seq.{paste-zero}
@@ -24,7 +24,7 @@ use Rattle.laws.proofs.ThirdTerm.{read_holds, read_sourced}
 use Rattle.printing.specs.Putting.{Appends}
 use Rattle.printing.proofs.Pieces.{piece_counts}
 use Rattle.reports.specs.declared.Report.{Report}
-use Rattle.reports.specs.Telling.{Told, output, trouble, refused as refusalTold, Reports}
+use Rattle.reports.specs.Telling.{output, trouble, refused as refusalTold, Reports}
 use Rattle.reports.proofs.Telling.{report, reports_of}
 use Rattle.places.specs.Places.{file_told}
 use Rattle.walk_lines.specs.Lines.{blank, line_at, lines_at, walk_lines}

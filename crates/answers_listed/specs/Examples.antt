@@ -1,5 +1,5 @@
 -- Lists of a few databases, by evaluating the definition.
-use Rattle.std.specs.Prelude.{List, [], ◌∷◌, ◌≡◌, refl, ℕ}
+use Rattle.std.specs.Prelude.{[], ◌∷◌, ◌≡◌, refl}
 use Prim.Native.String.{String}
 use Rattle.definition.specs.Lists.{ascii}
 use Rattle.definition.specs.Limits.{default_depth}

@@ -1,13 +1,10 @@
 -- What the calls of a board answer, test by test. Assumes nothing.
 use Rattle.std.specs.Prelude.{if◌then◌else◌}
-use mathlib.Core.Bool.{Bool, true, false, ◌||◌, not, or-true}
-use mathlib.Core.List.{List, [], ◌∷◌}
+use mathlib.Core.Bool.{Bool, true, false, not, or-true}
 use mathlib.Core.Path.{◌≡◌, refl, sym, ap, ◌∙◌}
-use Prim.Native.Nat.{ℕ, ◌+◌, ◌-◌, ◌≤◌, ◌<◌}
+use Prim.Native.Nat.{ℕ, ◌≤◌, ◌<◌}
 use native.Mathlib.Nat.{sub-zero}
-use native.Mathlib.Omega.{arith}
-use lib.Dec.{eqb, leb}
-use lib.ListN.{length}
+use lib.Dec.{eqb}
 use borrow.Author.Tests.{le-leb, lt-leb, eq-eqb, ne_eqb}
 use Rattle.definition.specs.Lists.{any}
 use Rattle.definition.specs.Limits.{most_packs, most_queries}
@@ -15,10 +12,9 @@ use Rattle.definition.specs.Image.{is_image}
 use Rattle.definition.specs.Query.{query_of}
 use Rattle.definition.specs.Lookup.{Reply, given, no_value, refused}
 use Rattle.definition.specs.Board.{Arrival, Watched, Call, watch, arrive, leave, is_present, checked, reply_to, if_given, each, Lent, pack_count, query_count, slots_in, board_in, short_board, is_board, done, writing, board_call}
-use Rattle.laws.proofs.Lists.{not_both}
-use Rattle.board_laws.proofs.Slots.{has_slot, slot_present}
-use Rattle.board_laws.proofs.Calls.{Laid, laid}
-use Rattle.board_laws.proofs.Histories.{refused_given, not_short, called, packs_held, queries_held}
+use Rattle.board_laws.proofs.Slots.{slot_present}
+use Rattle.board_laws.proofs.Calls.{Laid}
+use Rattle.board_laws.proofs.Histories.{refused_given, called, packs_held, queries_held}
 use Rattle.board_judge.specs.Slots.{number_at, has_number_from, refusal_of}
 use Rattle.board_judge.proofs.Judging.{turned_away, goes_on, slots_number}
 

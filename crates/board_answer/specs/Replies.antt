@@ -1,5 +1,4 @@
 -- A watched answer in document 02's numbers and values.
-use Rattle.std.specs.Prelude.{ℕ}
 use Rattle.definition.specs.Lookup.{Reply, given, no_value, refused}
 use Rattle.definition.specs.Board.{Found}
 use Rattle.board_answer.specs.declared.Reply.{Reply as Answer}

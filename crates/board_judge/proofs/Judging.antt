@@ -1,19 +1,19 @@
 -- How a board is judged, slot by slot and query by query. Assumes nothing.
 use Rattle.std.specs.Prelude.{if◌then◌else◌}
-use mathlib.Core.Bool.{Bool, true, false, ◌&&◌, ◌||◌, not, and-false, and_assoc, or-true}
+use mathlib.Core.Bool.{Bool, true, false, ◌&&◌, ◌||◌, not, and-false}
 use mathlib.Core.List.{List, [], ◌∷◌}
 use mathlib.Core.Path.{◌≡◌, refl, sym, ap, ◌∙◌}
 use Prim.Native.Nat.{ℕ, zero, suc, ◌+◌, ◌-◌, ◌≤◌, ◌<◌}
 use native.Mathlib.Numerals.{add-one}
 use native.Mathlib.Omega.{arith}
 use lib.Dec.{eqb, leb, ltb}
-use lib.ListN.{length, get_or}
+use lib.ListN.{length}
 use borrow.Author.Tests.{eq-eqb, ne_eqb, lt-ltb, le-ltb, le-leb, lt-leb}
 use Rattle.definition.specs.Lists.{any, all}
 use Rattle.definition.specs.Limits.{query_bytes, most_packs, most_queries, board_words, board_bytes}
 use Rattle.definition.specs.Image.{is_image}
 use Rattle.definition.specs.Lookup.{Reply, refused}
-use Rattle.definition.specs.Board.{each, Lent, lent, pack_count, query_count, slot_start, slot_at, name_length, class_length, slots_in, short_board, are_slots, have_room, is_board}
+use Rattle.definition.specs.Board.{each, Lent, lent, pack_count, query_count, slot_at, name_length, class_length, slots_in, short_board, are_slots, have_room, is_board}
 use Rattle.board_judge.specs.Slots.{number_at, has_number_from, slot_holds, refusal_of}
 
 -- ---- From a number on

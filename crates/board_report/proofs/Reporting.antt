@@ -1,62 +1,25 @@
 -- What the leaving of a pack changes, by what a query finds with it and without it. Assumes nothing.
 use Rattle.std.specs.Prelude.{if◌then◌else◌}
 use mathlib.Core.Bool.{Bool, true, false, not}
-use mathlib.Core.List.{List, [], ◌∷◌, map}
-use mathlib.Core.Option.{Option, some, none}
+use mathlib.Core.List.{List, ◌∷◌, map}
 use mathlib.Core.Path.{◌≡◌, refl, sym, ap, ◌∙◌}
 use Prim.Native.Nat.{ℕ, zero, suc, ◌+◌, ◌*◌, ◌-◌, ◌/◌, ◌^◌, ◌≤◌, ◌<◌}
 use native.Mathlib.Nat.{pow-zero, two-pow-succ, pow-le-pow_right}
 use native.Mathlib.Omega.{arith}
 use lib.Dec.{eqb}
-use lib.ListN.{length, get_or}
 use borrow.Author.Tests.{ne_eqb}
 use Rattle.definition.specs.Lists.{filter, same}
 use Rattle.definition.specs.Limits.{most_packs, most_queries, most_entries}
 use Rattle.definition.specs.Query.{Query}
-use Rattle.definition.specs.Lookup.{Reply, given, no_value, refused, answer_of, Place}
-use Rattle.definition.specs.Board.{
-  Arrival,
-  Pack,
-  kept,
-  Board,
-  leave,
-  has_number,
-  reply_to,
-  changed,
-  if_given,
-  Brought,
-  joined,
-  Found,
-  query_number,
-  watched_answer,
-  answer_bytes,
-  same_answer,
-  each,
-  changes,
-  bits_of,
-  reported,
-  report,
-  Lent,
-  pack_count,
-  query_count,
-  slot_start,
-  slot_at,
-  slots_in,
-  board_in,
-  short_board,
-  is_board,
-  done,
-  writing,
-  board_call,
-  board_report,
-}
+use Rattle.definition.specs.Lookup.{Reply, given, no_value, refused, answer_of}
+use Rattle.definition.specs.Board.{Arrival, Pack, kept, leave, has_number, reply_to, changed, if_given, joined, Found, query_number, watched_answer, answer_bytes, same_answer, each, changes, bits_of, reported, Lent, pack_count, query_count, slot_at, slots_in, board_in, short_board, is_board, done, writing, board_call, board_report}
 use Rattle.laws.proofs.Lists.{both_ways, same_eq, eq_same}
 use Rattle.board_laws.proofs.Slots.{is_other, own_number, kept_without}
 use Rattle.board_laws.proofs.Calls.{laid}
 use Rattle.board_laws.proofs.Histories.{refused_given, queries_held, reports}
 use Rattle.board_laws.proofs.Answers.{board_bytes, left_bytes, leaving_same, same_answer_lem}
 use Rattle.board_judge.proofs.Judging.{each_first}
-use Rattle.board_search.specs.Slots.{passing, spot_of, place_of, Named, spot_value, spot_bytes}
+use Rattle.board_search.specs.Slots.{passing, spot_of, place_of, spot_value, spot_bytes}
 use Rattle.board_search.proofs.Finding.{passing_all, answer_is, value_is, spot_named}
 
 none_given : {A : Type 0} {a : A} → no_value ≡ given a → ⊥

@@ -1,16 +1,16 @@
 -- A watched query, and what the search finds for it. Assumes nothing.
 use Rattle.std.specs.Prelude.{if◌then◌else◌}
-use mathlib.Core.Bool.{Bool, true, false, ◌&&◌}
-use mathlib.Core.List.{List, [], ◌∷◌}
-use mathlib.Core.Path.{◌≡◌, refl, sym, ap, ◌∙◌}
-use Prim.Native.Nat.{ℕ, zero, suc, ◌+◌, ◌≤◌, ◌<◌}
+use mathlib.Core.Bool.{Bool, true, false}
+use mathlib.Core.List.{List, []}
+use mathlib.Core.Path.{◌≡◌, refl, ap, ◌∙◌}
+use Prim.Native.Nat.{ℕ, zero, suc, ◌+◌, ◌<◌}
 use native.Mathlib.Omega.{arith}
 use borrow.Author.Tests.{le-leb}
 use Rattle.definition.specs.Limits.{query_bytes}
-use Rattle.definition.specs.Query.{Position, Query, query_of}
-use Rattle.definition.specs.Ranking.{Best, no_entry, best}
-use Rattle.definition.specs.Lookup.{Reply, given, no_value}
-use Rattle.definition.specs.Board.{Watched, query_number, each, Lent, lent, pack_count, query_count, query_at, board_in, have_room, is_board}
+use Rattle.definition.specs.Query.{Position, query_of}
+use Rattle.definition.specs.Ranking.{no_entry, best}
+use Rattle.definition.specs.Lookup.{given, no_value}
+use Rattle.definition.specs.Board.{Watched, query_number, each, Lent, lent, pack_count, query_count, have_room, is_board}
 use Rattle.laws.proofs.Lists.{and_both}
 use Rattle.board_laws.proofs.Calls.{laid}
 use Rattle.marks.specs.Rows.{is_live, marks_in, best_in}

@@ -18,14 +18,13 @@ use Rattle.definition.specs.Text.{Part, Entry}
 use Rattle.definition.specs.Image.{Row, rows_in, count_of, used_of, key_end, value_end, entry_at, is_image}
 use Rattle.definition.specs.Query.{Position, Query, positions, malformed, past_limit}
 use Rattle.definition.specs.Ranking.{Best, no_entry, best, rank_of, better, best_from, best_of}
-use Rattle.definition.specs.Lookup.{keys_of, value_of, answer_of, Reply, given, no_value, refused}
+use Rattle.definition.specs.Lookup.{keys_of, value_of, answer_of, given}
 use Rattle.definition.specs.Writing.{entries_of_image}
-use Rattle.definition.specs.Board.{Arrival, Pack, kept, Brought, brought_by, joined, nothing_brought, Found, found_at, found_in, query_number, watched_answer, each, Lent, pack_count, slot_at, slots_in, board_in, is_board}
+use Rattle.definition.specs.Board.{Arrival, kept, Brought, brought_by, joined, nothing_brought, found_at, found_in, query_number, watched_answer, each, Lent, pack_count, slot_at, board_in, is_board}
 use Rattle.laws.proofs.Lists.{get_d_map}
 use Rattle.laws.proofs.Image.{image_holds, image_sizes, count_rows}
 use Rattle.board_laws.proofs.Fronts.{front_slice, keeps_entries}
 use Rattle.board_laws.proofs.Calls.{laid}
-use Rattle.image.specs.Rows.{row_at}
 use Rattle.image.proofs.Rows.{row_is}
 use Rattle.image_judge.proofs.Judged.{Judged, judged}
 use Rattle.lookup.specs.Searches.{numbered}

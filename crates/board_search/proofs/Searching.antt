@@ -1,7 +1,7 @@
 -- The search through the slots of a board. Assumes nothing.
 use Rattle.std.specs.Prelude.{if◌then◌else◌}
 use mathlib.Core.Bool.{true}
-use mathlib.Core.List.{List, [], ◌∷◌}
+use mathlib.Core.List.{List}
 use mathlib.Core.Path.{◌≡◌, refl, sym, ap, ◌∙◌}
 use Prim.Native.Nat.{ℕ, zero, suc, ◌+◌, ◌*◌, ◌-◌, ◌≤◌, ◌<◌}
 use native.Mathlib.Numerals.{add-one}
@@ -10,18 +10,15 @@ use native.Mathlib.Omega.{arith}
 use lib.Dec.{eqb}
 use borrow.Author.Tests.{eq-eqb, ne_eqb}
 use Rattle.definition.specs.Limits.{most_entries}
-use Rattle.definition.specs.Text.{Part}
-use Rattle.definition.specs.Image.{Row, rows_from, rows_in, count_of, key_at, key_parts, entries_in, is_image}
+use Rattle.definition.specs.Image.{is_image}
 use Rattle.definition.specs.Query.{Position}
-use Rattle.definition.specs.Ranking.{Best, no_entry, rank_of, better, best_from}
+use Rattle.definition.specs.Ranking.{Best, no_entry, best_from}
 use Rattle.definition.specs.Lookup.{keys_of}
 use Rattle.definition.specs.Writing.{entries_of_image}
 use Rattle.definition.specs.Board.{Arrival, each, Lent, pack_count, slot_at, are_slots, is_board}
 use Rattle.laws.proofs.Lists.{Order, below, equal, above, order}
 use Rattle.board_laws.proofs.Slots.{slots_are}
 use Rattle.board_laws.proofs.Calls.{laid}
-use Rattle.image.specs.Rows.{row_at, rows_left}
-use Rattle.image.proofs.Rows.{rows_turn}
 use Rattle.board_search.specs.Slots.{best_slots}
 
 -- each slot of a board holds an image

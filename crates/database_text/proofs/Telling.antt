@@ -11,7 +11,7 @@ use Rattle.definition.specs.Limits.{contents_words, body_bytes, written_bytes}
 use Rattle.definition.specs.Text.{Entry}
 use Rattle.definition.specs.Image.{is_image}
 use Rattle.definition.specs.Reading.{accepted, refused, Outcome, outcome, reading, plain, read_entries}
-use Rattle.definition.specs.Writing.{text_of, entries_of_image, image_text, written, refused as refusedWriting, Filled, filled, writing}
+use Rattle.definition.specs.Writing.{text_of, image_text, written, refused as refusedWriting, Filled, filled, writing}
 use Rattle.laws.proofs.ThirdTerm.{read_holds}
 use Rattle.laws.proofs.Writing.{image_text_long, bound_suffices}
 use Rattle.printing.specs.Putting.{Appends}

@@ -1,5 +1,5 @@
 -- An answer as getres shows it.
-use Rattle.std.specs.Prelude.{Bool, true, false, List, ◌++◌, ℕ, ◌+◌}
+use Rattle.std.specs.Prelude.{Bool, true, false, List, ◌++◌, ℕ}
 use Rattle.definition.specs.Lists.{ascii, same}
 use Rattle.definition.specs.Lookup.{Reply, given, no_value as noReply, refused as refusedLookup, Place, bytes_at}
 use Rattle.lookup.specs.declared.Lookup.{Lookup}

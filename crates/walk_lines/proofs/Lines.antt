@@ -3,7 +3,7 @@ use Rattle.std.specs.Prelude.{if◌then◌else◌}
 use mathlib.Core.Bool.{Bool, true, false}
 use mathlib.Core.List.{List, [], ◌∷◌, ◌++◌}
 use mathlib.Core.Path.{◌≡◌, refl, sym, ap, ◌∙◌}
-use Prim.Native.Nat.{ℕ, suc, ◌+◌, ◌*◌, ◌≤◌, ◌<◌}
+use Prim.Native.Nat.{ℕ, suc, ◌+◌, ◌*◌, ◌≤◌}
 use native.Mathlib.Nat.{add-zero}
 use native.Mathlib.Numerals.{add-one}
 use native.Mathlib.Omega.{arith}
@@ -16,7 +16,7 @@ use Rattle.definition.specs.Text.{Entry}
 use Rattle.definition.specs.Image.{key_of, Sourced, bare, store_of}
 use Rattle.definition.specs.Query.{Position, Query, positions, malformed, past_limit}
 use Rattle.definition.specs.Walking.{aligns, aligned_from}
-use Rattle.definition.specs.Adding.{numbers_from, numbers_of}
+use Rattle.definition.specs.Adding.{numbers_from}
 use Rattle.printing.specs.Putting.{Appends, decimal}
 use Rattle.printing.proofs.Pieces.{then_piece}
 use Rattle.printing.proofs.Numbers.{decimal_most}

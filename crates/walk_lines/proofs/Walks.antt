@@ -6,7 +6,7 @@ use mathlib.Core.Path.{◌≡◌, refl, sym, ap, ◌∙◌}
 use Prim.Native.Nat.{ℕ, suc, ◌+◌, ◌-◌, ◌≤◌, ◌<◌}
 use native.Mathlib.Numerals.{add-one}
 use native.Mathlib.Omega.{arith}
-use lib.ListN.{length, take, drop, get_or, drop_of_length-le}
+use lib.ListN.{length, take, drop, drop_of_length-le}
 use Rattle.definition.specs.Text.{Entry}
 use Rattle.definition.specs.Archive.{File}
 use Rattle.definition.specs.Image.{Sourced, count_of, origins_in, key_at, is_image}

@@ -5,7 +5,6 @@ use Rattle.definition.specs.Lists.{zeroes}
 use Rattle.definition.specs.Limits.{contents_words, body_bytes}
 use Rattle.answers.proofs.Showing.{looked}
 use Rattle.answers.proofs.Telling.{answer_told_lem}
-use borrow.Author.Rules.{rules}
 use Rattle.answers.proofs.answer.Goals as goal
 
 pub tell-requires : goal.tell-requires

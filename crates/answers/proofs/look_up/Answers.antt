@@ -1,6 +1,5 @@
 -- `answers::look_up` meets its contract. Assumes nothing.
 use Rattle.answers.proofs.Showing.{refused_looks, accepted_looks}
-use borrow.Author.Rules.{rules}
 use Rattle.answers.proofs.look_up.Goals as goal
 
 pub returns-in-Refused : goal.returns-in-Refused

@@ -2,7 +2,6 @@
 use mathlib.Core.List.{map}
 use Rattle.definition.specs.Lists.{zeroes}
 use Rattle.answers_listed.proofs.Telling.{read_image, list_told_lem, refused_told}
-use borrow.Author.Rules.{rules}
 use Rattle.answers_listed.proofs.list_entries.Goals as goal
 
 pub list_image-requires : goal.list_image-requires

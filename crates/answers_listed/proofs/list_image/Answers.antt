@@ -1,7 +1,6 @@
 -- `answers_listed::list_image` meets its contract. Assumes nothing.
 use mathlib.Core.Path.{◌≡◌, sym}
 use native.Mathlib.Omega.{arith}
-use borrow.Author.Rules.{rules}
 use Rattle.definition.specs.Lookup.{given}
 use Rattle.definition.specs.Walking.{walk, walk_start}
 use Rattle.answers_listed.proofs.Telling.{lines_room, told_none, told_some, told_refused}

@@ -1,5 +1,4 @@
 -- `answers_without::answer_twice` meets its contract. Assumes nothing.
-use borrow.Author.Rules.{rules}
 use Rattle.answers_without.proofs.answer_twice.Goals as goal
 
 pub returns : goal.returns

@@ -3,7 +3,6 @@ use mathlib.Core.List.{map}
 use native.Mathlib.Omega.{arith}
 use Rattle.definition.specs.Lists.{zeroes}
 use Rattle.answers_without.proofs.Twice.{both_inside, both_told_lem, none_told, refused_told}
-use borrow.Author.Rules.{rules}
 use Rattle.answers_without.proofs.compare_file.Goals as goal
 
 pub tell_both-requires : goal.tell_both-requires

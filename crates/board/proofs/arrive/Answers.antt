@@ -1,13 +1,11 @@
 -- `board::arrive` meets its contract. Assumes nothing.
-use mathlib.Core.Bool.{true}
-use mathlib.Core.Path.{◌≡◌, refl, sym, ap, ◌∙◌}
+use mathlib.Core.Path.{refl, sym, ap, ◌∙◌}
 use native.Mathlib.Omega.{arith}
-use Rattle.definition.specs.Board.{Call, arrive, Arrival, Lent, lent, is_board, reply_to, board_in}
+use Rattle.definition.specs.Board.{Call, arrive, Arrival, Lent, lent}
 use Rattle.board_laws.proofs.Calls.{laid}
 use Rattle.board_laws.proofs.Histories.{arrive_passed}
 use Rattle.board.specs.Replies.{replied}
 use Rattle.board.proofs.Calling.{call_refused, call_board, call_given}
-use borrow.Author.Rules.{rules}
 use Rattle.board.proofs.arrive.Goals as goal
 
 pub returns-in-Refused : goal.returns-in-Refused

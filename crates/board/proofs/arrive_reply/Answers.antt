@@ -1,6 +1,6 @@
 -- `board::arrive_reply` meets its contract. Assumes nothing.
 use mathlib.Core.Bool.{true}
-use mathlib.Core.Path.{◌≡◌, refl, sym, ap, ◌∙◌}
+use mathlib.Core.Path.{◌≡◌, sym, ◌∙◌}
 use native.Mathlib.Omega.{arith}
 use borrow.Author.Tests.{not-true, not-false}
 use Rattle.definition.specs.Image.{is_image}
@@ -8,7 +8,6 @@ use Rattle.definition.specs.Board.{Arrival, arrive, reply_to, Lent, lent, board_
 use Rattle.board_laws.proofs.Calls.{laid}
 use Rattle.board_judge.proofs.Judging.{goes_on}
 use Rattle.board.proofs.Calling.{answer_away, answer_on, number_present, arrive_no_image, arrive_many, arrive_zero, arrive_present, arrive_done}
-use borrow.Author.Rules.{rules}
 use Rattle.board.proofs.arrive_reply.Goals as goal
 
 pub returns-then-k-ne0 : goal.returns-then-k-ne0

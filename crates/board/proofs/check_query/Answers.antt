@@ -1,7 +1,6 @@
 -- `board::check_query` meets its contract. Assumes nothing.
 use mathlib.Core.List.{List}
-use mathlib.Core.Path.{◌≡◌, refl, sym, ap, ◌∙◌}
-use Prim.Native.Nat.{ℕ}
+use mathlib.Core.Path.{◌≡◌, sym, ap, ◌∙◌}
 use lib.ListN.{take}
 use Rattle.definition.specs.Query.{Query, Position, positions_of, shell, query_of}
 use Rattle.definition.specs.Board.{checked}
@@ -10,7 +9,6 @@ use Rattle.query.specs.Shapes.{shaped}
 use Rattle.query.specs.declared.Shape.{Shape}
 use Rattle.query.specs.declared.Shape.TheVariants.{Good, Malformed, Many, Long}
 use Rattle.query.proofs.Queries.{told_shell, query_is}
-use borrow.Author.Rules.{rules}
 use Rattle.board.proofs.check_query.Goals as goal
 
 pub returns-in-Long : goal.returns-in-Long

@@ -2,7 +2,6 @@
 use native.Mathlib.Omega.{arith}
 use Rattle.definition.specs.Board.{lent, slot_start, body_start}
 use Rattle.board.proofs.Writing.{slot_dropped}
-use borrow.Author.Rules.{rules}
 use Rattle.board.proofs.drop_slot.Goals as goal
 
 pub move_words-requires : goal.move_words-requires

@@ -9,7 +9,6 @@ use Rattle.definition.specs.Image.{count_of, used_of}
 use Rattle.definition.specs.Board.{lent, slot_start, body_start}
 use Rattle.laws.proofs.Image.{Holds, image_holds}
 use Rattle.board.proofs.Writing.{pack_written}
-use borrow.Author.Rules.{rules}
 use Rattle.board.proofs.keep_pack.Goals as goal
 
 pub bounds-contents-0 : goal.bounds-contents-0

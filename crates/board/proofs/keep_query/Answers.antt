@@ -1,10 +1,8 @@
 -- `board::keep_query` meets its contract. Assumes nothing.
-use mathlib.Core.Path.{refl}
 use native.Mathlib.Omega.{arith}
 use lib.ListN.{length-set}
 use Rattle.definition.specs.Board.{lent, lengths_start, text_start}
 use Rattle.board.proofs.Writing.{query_written}
-use borrow.Author.Rules.{rules}
 use Rattle.board.proofs.keep_query.Goals as goal
 
 pub offset_bounds-words-at : goal.offset_bounds-words-at

@@ -1,6 +1,5 @@
 -- `board::leave` meets its contract. Assumes nothing.
-use mathlib.Core.Bool.{true}
-use mathlib.Core.Path.{◌≡◌, refl, sym, ap, ◌∙◌}
+use mathlib.Core.Path.{sym, ap, ◌∙◌}
 use native.Mathlib.Omega.{arith}
 use Rattle.definition.specs.Board.{Call, leave, Lent, lent}
 use Rattle.board_laws.proofs.Calls.{laid}
@@ -8,7 +7,6 @@ use Rattle.board_laws.proofs.Histories.{leave_passed}
 use Rattle.board.specs.Replies.{replied}
 use Rattle.board.proofs.Calling.{call_refused, call_board, call_given}
 use Rattle.board.proofs.Writing.{pack_gone, gone_inside}
-use borrow.Author.Rules.{rules}
 use Rattle.board.proofs.leave.Goals as goal
 
 pub returns-in-Refused : goal.returns-in-Refused

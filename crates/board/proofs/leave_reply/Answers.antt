@@ -1,12 +1,11 @@
 -- `board::leave_reply` meets its contract. Assumes nothing.
 use mathlib.Core.Bool.{true}
-use mathlib.Core.Path.{◌≡◌, refl, sym, ◌∙◌}
+use mathlib.Core.Path.{◌≡◌, sym, ◌∙◌}
 use native.Mathlib.Omega.{arith}
 use Rattle.definition.specs.Board.{leave, lent, is_board}
 use Rattle.board_laws.proofs.Calls.{laid}
 use Rattle.board_judge.proofs.Judging.{goes_on}
 use Rattle.board.proofs.Calling.{answer_away, answer_on, number_present, leave_zero, leave_absent, leave_done}
-use borrow.Author.Rules.{rules}
 use Rattle.board.proofs.leave_reply.Goals as goal
 
 pub returns-then-k-ne0 : goal.returns-then-k-ne0

@@ -1,11 +1,10 @@
 -- `board::make` meets its contract. Assumes nothing.
-use mathlib.Core.Path.{◌≡◌, sym, ◌∙◌}
+use mathlib.Core.Path.{sym, ◌∙◌}
 use native.Mathlib.Omega.{arith}
 use lib.ListN.{length-set}
 use Rattle.definition.specs.Board.{lent}
 use Rattle.board_laws.proofs.Calls.{long_board}
 use Rattle.board.proofs.Writing.{made_short, made_is}
-use borrow.Author.Rules.{rules}
 use Rattle.board.proofs.make.Goals as goal
 
 pub returns-then-is_short : goal.returns-then-is_short

@@ -1,10 +1,6 @@
 -- `board::slots_before` meets its contract. The invariant: all slots before i have another number. Assumes nothing.
-use mathlib.Core.Path.{◌≡◌, sym, ◌∙◌}
-use Prim.Native.Nat.{◌+◌, ◌-◌}
-use native.Mathlib.Omega.{arith}
-use Rattle.board.specs.Replies.{before_number}
-use Rattle.board.proofs.Writing.{Before, before_first, before_found, before_more, before_end}
-use borrow.Author.Rules.{rules}
+use mathlib.Core.Path.{sym, ◌∙◌}
+use Rattle.board.proofs.Writing.{before_first, before_found, before_more, before_end}
 use Rattle.board.proofs.slots_before.Goals as goal
 
 pub loop-i-init : goal.loop-i-init

@@ -1,12 +1,11 @@
 -- `board::watch_reply` meets its contract. Assumes nothing.
 use mathlib.Core.Bool.{true}
-use mathlib.Core.Path.{◌≡◌, refl, sym, ap, ◌∙◌}
+use mathlib.Core.Path.{◌≡◌, ◌∙◌}
 use native.Mathlib.Omega.{arith}
 use Rattle.definition.specs.Board.{Watched, watch, lent, is_board}
 use Rattle.board_laws.proofs.Calls.{laid}
 use Rattle.board_judge.proofs.Judging.{goes_on}
 use Rattle.board.proofs.Calling.{answer_away, answer_on, query_many, query_checked}
-use borrow.Author.Rules.{rules}
 use Rattle.board.proofs.watch_reply.Goals as goal
 
 pub returns-then-k-ne0 : goal.returns-then-k-ne0

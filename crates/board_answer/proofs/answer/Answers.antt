@@ -5,7 +5,6 @@ use Rattle.definition.specs.Board.{Lent, lent}
 use Rattle.board_laws.proofs.Histories.{answered}
 use Rattle.board_judge.proofs.Judging.{goes_on}
 use Rattle.board_answer.proofs.Answering.{answer_away}
-use borrow.Author.Rules.{rules}
 use Rattle.board_answer.proofs.answer.Goals as goal
 
 pub returns-then-k-ne0 : goal.returns-then-k-ne0

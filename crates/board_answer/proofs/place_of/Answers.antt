@@ -1,16 +1,11 @@
 -- `board_answer::place_of` meets its contract. Assumes nothing.
 use mathlib.Core.List.{[]}
-use mathlib.Core.Path.{◌≡◌, refl, sym, ap, ◌∙◌}
-use Prim.Native.Nat.{ℕ, ◌/◌, ◌%◌, ◌≤◌, ◌+◌}
-use native.Mathlib.Nat.{mod-lt, div-lt_iff_lt-mul}
+use Prim.Native.Nat.{◌/◌}
+use native.Mathlib.Nat.{mod-lt}
 use native.Mathlib.Omega.{arith}
-use lib.ListN.{length}
-use Rattle.definition.specs.Limits.{most_entries, contents_words}
-use Rattle.definition.specs.Board.{lent, slot_at}
-use Rattle.board_search.specs.Slots.{place_of}
-use Rattle.image.specs.Rows.{row_start}
+use Rattle.definition.specs.Limits.{most_entries}
+use Rattle.definition.specs.Board.{lent}
 use Rattle.board_answer.proofs.Answering.{slot_long, place_is}
-use borrow.Author.Rules.{rules}
 use Rattle.board_answer.proofs.place_of.Goals as goal
 
 pub row_at-row-requires : goal.row_at-row-requires

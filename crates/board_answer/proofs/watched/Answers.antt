@@ -8,7 +8,6 @@ use Rattle.board_search.specs.Slots.{place_of}
 use Rattle.board_search.proofs.Finding.{answer_is, spot_named, named_small}
 use Rattle.board_search.specs.Spots.{spot_replied}
 use Rattle.board_answer.proofs.Answering.{watched_none, place_words}
-use borrow.Author.Rules.{rules}
 use Rattle.board_answer.proofs.watched.Goals as goal
 
 pub bounds-words-1 : goal.bounds-words-1

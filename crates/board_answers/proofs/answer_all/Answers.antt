@@ -4,7 +4,6 @@ use Rattle.definition.specs.Board.{Lent, lent}
 use Rattle.board_laws.proofs.Calls.{laid}
 use Rattle.board_judge.proofs.Judging.{goes_on}
 use Rattle.board_answers.proofs.Answers.{all_away, all_given}
-use borrow.Author.Rules.{rules}
 use Rattle.board_answers.proofs.answer_all.Goals as goal
 
 pub returns-then-k-ne0 : goal.returns-then-k-ne0

@@ -1,12 +1,9 @@
 -- `board_answers::put_answers` meets its contract. The invariant is `Put`. Assumes nothing.
 use mathlib.Core.Path.{sym, ◌∙◌}
-use Prim.Native.Nat.{◌-◌}
 use native.Mathlib.Omega.{arith}
-use Rattle.definition.specs.Limits.{most_queries}
 use Rattle.definition.specs.Board.{lent}
 use Rattle.board_laws.proofs.Histories.{answered}
-use Rattle.board_answers.proofs.Answers.{answer_small, Put, put_first, put_long, put_more, put_all}
-use borrow.Author.Rules.{rules}
+use Rattle.board_answers.proofs.Answers.{answer_small, put_first, put_long, put_more, put_all}
 use Rattle.board_answers.proofs.put_answers.Goals as goal
 
 pub loop-q-init : goal.loop-q-init

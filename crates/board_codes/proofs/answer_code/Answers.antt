@@ -3,7 +3,6 @@ use mathlib.Core.Path.{refl}
 use Prim.Native.Nat.{◌+◌, ◌≤◌}
 use native.Mathlib.Omega.{arith}
 use Rattle.definition.specs.Limits.{body_bytes}
-use borrow.Author.Rules.{rules}
 use Rattle.board_codes.proofs.answer_code.Goals as goal
 
 pub returns-in-Found : goal.returns-in-Found

@@ -3,7 +3,6 @@ use mathlib.Core.Path.{refl}
 use Prim.Native.Nat.{◌<◌}
 use native.Mathlib.Omega.{arith}
 use Rattle.definition.specs.Limits.{most_queries}
-use borrow.Author.Rules.{rules}
 use Rattle.board_codes.proofs.call_code.Goals as goal
 
 pub returns-in-Done : goal.returns-in-Done

@@ -1,6 +1,5 @@
 -- `board_codes::report_code` meets its contract. Assumes nothing.
 use mathlib.Core.Path.{refl}
-use borrow.Author.Rules.{rules}
 use Rattle.board_codes.proofs.report_code.Goals as goal
 
 pub returns-in-Bits : goal.returns-in-Bits

@@ -1,9 +1,6 @@
 -- `board_judge::has_number` meets its contract. The invariant: the slots from i on decide. Assumes nothing.
-use mathlib.Core.Path.{◌≡◌, refl, sym, ◌∙◌}
-use Prim.Native.Nat.{◌-◌}
-use Rattle.board_judge.specs.Slots.{has_number_from}
+use mathlib.Core.Path.{refl, sym, ◌∙◌}
 use Rattle.board_judge.proofs.Judging.{number_found, number_on, number_none}
-use borrow.Author.Rules.{rules}
 use Rattle.board_judge.proofs.has_number.Goals as goal
 
 pub returns-then-pack_number-number : goal.returns-then-pack_number-number

@@ -1,13 +1,12 @@
 -- `board_judge::have_room` meets its contract. The invariant: the queries from q on decide. Assumes nothing.
 use mathlib.Core.List.{[]}
-use mathlib.Core.Path.{◌≡◌, sym, ap, ◌∙◌}
-use Prim.Native.Nat.{ℕ, ◌-◌}
+use mathlib.Core.Path.{sym, ap, ◌∙◌}
+use Prim.Native.Nat.{ℕ}
 use native.Mathlib.Nat.{sub-zero}
 use native.Mathlib.Omega.{arith}
 use Rattle.definition.specs.Lists.{all}
 use Rattle.definition.specs.Board.{each, lent, have_room}
 use Rattle.board_judge.proofs.Judging.{room_name, room_class, room_on, rooms_end}
-use borrow.Author.Rules.{rules}
 use Rattle.board_judge.proofs.have_room.Goals as goal
 
 pub loop-q-init : goal.loop-q-init

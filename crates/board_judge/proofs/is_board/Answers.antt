@@ -5,7 +5,6 @@ use Prim.Native.Nat.{◌≤◌}
 use native.Mathlib.Omega.{arith}
 use lib.ListN.{length}
 use borrow.Author.Tests.{not-true, not-false}
-use borrow.Author.Rules.{rules}
 use Rattle.definition.specs.Limits.{board_words, board_bytes}
 use Rattle.definition.specs.Board.{lent, short_board}
 use Rattle.board_laws.proofs.Calls.{long_board}

@@ -2,7 +2,6 @@
 use mathlib.Core.Path.{sym}
 use Rattle.definition.specs.Board.{lent}
 use Rattle.board_judge.proofs.Judging.{short_words, short_bytes}
-use borrow.Author.Rules.{rules}
 use Rattle.board_judge.proofs.is_short.Goals as goal
 
 pub returns-then-words-lt-BOARD_WORDS : goal.returns-then-words-lt-BOARD_WORDS

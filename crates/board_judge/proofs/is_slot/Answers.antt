@@ -2,7 +2,6 @@
 use mathlib.Core.Path.{sym, ◌∙◌}
 use Rattle.definition.specs.Board.{lent, slot_at}
 use Rattle.board_judge.proofs.Judging.{slot_zero, slot_twice, slot_judged}
-use borrow.Author.Rules.{rules}
 use Rattle.board_judge.proofs.is_slot.Goals as goal
 
 pub returns-then-number-eq0 : goal.returns-then-number-eq0

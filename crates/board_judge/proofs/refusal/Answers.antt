@@ -1,7 +1,6 @@
 -- `board_judge::refusal` meets its contract. Assumes nothing.
 use mathlib.Core.Path.{sym, ◌∙◌}
 use borrow.Author.Tests.{not-true, not-false}
-use borrow.Author.Rules.{rules}
 use Rattle.definition.specs.Board.{lent}
 use Rattle.board_judge.proofs.Judging.{refuses_short, refuses_other, refuses_none}
 use Rattle.board_judge.proofs.refusal.Goals as goal

@@ -1,12 +1,8 @@
 -- `board_report::bits_of` meets its contract: the bits of the queries from q on. Assumes nothing.
-use mathlib.Core.Path.{◌≡◌, refl, sym, ap, ◌∙◌}
-use Prim.Native.Nat.{◌-◌}
 use native.Mathlib.Omega.{arith}
-use lib.ListN.{get_or}
-use Rattle.definition.specs.Board.{changes, lent, slot_start, board_in}
+use Rattle.definition.specs.Board.{lent}
 use Rattle.board_laws.proofs.Calls.{laid}
-use Rattle.board_report.proofs.Reporting.{Bits, bits_first, bits_more, bits_fit, bits_end}
-use borrow.Author.Rules.{rules}
+use Rattle.board_report.proofs.Reporting.{bits_first, bits_more, bits_fit, bits_end}
 use Rattle.board_report.proofs.bits_of.Goals as goal
 
 pub loop-q-init : goal.loop-q-init

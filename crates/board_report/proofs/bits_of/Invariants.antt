@@ -1,12 +1,7 @@
 -- `board_report::bits_of` meets its contract: the bits of the queries from q on. Assumes nothing.
-use mathlib.Core.Path.{◌≡◌, refl, sym, ap, ◌∙◌}
-use Prim.Native.Nat.{◌-◌}
-use native.Mathlib.Omega.{arith}
 use lib.ListN.{get_or}
 use Rattle.definition.specs.Board.{changes, lent, slot_start, board_in}
-use Rattle.board_laws.proofs.Calls.{laid}
-use Rattle.board_report.proofs.Reporting.{Bits, bits_first, bits_more, bits_fit, bits_end}
-use borrow.Author.Rules.{rules}
+use Rattle.board_report.proofs.Reporting.{Bits}
 use Rattle.board_report.proofs.bits_of.Given as goal
 
 abbrev pub invariant-loop-q : goal.invariant-loop-q

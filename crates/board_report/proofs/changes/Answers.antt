@@ -1,12 +1,9 @@
 -- `board_report::changes` meets its contract. Assumes nothing.
-use mathlib.Core.Path.{◌≡◌, refl, sym, ap, ◌∙◌}
-use Rattle.definition.specs.Limits.{most_packs}
-use Rattle.definition.specs.Board.{query_number, Lent, lent, slot_at, board_in}
-use Rattle.board_search.specs.Slots.{spot_of}
+use mathlib.Core.Path.{sym, ap, ◌∙◌}
+use Rattle.definition.specs.Board.{Lent, lent, slot_at}
 use Rattle.board_search.specs.Spots.{spot_replied}
 use Rattle.board_search.proofs.Finding.{spot_named}
 use Rattle.board_report.proofs.Reporting.{unchanged_none, unchanged_other, changed_gone, changed_value}
-use borrow.Author.Rules.{rules}
 use Rattle.board_report.proofs.changes.Goals as goal
 
 pub returns-then-n-i : goal.returns-then-n-i

@@ -1,7 +1,5 @@
 -- `board_report::differ` meets its contract. Assumes nothing.
-use mathlib.Core.Path.{◌≡◌, sym, ap, ◌∙◌}
 use Rattle.board_report.proofs.Reporting.{values_differ}
-use borrow.Author.Rules.{rules}
 use Rattle.board_report.proofs.differ.Goals as goal
 
 pub returns : goal.returns

@@ -3,14 +3,13 @@ use mathlib.Core.Bool.{true}
 use mathlib.Core.Path.{◌≡◌, refl, sym, ap, ◌∙◌}
 use native.Mathlib.Omega.{arith}
 use Rattle.definition.specs.Lookup.{given}
-use Rattle.definition.specs.Board.{leave, changes, each, bits_of, reply_to, board_in, Lent, lent, is_board}
+use Rattle.definition.specs.Board.{leave, reply_to, board_in, Lent, lent, is_board}
 use Rattle.board_laws.proofs.Calls.{Laid, laid}
 use Rattle.board_laws.proofs.Histories.{leave_passed}
 use Rattle.board.specs.Replies.{replied}
 use Rattle.board.proofs.Calling.{call_board}
 use Rattle.board.proofs.Writing.{number_there, gone_inside}
 use Rattle.board_report.proofs.Reporting.{report_away, report_given}
-use borrow.Author.Rules.{rules}
 use Rattle.board_report.proofs.report.Goals as goal
 
 pub bounds-words-0 : goal.bounds-words-0

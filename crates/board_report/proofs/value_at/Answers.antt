@@ -1,17 +1,14 @@
 -- `board_report::value_at` meets its contract. Assumes nothing.
 use mathlib.Core.List.{List}
-use mathlib.Core.Path.{◌≡◌, refl, sym, ap, ◌∙◌}
+use mathlib.Core.Path.{ap, ◌∙◌}
 use Prim.Native.Nat.{ℕ}
 use native.Mathlib.Omega.{arith}
-use lib.ListN.{length}
 use Rattle.definition.specs.Image.{value_at}
-use Rattle.definition.specs.Limits.{most_entries}
 use Rattle.definition.specs.Board.{Lent, lent, slot_at}
 use Rattle.board_laws.proofs.Calls.{Laid, laid}
 use Rattle.image_judge.proofs.Parts.{rows_inside, value_part_lem, row_within}
 use Rattle.board_search.specs.Slots.{row_of}
 use Rattle.board_search.proofs.Searching.{slot_image}
-use borrow.Author.Rules.{rules}
 use Rattle.board_report.proofs.value_at.Goals as goal
 
 pub slot_contents-requires : goal.slot_contents-requires

@@ -1,7 +1,6 @@
 -- `board_report::with_bit` meets its contract. Assumes nothing.
 use mathlib.Core.Path.{refl}
 use native.Mathlib.Omega.{arith}
-use borrow.Author.Rules.{rules}
 use Rattle.board_report.proofs.with_bit.Goals as goal
 
 pub returns-then-bit : goal.returns-then-bit

@@ -3,7 +3,6 @@ use mathlib.Core.List.{List}
 use mathlib.Core.Path.{◌≡◌, refl, sym, ap, ◌∙◌}
 use Prim.Native.Nat.{ℕ, ◌+◌}
 use native.Mathlib.Omega.{arith}
-use lib.ListN.{take}
 use Rattle.definition.specs.Query.{Query, Position, positions_of, shell, query_of}
 use Rattle.definition.specs.Board.{query_number, Lent, lent, query_count, query_at, board_in}
 use Rattle.query.specs.Splits.{names_in}
@@ -17,7 +16,6 @@ use Rattle.lookup.specs.Searches.{starts_of, lengths_of}
 use Rattle.lookup.proofs.Looking.{split_in}
 use Rattle.board_search.specs.Slots.{spot_of}
 use Rattle.board_search.proofs.Asking.{query_number_lem, room_of}
-use borrow.Author.Rules.{rules}
 use Rattle.board_search.proofs.find.Goals as goal
 
 pub query_name-name-requires : goal.query_name-name-requires

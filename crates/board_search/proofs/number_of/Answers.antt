@@ -1,6 +1,5 @@
 -- `board_search::number_of` meets its contract. Assumes nothing.
 use mathlib.Core.Path.{refl}
-use borrow.Author.Rules.{rules}
 use borrow.Author.Tests.{lt-ltb, le-ltb}
 use Rattle.board_search.specs.Slots.{number_after}
 use Rattle.board_search.proofs.number_of.Goals as goal

@@ -1,24 +1,22 @@
 -- `board_search::search_board` meets its contract: going on from slot i with the best so far comes to what is looked for. Assumes nothing.
-use mathlib.Core.Bool.{true, false}
-use mathlib.Core.Path.{◌≡◌, refl, sym, ap, ◌∙◌}
-use Prim.Native.Nat.{◌-◌, ◌≤◌, ◌<◌, max}
+use mathlib.Core.Bool.{false}
+use mathlib.Core.Path.{refl, ap, ◌∙◌}
+use Prim.Native.Nat.{max}
 use native.Mathlib.Omega.{arith}
 use lib.ListN.{length}
-use borrow.Author.Rules.{rules}
 use borrow.Author.Tests.{lt-ltb, le-ltb}
 use Rattle.definition.specs.Lists.{zeroes}
 use Rattle.definition.specs.Image.{rows_in, count_of}
-use Rattle.definition.specs.Board.{Lent, lent, pack_count, slot_at, is_board}
+use Rattle.definition.specs.Board.{Lent, lent, slot_at}
 use Rattle.laws.proofs.Image.{count_rows}
 use Rattle.board_laws.proofs.Calls.{Laid, laid}
 use Rattle.image_judge.proofs.Judged.{Judged, judged}
 use Rattle.marks.specs.Rows.{best_in}
-use Rattle.positions.specs.Parts.{queried}
-use Rattle.lookup.specs.Searches.{row_held, Kept, number_or}
+use Rattle.lookup.specs.Searches.{row_held, number_or}
 use Rattle.lookup.proofs.Looking.{begun_none, keys_long, searched_all}
 use Rattle.board_search.proofs.Asking.{spot_best}
 use Rattle.board_search.proofs.Numbering.{found_on}
-use Rattle.board_search.proofs.Searching.{slot_image, Passing, passing_first, passing_over, passing_on, passing_end}
+use Rattle.board_search.proofs.Searching.{slot_image, passing_first, passing_over, passing_on, passing_end}
 use Rattle.board_search.proofs.search_board.Goals as goal
 use Rattle.board_search.proofs.search_board.Goals.{then-i-skip, else-i-skip}
 
@@ -98,11 +96,11 @@ loop-i-preserved c =
     let all = searched_all a.contents a.bodies _ (best_in long (count_of a.contents) (row_held c.loop-i.held)) in
     let size = keys_long (rows_in a.contents) a.bodies ∙ count_rows a.contents in
     elim c.if-i-skip.branch [
-      then-i-skip w ↦
-        let s = rw (w.slot_contents-contents.ensures, w.slot_bodies.ensures) at w.search-entry.ensures in
-        let n = rw w.slot_contents-contents.ensures at w.number_of-found.ensures in
-        let f = found_on long c.loop-i.i (count_of a.contents) c.loop-i.found (row_held c.loop-i.held) w.search-entry.result _ _ _ size (s.2.is ∙ all) (s.0 ∙ ap (number_or (count_of a.contents)) all) in
-        rw (w.found-is, w.held-is, n) (passing_on board _ _ c.loop-i.invariant.0 c.loop-i-test.true w.if-i-skip.true _ f, s.2.kept)
+      | then-i-skip w ↦
+          let s = rw (w.slot_contents-contents.ensures, w.slot_bodies.ensures) at w.search-entry.ensures in
+          let n = rw w.slot_contents-contents.ensures at w.number_of-found.ensures in
+          let f = found_on long c.loop-i.i (count_of a.contents) c.loop-i.found (row_held c.loop-i.held) w.search-entry.result _ _ _ size (s.2.is ∙ all) (s.0 ∙ ap (number_or (count_of a.contents)) all) in
+          rw (w.found-is, w.held-is, n) (passing_on board _ _ c.loop-i.invariant.0 c.loop-i-test.true w.if-i-skip.true _ f, s.2.kept)
       | else-i-skip w ↦ rw (w.found-is, w.held-is) (passing_over board _ _ c.loop-i.invariant.0 c.loop-i-test.true w.if-i-skip.false, c.loop-i.invariant.1)
     ]
 

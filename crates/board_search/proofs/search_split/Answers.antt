@@ -1,7 +1,6 @@
 -- `board_search::search_split` meets its contract. Assumes nothing.
 use mathlib.Core.Path.{sym}
 use lib.Seq.{length-take-le}
-use borrow.Author.Rules.{rules}
 use Rattle.board_search.proofs.search_split.Goals as goal
 
 pub slice_bounds-search_board-end : goal.slice_bounds-search_board-end

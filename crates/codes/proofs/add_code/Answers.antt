@@ -3,7 +3,6 @@ use mathlib.Core.Path.{refl}
 use Prim.Native.Nat.{◌≤◌}
 use native.Mathlib.Omega.{arith}
 use Rattle.definition.specs.Limits.{most_entries}
-use borrow.Author.Rules.{rules}
 use Rattle.codes.proofs.add_code.Goals as goal
 
 pub returns-in-Number : goal.returns-in-Number

@@ -1,7 +1,6 @@
 -- `codes::compare_code` meets its contract. Assumes nothing.
 use mathlib.Core.Path.{refl}
 use Rattle.codes.specs.Codes.{Small}
-use borrow.Author.Rules.{rules}
 use Rattle.codes.proofs.compare_code.Goals as goal
 
 pub returns-in-Both : goal.returns-in-Both

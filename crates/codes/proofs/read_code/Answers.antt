@@ -3,7 +3,6 @@ use mathlib.Core.Path.{refl}
 use Prim.Native.Nat.{◌≤◌}
 use native.Mathlib.Omega.{arith}
 use Rattle.definition.specs.Limits.{most_entries, most_opens}
-use borrow.Author.Rules.{rules}
 use Rattle.codes.proofs.read_code.Goals as goal
 
 pub returns-in-Accepted : goal.returns-in-Accepted

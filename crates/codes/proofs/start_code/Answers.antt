@@ -1,6 +1,5 @@
 -- `codes::start_code` meets its contract. Assumes nothing.
 use mathlib.Core.Path.{refl}
-use borrow.Author.Rules.{rules}
 use Rattle.codes.proofs.start_code.Goals as goal
 
 pub returns-in-Begun : goal.returns-in-Begun

@@ -6,7 +6,6 @@ use native.Mathlib.Omega.{arith}
 use Rattle.definition.specs.Limits.{most_entries}
 use Rattle.definition.specs.Walking.{after_step}
 use Rattle.codes.specs.Codes.{from16, stepping}
-use borrow.Author.Rules.{rules}
 use Rattle.codes.proofs.step_code.Goals as goal
 
 pub returns-in-Listed : goal.returns-in-Listed

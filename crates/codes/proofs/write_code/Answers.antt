@@ -3,7 +3,6 @@ use mathlib.Core.Path.{refl}
 use Prim.Native.Nat.{◌≤◌}
 use native.Mathlib.Omega.{arith}
 use Rattle.definition.specs.Limits.{written_bytes}
-use borrow.Author.Rules.{rules}
 use Rattle.codes.proofs.write_code.Goals as goal
 
 pub returns-in-Done : goal.returns-in-Done

@@ -2,7 +2,6 @@
 use mathlib.Core.List.{map}
 use Rattle.definition.specs.Lists.{zeroes}
 use Rattle.database_text.proofs.Telling.{read_image, text_told, refused_told}
-use borrow.Author.Rules.{rules}
 use Rattle.database_text.proofs.write_database.Goals as goal
 
 pub write_image-requires : goal.write_image-requires

@@ -1,5 +1,4 @@
 -- `database_text::write_image` meets its contract. Assumes nothing.
-use borrow.Author.Rules.{rules}
 use Rattle.database_text.proofs.Telling.{image_told, image_writes}
 use Rattle.database_text.proofs.write_image.Goals as goal
 

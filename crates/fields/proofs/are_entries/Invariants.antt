@@ -1,10 +1,7 @@
 -- `fields::are_entries` meets its contract. Assumes nothing.
 use Prim.Native.Nat.{◌-◌}
-use native.Mathlib.Omega.{arith}
-use borrow.Author.Rules.{rules}
 use Rattle.definition.specs.Image.{count_of}
-use Rattle.image_judge.proofs.Judged.{judged}
-use Rattle.fields.proofs.Rows.{Walk, walk_begun, walk_ended, key_differs, value_differs, walk_next, row_there, row_inside}
+use Rattle.fields.proofs.Rows.{Walk}
 use Rattle.fields.proofs.are_entries.Given as goal
 
 abbrev pub invariant-loop-i : goal.invariant-loop-i

@@ -1,9 +1,6 @@
 -- `fields::decode` meets its contract. Assumes nothing.
-use Prim.Native.Nat.{◌-◌}
 use native.Mathlib.Omega.{arith}
-use lib.ListN.{length}
-use borrow.Author.Rules.{rules}
-use Rattle.fields.proofs.Digits.{no_room, no_pair, no_high, no_low, Decoding, begun, more, ended}
+use Rattle.fields.proofs.Digits.{no_room, no_pair, no_high, no_low, begun, more, ended}
 use Rattle.fields.proofs.decode.Goals as goal
 
 pub returns-then-high-gt15 : goal.returns-then-high-gt15

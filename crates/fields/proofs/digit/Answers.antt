@@ -1,5 +1,4 @@
 -- `fields::digit` meets its contract. Assumes nothing.
-use borrow.Author.Rules.{rules}
 use native.Mathlib.Omega.{arith}
 use Rattle.fields.proofs.Digits.{digit_number, digit_letter, digit_below, digit_between, digit_above}
 use Rattle.fields.proofs.digit.Goals as goal

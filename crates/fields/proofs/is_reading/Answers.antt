@@ -1,7 +1,6 @@
 -- `fields::is_reading` meets its contract. Assumes nothing.
 use mathlib.Core.Bool.{true}
 use mathlib.Core.Path.{◌≡◌, sym, ◌∙◌}
-use borrow.Author.Rules.{rules}
 use borrow.Author.Tests.{not-true, not-false}
 use Rattle.definition.specs.Image.{is_image}
 use Rattle.fields.proofs.Rows.{no_image, other_opens, other_entries, has_rows}

@@ -2,7 +2,6 @@
 use Prim.Native.Nat.{ℕ}
 use native.Mathlib.Omega.{arith}
 use lib.ListN.{length-replicate}
-use borrow.Author.Rules.{rules}
 use Rattle.fields.proofs.Passing.{bytes_yes, bytes_no}
 use Rattle.fields.proofs.pass_bytes.Goals as goal
 

@@ -1,6 +1,5 @@
 -- `listing::list` meets its contract. Assumes nothing.
 use native.Mathlib.Omega.{arith}
-use borrow.Author.Rules.{rules}
 use Rattle.definition.specs.Lists.{ascii, zeroes}
 use Rattle.printing.proofs.Pieces.{piece_long}
 use Rattle.list_lines.proofs.Lines.{word_most}

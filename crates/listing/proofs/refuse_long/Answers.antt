@@ -1,6 +1,5 @@
 -- `listing::refuse_long` meets its contract. Assumes nothing.
 use native.Mathlib.Omega.{arith}
-use borrow.Author.Rules.{rules}
 use Rattle.definition.specs.Lists.{ascii}
 use Rattle.list_lines.proofs.Lines.{word_most}
 use Rattle.listing.proofs.Printing.{refuses_long}

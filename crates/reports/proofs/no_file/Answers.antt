@@ -2,7 +2,6 @@
 use native.Mathlib.Omega.{arith}
 use Rattle.printing.proofs.Pieces.{piece_long}
 use Rattle.reports.proofs.Telling.{not_among_lem}
-use borrow.Author.Rules.{rules}
 use Rattle.reports.proofs.no_file.Goals as goal
 
 pub put-end-requires-2 : goal.put-end-requires-2

@@ -3,7 +3,6 @@ use native.Mathlib.Omega.{arith}
 use Rattle.printing.proofs.Pieces.{piece_long}
 use Rattle.refusals.proofs.Words.{reason_most}
 use Rattle.reports.proofs.Telling.{refused_reports}
-use borrow.Author.Rules.{rules}
 use Rattle.reports.proofs.refuse.Goals as goal
 
 pub put_reason-end-requires : goal.put_reason-end-requires

@@ -3,7 +3,6 @@ use native.Mathlib.Omega.{arith}
 use Rattle.printing.proofs.Pieces.{piece_long}
 use Rattle.showing.proofs.Lines.{part_long}
 use Rattle.reports.proofs.Telling.{told_value, told_none, told_refused}
-use borrow.Author.Rules.{rules}
 use Rattle.reports.proofs.tell.Goals as goal
 
 pub overflow_add-place : goal.overflow_add-place

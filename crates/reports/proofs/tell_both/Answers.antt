@@ -5,7 +5,6 @@ use Rattle.definition.specs.Lists.{ascii}
 use Rattle.printing.proofs.Pieces.{piece_long}
 use Rattle.showing.proofs.Lines.{line_most}
 use Rattle.reports.proofs.Telling.{both_equal, both_different}
-use borrow.Author.Rules.{rules}
 use Rattle.reports.proofs.tell_both.Goals as goal
 
 pub put_line-end-requires : goal.put_line-end-requires

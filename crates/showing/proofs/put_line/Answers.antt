@@ -2,7 +2,6 @@
 use native.Mathlib.Omega.{arith}
 use Rattle.printing.proofs.Pieces.{piece_long}
 use Rattle.showing.proofs.Lines.{words_most, line_put}
-use borrow.Author.Rules.{rules}
 use Rattle.showing.proofs.put_line.Goals as goal
 
 pub put-end-requires : goal.put-end-requires

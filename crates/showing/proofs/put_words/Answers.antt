@@ -2,7 +2,6 @@
 use native.Mathlib.Omega.{arith}
 use Rattle.printing.proofs.Pieces.{piece_long}
 use Rattle.showing.proofs.Lines.{part_long, words_found, words_none, words_refused}
-use borrow.Author.Rules.{rules}
 use Rattle.showing.proofs.put_words.Goals as goal
 
 pub overflow_add-place : goal.overflow_add-place

@@ -3,7 +3,6 @@ use mathlib.Core.Path.{refl}
 use native.Mathlib.Omega.{arith}
 use Rattle.showing.specs.Showing.{same_shown}
 use Rattle.showing.proofs.Lines.{same_found}
-use borrow.Author.Rules.{rules}
 use Rattle.showing.proofs.same_answer.Goals as goal
 
 pub overflow_add-p : goal.overflow_add-p

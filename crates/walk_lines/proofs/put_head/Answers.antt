@@ -2,7 +2,6 @@
 use Prim.Native.Nat.{◌+◌, ◌≤◌}
 use native.Mathlib.Omega.{arith}
 use lib.ListN.{length}
-use borrow.Author.Rules.{rules}
 use Rattle.definition.specs.Archive.{files_of}
 use Rattle.places.specs.Places.{file_told}
 use Rattle.printing.specs.Putting.{decimal}

@@ -4,7 +4,6 @@ use mathlib.Core.Path.{◌≡◌, ap, ◌∙◌}
 use Prim.Native.Nat.{ℕ, ◌+◌, ◌-◌, ◌≤◌, ◌<◌}
 use native.Mathlib.Omega.{arith}
 use lib.ListN.{length, take, drop}
-use borrow.Author.Rules.{rules}
 use Rattle.definition.specs.Archive.{files_of}
 use Rattle.definition.specs.Image.{count_of}
 use Rattle.definition.specs.Query.{query_of}
@@ -13,7 +12,7 @@ use Rattle.definition.specs.Writing.{sources_of_image}
 use Rattle.definition.specs.Walking.{walk, walk_step}
 use Rattle.image_judge.proofs.Judged.{judged}
 use Rattle.image_judge.proofs.Parts.{rows_inside, row_within}
-use Rattle.printing.proofs.Pieces.{Walk, walk_begun, walk_next, walk_room, walk_ended}
+use Rattle.printing.proofs.Pieces.{walk_begun, walk_next, walk_room, walk_ended}
 use Rattle.image.specs.Rows.{origin_at}
 use Rattle.places.specs.Places.{file_told}
 use Rattle.walk_lines.specs.Lines.{listed_line, walk_lines}

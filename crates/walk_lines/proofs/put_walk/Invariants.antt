@@ -1,23 +1,11 @@
 -- `walk_lines::put_walk` meets its contract: the lines from the next number on are still to be put. Assumes nothing.
-use mathlib.Core.List.{List, ◌++◌}
-use mathlib.Core.Path.{◌≡◌, ap, ◌∙◌}
-use Prim.Native.Nat.{ℕ, ◌+◌, ◌-◌, ◌≤◌, ◌<◌}
-use native.Mathlib.Omega.{arith}
-use lib.ListN.{length, take, drop}
-use borrow.Author.Rules.{rules}
+use Prim.Native.Nat.{◌-◌}
 use Rattle.definition.specs.Archive.{files_of}
-use Rattle.definition.specs.Image.{count_of}
 use Rattle.definition.specs.Query.{query_of}
-use Rattle.definition.specs.Lookup.{given}
 use Rattle.definition.specs.Writing.{sources_of_image}
-use Rattle.definition.specs.Walking.{walk, walk_step}
-use Rattle.image_judge.proofs.Judged.{judged}
-use Rattle.image_judge.proofs.Parts.{rows_inside, row_within}
-use Rattle.printing.proofs.Pieces.{Walk, walk_begun, walk_next, walk_room, walk_ended}
-use Rattle.image.specs.Rows.{origin_at}
-use Rattle.places.specs.Places.{file_told}
-use Rattle.walk_lines.specs.Lines.{listed_line, walk_lines}
-use Rattle.walk_lines.proofs.Walks.{lines_left, lines_all, image, lines_past, lines_next, lines_end, goes_on, within, line_is}
+use Rattle.printing.proofs.Pieces.{Walk}
+use Rattle.walk_lines.specs.Lines.{walk_lines}
+use Rattle.walk_lines.proofs.Walks.{lines_left}
 use Rattle.walk_lines.proofs.put_walk.Given as goal
 
 abbrev pub invariant-loop-next : goal.invariant-loop-next
