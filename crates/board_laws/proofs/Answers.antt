@@ -2,80 +2,25 @@
 use Rattle.std.specs.Prelude.{if◌then◌else◌}
 use mathlib.Core.Bool.{Bool, true, false, not}
 use mathlib.Core.List.{List, [], ◌∷◌, ◌++◌, map, flatten}
-use mathlib.Core.Logic.{◌↔◌, ◌⊎◌, inl}
+use mathlib.Core.Logic.{◌↔◌, inl}
 use mathlib.Core.Option.{Option, some, none}
 use mathlib.Core.Path.{◌≡◌, refl, sym, ap, ◌∙◌}
-use Prim.Native.Nat.{ℕ, zero, suc, ◌+◌, ◌*◌, ◌/◌, ◌%◌, ◌≤◌, ◌<◌}
+use Prim.Native.Nat.{ℕ, zero, suc, ◌+◌, ◌*◌, ◌≤◌, ◌<◌}
 use native.Mathlib.Nat.{add-mul-div_left, add-mul-mod_self_left, mod-eq_of_lt, div-eq_of_lt}
 use native.Mathlib.Decide.{dec_lt}
 use native.Mathlib.Omega.{arith}
 use lib.Dec.{eqb}
-use lib.ListN.{length, get_or, length-map, get_or-eq_default}
+use lib.ListN.{length, get_or, get_or-eq_default}
 use borrow.Author.Tests.{eqb-true, eq-eqb}
 use Rattle.definition.specs.Lists.{any, filter, same}
 use Rattle.definition.specs.Text.{Entry}
 use Rattle.definition.specs.Image.{Row, entry_at}
-use Rattle.definition.specs.Query.{Position, Query, positions, malformed, past_limit}
+use Rattle.definition.specs.Query.{Query, positions, malformed, past_limit}
 use Rattle.definition.specs.Ranking.{Best, no_entry, best, best_of}
 use Rattle.definition.specs.Lookup.{keys_of, value_of, answer_of, Reply, given, no_value, refused, bytes_at}
 use Rattle.definition.specs.Walking.{refusal_in}
-use Rattle.definition.specs.ThirdTerm.{Through, NoneThroughBeats, SameBytesWithout, left_out}
-use Rattle.definition.specs.Board.{
-  Arrival,
-  Pack,
-  kept,
-  Watched,
-  Board,
-  leave,
-  has_number,
-  is_present,
-  reply_to,
-  changed,
-  if_given,
-  history,
-  Brought,
-  brought_by,
-  joined,
-  nothing_brought,
-  Found,
-  found_at,
-  found_in,
-  query_number,
-  watched_answer,
-  watched_answers,
-  store_number,
-  bytes_found,
-  answer_bytes,
-  same_answer,
-  each,
-  changes,
-  bits_of,
-  reported,
-  report,
-  Lent,
-  query_count,
-  slots_in,
-  query_at,
-  board_in,
-  short_board,
-  are_slots,
-  is_board,
-  done,
-  writing,
-  board_call,
-  board_answer,
-  board_answers,
-  board_report,
-  Follows,
-  FollowsHistory,
-  answer_among,
-  AnswersAgree,
-  through_pack,
-  bytes_answered,
-  LeavingStrikesOff,
-  has_bit,
-  ReportTells,
-}
+use Rattle.definition.specs.ThirdTerm.{NoneThroughBeats, left_out}
+use Rattle.definition.specs.Board.{Arrival, Pack, kept, Watched, Board, leave, has_number, reply_to, changed, if_given, Brought, brought_by, joined, nothing_brought, Found, found_at, found_in, query_number, watched_answer, watched_answers, store_number, bytes_found, answer_bytes, same_answer, each, changes, bits_of, reported, report, Lent, slots_in, board_in, short_board, are_slots, is_board, done, writing, board_call, board_answer, board_answers, board_report, FollowsHistory, answer_among, AnswersAgree, through_pack, bytes_answered, LeavingStrikesOff, has_bit, ReportTells}
 use Rattle.laws.proofs.Lists.{not_both, same_eq, eq_same, get_d_map, filter_append}
 use Rattle.laws.proofs.Ranking.{best_beats, beats_best}
 use Rattle.laws.proofs.Striking.{length_keys, striking_off}

@@ -1,10 +1,8 @@
 -- `archive::fits` meets its contract. The invariant: the archive fits if the files from j on do. Assumes nothing.
-use mathlib.Core.Path.{◌≡◌, sym, ◌∙◌}
+use mathlib.Core.Path.{◌≡◌}
 use Prim.Native.Nat.{◌-◌}
-use native.Mathlib.Omega.{arith}
-use borrow.Author.Rules.{rules}
 use Rattle.laws.proofs.Walked.{fits}
-use Rattle.archive.proofs.Walk.{Standing, fits_left, fits_none, fits_few, fits_first, fits_over, fits_on, fits_end}
+use Rattle.archive.proofs.Walk.{Standing, fits_left}
 use Rattle.archive.proofs.fits.Given as goal
 
 abbrev pub invariant-loop-j : goal.invariant-loop-j

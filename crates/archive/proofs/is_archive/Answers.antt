@@ -2,7 +2,6 @@
 use mathlib.Core.Path.{sym, ◌∙◌}
 use native.Mathlib.Omega.{arith}
 use borrow.Author.Tests.{not-true, not-false}
-use borrow.Author.Rules.{rules}
 use Rattle.archive.proofs.Walk.{fits_room}
 use Rattle.archive.proofs.Judging.{bytes_all, laid_long, laid_unfit, laid_many, laid_few}
 use Rattle.archive.proofs.is_archive.Goals as goal

@@ -1,6 +1,5 @@
 -- `archive::member_at` meets its contract. Assumes nothing.
 use mathlib.Core.Path.{refl}
-use borrow.Author.Rules.{rules}
 use Rattle.archive.proofs.member_at.Goals as goal
 
 pub returns : goal.returns

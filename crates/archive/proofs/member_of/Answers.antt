@@ -1,8 +1,8 @@
 -- `archive::member_of` meets its contract. The invariant: the walk stands at file j. Assumes nothing.
-use Prim.Native.Nat.{◌-◌, ◌≤◌}
+use Prim.Native.Nat.{◌-◌}
 use native.Mathlib.Omega.{arith}
 use borrow.Author.Rules.{rules}
-use Rattle.archive.proofs.Walk.{laid_fits, rows_room, Walking, walking_first, walking_next, walked_to}
+use Rattle.archive.proofs.Walk.{laid_fits, rows_room, walking_first, walking_next, walked_to}
 use Rattle.archive.proofs.member_of.Goals as goal
 
 pub loop-j-init : goal.loop-j-init

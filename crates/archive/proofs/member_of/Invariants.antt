@@ -1,8 +1,6 @@
 -- `archive::member_of` meets its contract. The invariant: the walk stands at file j. Assumes nothing.
 use Prim.Native.Nat.{◌-◌, ◌≤◌}
-use native.Mathlib.Omega.{arith}
-use borrow.Author.Rules.{rules}
-use Rattle.archive.proofs.Walk.{laid_fits, rows_room, Walking, walking_first, walking_next, walked_to}
+use Rattle.archive.proofs.Walk.{Walking}
 use Rattle.archive.proofs.member_of.Given as goal
 
 abbrev pub invariant-loop-j : goal.invariant-loop-j

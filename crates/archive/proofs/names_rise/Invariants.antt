@@ -1,15 +1,11 @@
 -- `archive::names_rise` meets its contract. The invariant: the names rise if those from file j on do, above the last one. Assumes nothing.
 use mathlib.Core.List.{[]}
-use mathlib.Core.Path.{◌≡◌, sym, ◌∙◌, refl}
+use mathlib.Core.Path.{◌≡◌}
 use Prim.Native.Nat.{◌-◌}
-use native.Mathlib.Omega.{arith}
 use lib.ListN.{drop}
-use borrow.Author.Tests.{not-true, not-false}
-use borrow.Author.Rules.{rules}
 use Rattle.definition.specs.Archive.{files_of}
 use Rattle.archive.specs.Walk.{rising_from}
-use Rattle.archive.proofs.Walk.{fits_room, Walking, walking_first, walking_in, walking_next}
-use Rattle.archive.proofs.Judging.{rising_bad, rising_low, rising_next, rising_end}
+use Rattle.archive.proofs.Walk.{Walking}
 use Rattle.archive.proofs.names_rise.Given as goal
 
 abbrev pub invariant-loop-j : goal.invariant-loop-j

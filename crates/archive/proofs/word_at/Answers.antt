@@ -1,7 +1,6 @@
 -- `archive::word_at` meets its contract: bytes are below 256. Assumes nothing.
 use Prim.Native.Nat.{◌+◌}
 use native.Mathlib.Omega.{arith}
-use borrow.Author.Rules.{rules}
 use Rattle.archive.proofs.word_at.Goals as goal
 
 pub overflow_cast-result : goal.overflow_cast-result

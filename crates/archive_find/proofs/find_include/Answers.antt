@@ -2,7 +2,6 @@
 use mathlib.Core.Path.{sym}
 use native.Mathlib.Omega.{arith}
 use lib.Seq.{length-take-le}
-use borrow.Author.Rules.{rules}
 use Rattle.archive_find.proofs.Finding.{sought_at, sought_none}
 use Rattle.archive_find.proofs.find_include.Goals as goal
 

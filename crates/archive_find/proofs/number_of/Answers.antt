@@ -1,7 +1,6 @@
 -- `archive_find::number_of` meets its contract. Assumes nothing.
 use mathlib.Core.Path.{sym, ◌∙◌}
 use native.Mathlib.Omega.{arith}
-use borrow.Author.Rules.{rules}
 use Rattle.archive.proofs.Walk.{length_files, rows_room}
 use Rattle.archive_find.proofs.Finding.{number_found, number_off}
 use Rattle.archive_find.proofs.number_of.Goals as goal

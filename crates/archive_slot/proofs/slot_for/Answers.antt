@@ -3,9 +3,8 @@ use mathlib.Core.Path.{sym, ◌∙◌}
 use Prim.Native.Nat.{◌-◌}
 use native.Mathlib.Omega.{arith}
 use borrow.Author.Tests.{not-true, not-false}
-use borrow.Author.Rules.{rules}
 use Rattle.archive.proofs.Walk.{rows_room, walking_in}
-use Rattle.archive_slot.proofs.Slots.{Seeking, seeking_first, seeking_next, seeking_here, seeking_done}
+use Rattle.archive_slot.proofs.Slots.{seeking_first, seeking_next, seeking_here, seeking_done}
 use Rattle.archive_slot.proofs.slot_for.Goals as goal
 
 pub loop-j-init : goal.loop-j-init

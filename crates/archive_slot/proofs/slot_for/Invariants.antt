@@ -1,11 +1,6 @@
 -- `archive_slot::slot_for` meets its contract. The invariant: the place of the name is that among the files from file j on, after those passed. Assumes nothing.
-use mathlib.Core.Path.{sym, ◌∙◌}
 use Prim.Native.Nat.{◌-◌}
-use native.Mathlib.Omega.{arith}
-use borrow.Author.Tests.{not-true, not-false}
-use borrow.Author.Rules.{rules}
-use Rattle.archive.proofs.Walk.{rows_room, walking_in}
-use Rattle.archive_slot.proofs.Slots.{Seeking, seeking_first, seeking_next, seeking_here, seeking_done}
+use Rattle.archive_slot.proofs.Slots.{Seeking}
 use Rattle.archive_slot.proofs.slot_for.Given as goal
 
 abbrev pub invariant-loop-j : goal.invariant-loop-j

@@ -5,7 +5,6 @@ use Prim.Native.Nat.{ℕ, ◌-◌}
 use native.Mathlib.Omega.{arith}
 use lib.ListN.{length, take, length-set}
 use lib.Seq.{length-take-le}
-use borrow.Author.Rules.{rules}
 use Rattle.components.specs.Parts.{key_first}
 use Rattle.components.proofs.Verbatim.{bound_key, free_key, key_some}
 use Rattle.components.proofs.Writing.{pasted, pasted_cons}

@@ -1,6 +1,5 @@
 use mathlib.Core.Path.{sym, ◌∙◌}
 use native.Mathlib.Omega.{arith}
-use borrow.Author.Rules.{rules}
 use Rattle.components.proofs.Names.{no_name, wild, name_there}
 use Rattle.components.proofs.next_component_name.Goals as goal
 

@@ -1,4 +1,3 @@
-use borrow.Author.Rules.{rules}
 use Rattle.components.proofs.Parts.{bound_fits, parted}
 use Rattle.components.proofs.next_part.Goals as goal
 

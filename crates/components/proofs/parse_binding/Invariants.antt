@@ -1,9 +1,6 @@
-use mathlib.Core.Path.{sym, ◌∙◌}
 use Prim.Native.Nat.{◌-◌}
 use lib.ListN.{length}
-use borrow.Author.Rules.{rules}
-use borrow.Author.Tests.{not-true, not-false}
-use Rattle.components.proofs.Bindings.{Binding-at, binding_first, binding_more, binding_stop, binding_end}
+use Rattle.components.proofs.Bindings.{Binding-at}
 use Rattle.components.proofs.parse_binding.Given as goal
 
 abbrev pub invariant-loop-i : goal.invariant-loop-i

@@ -1,10 +1,7 @@
-use mathlib.Core.Logic.{⊎_elim}
 use mathlib.Core.Path.{◌∙◌}
 use native.Mathlib.Omega.{arith}
-use lib.ListN.{length}
-use borrow.Author.Rules.{rules}
 use Rattle.laws.proofs.Lists.{length_part_rest}
-use Rattle.components.proofs.Counting.{Counting, counting_first, counting_next, counting_done}
+use Rattle.components.proofs.Counting.{counting_first, counting_next, counting_done}
 use Rattle.components.proofs.Verbatim.{flag_odd, flag_one}
 use Rattle.components.proofs.parse_components.Goals as goal
 use Rattle.components.proofs.parse_components.Goals.{then-start-ne1, else-start-ne1}

@@ -1,5 +1,4 @@
 use mathlib.Core.Path.{sym, ◌∙◌}
-use borrow.Author.Rules.{rules}
 use Rattle.components.proofs.write_key.Goals as goal
 
 pub copy_key-requires : goal.copy_key-requires

@@ -1,9 +1,6 @@
-use Prim.Native.Nat.{◌+◌, ◌-◌, ◌≤◌}
-use native.Mathlib.Omega.{arith}
+use Prim.Native.Nat.{◌-◌}
 use lib.ListN.{length}
-use borrow.Author.Rules.{rules}
-use Rattle.laws.proofs.Lists.{length_part_rest}
-use Rattle.components.proofs.Writing.{Writing, writing_first, writing_next, writing_done, part_room, copy_room}
+use Rattle.components.proofs.Writing.{Writing}
 use Rattle.components.proofs.write_parts.Given as goal
 
 abbrev pub invariant-loop-rest : goal.invariant-loop-rest

@@ -1,8 +1,7 @@
 -- `copies::copy_blocks` meets its contract. Assumes nothing.
 use Prim.Native.Nat.{◌-◌}
-use lib.ListN.{length}
 use borrow.Author.Rules.{rules}
-use Rattle.copies.proofs.Copying.{Copied, copied_none, copied_more}
+use Rattle.copies.proofs.Copying.{copied_none, copied_more}
 use Rattle.copies.proofs.copy_blocks.Goals as goal
 
 pub loop-i-preserved : goal.loop-i-preserved

@@ -1,6 +1,5 @@
 -- `copies::copy_in` meets its contract: each step leaves less than its size. Assumes nothing.
 use native.Mathlib.Omega.{arith}
-use borrow.Author.Rules.{rules}
 use Rattle.copies.proofs.Copying.{copied_to, copied_step, copied_all, step_left}
 use Rattle.copies.proofs.copy_in.Goals as goal
 

@@ -1,12 +1,11 @@
 -- `copies::copy_plain` meets its contract. Assumes nothing.
-use mathlib.Core.List.{List}
-use mathlib.Core.Path.{◌≡◌, refl}
-use Prim.Native.Nat.{ℕ, ◌+◌, ◌-◌, ◌≤◌}
-use lib.ListN.{length, length-set}
+use mathlib.Core.Path.{refl}
+use Prim.Native.Nat.{◌-◌}
+use lib.ListN.{length-set}
 use borrow.Author.Rules.{rules}
-use Rattle.scan.proofs.Runs.{Passed, passed_more, passed_stop, passed_end}
+use Rattle.scan.proofs.Runs.{passed_more, passed_stop, passed_end}
 use Rattle.copies.specs.Plain.{is_plain}
-use Rattle.copies.proofs.Copying.{Copied, copied_to, copied_byte, plain_byte, newline_ends, backslash_ends}
+use Rattle.copies.proofs.Copying.{copied_to, copied_byte, plain_byte, newline_ends, backslash_ends}
 use Rattle.copies.proofs.copy_plain.Goals as goal
 
 pub loop-i-init : goal.loop-i-init

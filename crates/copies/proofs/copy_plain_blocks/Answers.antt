@@ -1,13 +1,12 @@
 -- `copies::copy_plain_blocks` meets its contract. Assumes nothing.
 use mathlib.Core.Path.{sym, ◌∙◌}
 use Prim.Native.Nat.{◌-◌}
-use lib.ListN.{length}
 use borrow.Author.Rules.{rules}
 use Rattle.definition.specs.Bytes.{newline, backslash}
 use Rattle.blocks.specs.Either.{either}
-use Rattle.scan.proofs.Runs.{Passed, passed_none, passed_block}
+use Rattle.scan.proofs.Runs.{passed_none, passed_block}
 use Rattle.copies.specs.Plain.{is_plain}
-use Rattle.copies.proofs.Copying.{Copied, copied_none, copied_more, plain_not}
+use Rattle.copies.proofs.Copying.{copied_none, copied_more, plain_not}
 use Rattle.copies.proofs.copy_plain_blocks.Goals as goal
 
 pub returns-then-block_has : goal.returns-then-block_has

@@ -3,7 +3,6 @@ use Prim.Native.Nat.{◌+◌, ◌-◌}
 use native.Mathlib.Omega.{arith}
 use lib.ListN.{drop}
 use lib.Seq.{paste-zero}
-use borrow.Author.Rules.{rules}
 use Rattle.copies.proofs.Copying.{step_short, step_on}
 use Rattle.copies.proofs.copy_step.Goals as goal
 

@@ -2,7 +2,6 @@
 use Prim.Native.Nat.{◌-◌}
 use lib.ListN.{length, take, drop}
 use borrow.Author.Tests.{not-true, not-false}
-use borrow.Author.Rules.{rules}
 use Rattle.definition.specs.Text.{in_quotes}
 use Rattle.definition.specs.Lists.{ascii}
 use Rattle.scan.proofs.Beginnings.{starts_yes, starts_no}

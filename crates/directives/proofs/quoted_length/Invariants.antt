@@ -1,10 +1,8 @@
 -- `directives::quoted_length` meets its contract. Assumes nothing.
 use Prim.Native.Nat.{◌-◌}
 use lib.ListN.{length}
-use borrow.Author.Rules.{rules}
 use Rattle.definition.specs.Text.{in_quotes}
-use Rattle.directives.proofs.Quotes.{quoted, unquoted, quote_over}
-use Rattle.scan.proofs.Runs.{Passed, passed_none, passed_more, passed_stop, passed_end}
+use Rattle.scan.proofs.Runs.{Passed}
 use Rattle.directives.proofs.quoted_length.Given as goal
 
 abbrev pub invariant-loop-i : goal.invariant-loop-i

@@ -1,5 +1,5 @@
 -- `escapes::octal` meets its contract. No sum wraps but those of `times_eight`. Assumes nothing.
-use Rattle.std.proofs.Common.{◌-◌, ◌≤◌, arith, rules}
+use Rattle.std.proofs.Common.{◌-◌, ◌≤◌, arith}
 use Rattle.escapes.proofs.Escapes.{octal_range, room_for_digit, octal_number}
 use Rattle.escapes.proofs.octal.Goals as goal
 

@@ -1,8 +1,7 @@
 -- `escapes::octal_digits` meets its contract. Assumes nothing.
-use Rattle.std.proofs.Common.{◌-◌, ◌≤◌, take, sym, ◌∙◌, arith, rules, ltb-false, ltb-true}
+use Rattle.std.proofs.Common.{◌-◌, ◌≤◌, take}
 use Rattle.definition.specs.Bytes.{is_octal}
-use Rattle.scan.proofs.Runs.{Passed, passed_none}
-use Rattle.escapes.proofs.Escapes.{digits_short, digits_stop, digits_more, digits_end}
+use Rattle.scan.proofs.Runs.{Passed}
 use Rattle.escapes.proofs.octal_digits.Given as goal
 
 abbrev pub invariant-loop-n : goal.invariant-loop-n

@@ -1,5 +1,5 @@
 -- `escapes::parse_escape` meets its contract: each way out is one law of escapes. Assumes nothing.
-use Rattle.std.proofs.Common.{ℕ, ◌≤◌, List, length, ⊎_elim, arith, rules, eqb-true}
+use Rattle.std.proofs.Common.{ℕ, ◌≤◌, List, length, arith}
 use borrow.Author.Tests.{eqb-false}
 use Rattle.escapes.proofs.Escapes.{escape_end, escape_itself, escape_newline, escape_joined, escape_other, escape_octal, escape_dropped, escape_kept, digits_few, digits_inside, three_octal, line_over, line_newline, line_goes_on}
 use Rattle.escapes.proofs.parse_escape.Goals as goal

@@ -1,5 +1,4 @@
 -- `escapes::times_eight` meets its contract. Assumes nothing.
-use Rattle.std.proofs.Common.{rules}
 use Rattle.escapes.proofs.Escapes.{eight_times}
 use Rattle.escapes.proofs.times_eight.Goals as goal
 

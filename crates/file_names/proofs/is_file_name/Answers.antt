@@ -1,9 +1,7 @@
 -- `file_names::is_file_name` meets its contract. The invariant: the bytes from i on decide, after the part so far, as the whole name does. Assumes nothing.
-use mathlib.Core.Path.{◌≡◌, sym, ap, ◌∙◌}
-use Prim.Native.Nat.{◌+◌, ◌-◌, ◌≤◌}
-use lib.ListN.{length, drop}
-use borrow.Author.Rules.{rules}
-use Rattle.definition.specs.Limits.{file_name_bytes}
+use mathlib.Core.Path.{sym, ap, ◌∙◌}
+use Prim.Native.Nat.{◌+◌, ◌-◌}
+use lib.ListN.{drop}
 use Rattle.definition.specs.Archive.{is_file_name}
 use Rattle.file_names.specs.Names.{walked, passes}
 use Rattle.file_names.proofs.Names.{name_walked, name_long, walked_byte, walked_end}

@@ -1,12 +1,10 @@
 -- `file_names::is_file_name` meets its contract. The invariant: the bytes from i on decide, after the part so far, as the whole name does. Assumes nothing.
-use mathlib.Core.Path.{◌≡◌, sym, ap, ◌∙◌}
-use Prim.Native.Nat.{◌+◌, ◌-◌, ◌≤◌}
+use mathlib.Core.Path.{◌≡◌}
+use Prim.Native.Nat.{◌-◌, ◌≤◌}
 use lib.ListN.{length, drop}
-use borrow.Author.Rules.{rules}
 use Rattle.definition.specs.Limits.{file_name_bytes}
 use Rattle.definition.specs.Archive.{is_file_name}
-use Rattle.file_names.specs.Names.{walked, passes}
-use Rattle.file_names.proofs.Names.{name_walked, name_long, walked_byte, walked_end}
+use Rattle.file_names.specs.Names.{walked}
 use Rattle.file_names.proofs.is_file_name.Given as goal
 
 abbrev pub invariant-loop-i : goal.invariant-loop-i

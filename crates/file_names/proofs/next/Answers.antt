@@ -1,7 +1,6 @@
 -- `file_names::next` meets its contract. Assumes nothing.
 use mathlib.Core.Path.{sym, ◌∙◌}
 use borrow.Author.Tests.{eq-eqb, ne_eqb}
-use borrow.Author.Rules.{rules}
 use Rattle.file_names.specs.Names.{next}
 use Rattle.file_names.proofs.next.Goals as goal
 

@@ -1,8 +1,6 @@
 -- `image::clear_bytes` meets its contract. Assumes nothing.
 use Prim.Native.Nat.{◌-◌}
-use borrow.Author.Rules.{rules}
-use lib.ListN.{length}
-use Rattle.image.proofs.Clearing.{Cleared, cleared_first, cleared_more, cleared_all}
+use Rattle.image.proofs.Clearing.{cleared_first, cleared_more, cleared_all}
 use Rattle.image.proofs.clear_bytes.Goals as goal
 
 pub loop-i-init : goal.loop-i-init

@@ -1,8 +1,7 @@
 -- `image::clear_words` meets its contract. Assumes nothing.
 use Prim.Native.Nat.{◌-◌}
-use borrow.Author.Rules.{rules}
 use lib.ListN.{length}
-use Rattle.image.proofs.Clearing.{Cleared, cleared_first, cleared_more, cleared_all}
+use Rattle.image.proofs.Clearing.{Cleared}
 use Rattle.image.proofs.clear_words.Given as goal
 
 abbrev pub invariant-loop-i : goal.invariant-loop-i

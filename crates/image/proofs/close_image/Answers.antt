@@ -2,7 +2,6 @@
 use mathlib.Core.Path.{◌∙◌}
 use native.Mathlib.Omega.{arith}
 use lib.ListN.{length-set}
-use borrow.Author.Rules.{rules}
 use Rattle.image.proofs.Clearing.{closed_words_lem}
 use Rattle.image.proofs.close_image.Goals as goal
 

@@ -1,5 +1,4 @@
 -- `image::empty_image` meets its contract. Assumes nothing.
-use borrow.Author.Rules.{rules}
 use Rattle.image.proofs.Clearing.{cleared_whole}
 use Rattle.image.proofs.empty_image.Goals as goal
 

@@ -1,7 +1,6 @@
 -- `image::number_at` meets its contract. Assumes nothing.
 use mathlib.Core.Path.{refl}
 use native.Mathlib.Omega.{arith}
-use borrow.Author.Rules.{rules}
 use Rattle.image.proofs.number_at.Goals as goal
 
 pub returns : goal.returns

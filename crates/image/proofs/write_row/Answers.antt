@@ -1,7 +1,6 @@
 -- `image::write_row` meets its contract. Assumes nothing.
 use native.Mathlib.Omega.{arith}
 use lib.ListN.{length-set}
-use borrow.Author.Rules.{rules}
 use Rattle.image.proofs.write_row.Goals as goal
 
 pub bounds-words-at-2 : goal.bounds-words-at-2

@@ -1,5 +1,4 @@
 -- `include_paths::path_of` meets its contract. Assumes nothing.
-use borrow.Author.Rules.{rules}
 use Rattle.include_paths.proofs.Seeking.{seeks_nothing, seeks_dots, seeks_long, seeks_at}
 use Rattle.include_paths.proofs.path_of.Goals as goal
 

@@ -2,7 +2,6 @@
 use mathlib.Core.Path.{sym, ap, ◌∙◌}
 use native.Mathlib.Omega.{arith}
 use lib.ListN.{length}
-use borrow.Author.Rules.{rules}
 use Rattle.kept_parts.specs.Keeping.{kept}
 use Rattle.kept_parts.proofs.Storing.{room_most, added_room, added_over}
 use Rattle.kept_parts.proofs.add_part.Goals as goal

@@ -1,7 +1,6 @@
 -- `kept_parts::end_below` meets its contract. Assumes nothing.
 use mathlib.Core.Path.{sym}
 use native.Mathlib.Omega.{arith}
-use borrow.Author.Rules.{rules}
 use Rattle.kept_parts.proofs.Storing.{end_first, end_later}
 use Rattle.kept_parts.proofs.end_below.Goals as goal
 

@@ -1,5 +1,4 @@
 -- `kept_parts::has_room` meets its contract. Assumes nothing.
-use borrow.Author.Rules.{rules}
 use Rattle.kept_parts.proofs.Storing.{no_room, room_is}
 use Rattle.kept_parts.proofs.has_room.Goals as goal
 

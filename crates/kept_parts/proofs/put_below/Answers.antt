@@ -2,7 +2,6 @@
 use mathlib.Core.Path.{◌∙◌}
 use native.Mathlib.Omega.{arith}
 use lib.ListN.{length, length-set}
-use borrow.Author.Rules.{rules}
 use Rattle.kept_parts.proofs.Storing.{end_first, end_later, put_first, put_later}
 use Rattle.kept_parts.proofs.put_below.Goals as goal
 

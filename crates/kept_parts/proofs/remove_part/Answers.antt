@@ -4,7 +4,6 @@ use mathlib.Core.Path.{sym, ap, ◌∙◌}
 use native.Mathlib.Omega.{arith}
 use lib.ListN.{length}
 use lib.Seq.{length-take-le}
-use borrow.Author.Rules.{rules}
 use Rattle.kept_parts.specs.declared.Reduced.TheVariants.{Go}
 use Rattle.kept_parts.specs.Keeping.{kept}
 use Rattle.kept_parts.proofs.Storing.{up_over, up_root, up_folder}

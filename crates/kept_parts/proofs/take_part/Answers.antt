@@ -1,9 +1,7 @@
 -- `kept_parts::take_part` meets its contract. Assumes nothing.
 use mathlib.Core.Path.{sym, ap, ◌∙◌}
-use native.Mathlib.Omega.{arith}
-use borrow.Author.Rules.{rules}
 use Rattle.kept_parts.specs.declared.Reduced.TheVariants.{Go}
-use Rattle.kept_parts.specs.Keeping.{Did, did}
+use Rattle.kept_parts.specs.Keeping.{did}
 use Rattle.kept_parts.proofs.Storing.{part_empty, part_dot, part_up, part_name}
 use Rattle.kept_parts.proofs.take_part.Goals as goal
 

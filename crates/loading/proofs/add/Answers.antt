@@ -6,7 +6,6 @@ use lib.Seq.{length-take-le}
 use Rattle.archive_add.specs.Adding.{file_of}
 use Rattle.archive_add.proofs.Adding.{Holding, added_holds}
 use Rattle.loading.proofs.Loading.{put_holds}
-use borrow.Author.Rules.{rules}
 use Rattle.loading.proofs.add.Goals as goal
 
 pub slice_bounds-out-end : goal.slice_bounds-out-end

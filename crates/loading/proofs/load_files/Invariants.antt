@@ -1,14 +1,9 @@
 -- `loading::load_files` leaves an archive. The invariant: the buffer begins with one. Assumes nothing.
-use mathlib.Core.Path.{◌≡◌, refl}
+use mathlib.Core.Path.{◌≡◌}
 use Prim.Native.Nat.{◌-◌}
-use native.Mathlib.Omega.{arith}
 use lib.ListN.{length}
 use Rattle.definition.specs.Limits.{archive_bytes}
-use Rattle.definition.specs.Evaluation.{no_files}
 use Rattle.loading.specs.Loading.{Holds}
-use Rattle.loading.proofs.Loading.{put_holds}
-use Rattle.archive_add.proofs.Adding.{none_laid}
-use borrow.Author.Rules.{rules}
 use Rattle.loading.proofs.load_files.Given as goal
 
 abbrev pub invariant-loop-i : goal.invariant-loop-i

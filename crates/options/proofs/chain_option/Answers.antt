@@ -1,7 +1,6 @@
 -- `options::chain_option` meets its contract. Assumes nothing.
-use mathlib.Core.Bool.{false}
 use mathlib.Core.List.{List}
-use mathlib.Core.Path.{◌≡◌, refl, sym, ◌∙◌}
+use mathlib.Core.Path.{refl}
 use Prim.Native.Nat.{ℕ}
 use Rattle.definition.specs.Lists.{ascii, same}
 use Rattle.options.specs.Options.{chain_option}

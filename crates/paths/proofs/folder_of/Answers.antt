@@ -1,10 +1,9 @@
 -- `paths::folder_of` meets its contract. The invariant: no `/` stands from i on. Assumes nothing.
 use mathlib.Core.Bool.{false}
 use mathlib.Core.Path.{◌≡◌, sym, ap, refl}
-use Prim.Native.Nat.{◌-◌, ◌≤◌}
+use Prim.Native.Nat.{◌-◌}
 use native.Mathlib.Omega.{arith}
 use lib.Seq.{drop-length, length-take-le}
-use lib.ListN.{length, drop}
 use lib.Dec.{eqb}
 use borrow.Author.Rules.{rules}
 use Rattle.definition.specs.Bytes.{slash}

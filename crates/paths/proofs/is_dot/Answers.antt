@@ -1,5 +1,4 @@
 -- `paths::is_dot` meets its contract. Assumes nothing.
-use borrow.Author.Rules.{rules}
 use Rattle.paths.proofs.Dots.{dot_is, dot_not}
 use Rattle.paths.proofs.is_dot.Goals as goal
 

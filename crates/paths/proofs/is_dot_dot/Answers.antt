@@ -1,5 +1,4 @@
 -- `paths::is_dot_dot` meets its contract. Assumes nothing.
-use borrow.Author.Rules.{rules}
 use Rattle.paths.proofs.Dots.{dots_are, dots_first, dots_not}
 use Rattle.paths.proofs.is_dot_dot.Goals as goal
 

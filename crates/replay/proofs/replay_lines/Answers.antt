@@ -1,5 +1,5 @@
 -- `replay::replay_lines` is safe and ends: what is left of the lines falls. Assumes nothing.
-use Rattle.std.proofs.Common.{◌≤◌, length, sym, arith, length-take-le, rules}
+use Rattle.std.proofs.Common.{sym, arith, length-take-le}
 use Rattle.replay.proofs.replay_lines.Goals as goal
 
 pub slice_bounds-replay_case-end : goal.slice_bounds-replay_case-end

@@ -1,5 +1,5 @@
 -- `replay::replay_lines` is safe and ends: what is left of the lines falls. Assumes nothing.
-use Rattle.std.proofs.Common.{◌≤◌, length, sym, arith, length-take-le, rules}
+use Rattle.std.proofs.Common.{◌≤◌, length}
 use Rattle.replay.proofs.replay_lines.Given as goal
 
 abbrev pub invariant-loop-rest : goal.invariant-loop-rest

@@ -1,10 +1,6 @@
 -- `replay_default::replay_lines` is safe and ends: what is left of the lines falls. Assumes nothing.
-use mathlib.Core.Path.{sym}
 use Prim.Native.Nat.{◌≤◌}
-use native.Mathlib.Omega.{arith}
 use lib.ListN.{length}
-use lib.Seq.{length-take-le}
-use borrow.Author.Rules.{rules}
 use Rattle.replay_default.proofs.replay_lines.Given as goal
 
 abbrev pub invariant-loop-rest : goal.invariant-loop-rest

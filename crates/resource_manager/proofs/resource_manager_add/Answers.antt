@@ -1,6 +1,5 @@
 -- `resource_manager::resource_manager_add` meets its contract. Assumes nothing.
 use Rattle.resource_manager.proofs.Fitting.{add_numbered, add_crosses}
-use borrow.Author.Rules.{rules}
 use Rattle.resource_manager.proofs.resource_manager_add.Goals as goal
 
 pub add_code-requires : goal.add_code-requires

@@ -3,7 +3,6 @@ use mathlib.Core.Path.{ap, ◌∙◌}
 use Rattle.definition.specs.Query.{shell}
 use Rattle.codes.specs.Codes.{place_code}
 use Rattle.resource_manager.proofs.Fitting.{string_small}
-use borrow.Author.Rules.{rules}
 use Rattle.resource_manager.proofs.resource_manager_get_string.Goals as goal
 
 pub place_code-requires : goal.place_code-requires

@@ -3,7 +3,6 @@ use mathlib.Core.Path.{ap, ◌∙◌}
 use Rattle.definition.specs.Lookup.{Reply}
 use Rattle.definition.specs.Value.{Number}
 use Rattle.codes.specs.Codes.{taken}
-use borrow.Author.Rules.{rules}
 use Rattle.resource_manager.proofs.resource_manager_get_value.Goals as goal
 
 pub returns : goal.returns

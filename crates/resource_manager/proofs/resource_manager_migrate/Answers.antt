@@ -1,6 +1,5 @@
 -- `resource_manager::resource_manager_migrate` meets its contract. Assumes nothing.
 use Rattle.resource_manager.proofs.Fitting.{migrate_few, read_crosses}
-use borrow.Author.Rules.{rules}
 use Rattle.resource_manager.proofs.resource_manager_migrate.Goals as goal
 
 pub read_code-requires : goal.read_code-requires

@@ -5,7 +5,6 @@ use Rattle.lookup.proofs.Looking.{bytes_within}
 use Rattle.readings.proofs.Readings.{shows}
 use Rattle.codes.specs.Codes.{place_code}
 use Rattle.resource_manager.proofs.Fitting.{bytes_small}
-use borrow.Author.Rules.{rules}
 use Rattle.resource_manager.proofs.resource_manager_show.Goals as goal
 
 pub value_or-requires : goal.value_or-requires

@@ -1,6 +1,5 @@
 -- `resource_manager::resource_manager_write` meets its contract. Assumes nothing.
 use Rattle.resource_manager.proofs.Fitting.{write_bounded, write_fills}
-use borrow.Author.Rules.{rules}
 use Rattle.resource_manager.proofs.resource_manager_write.Goals as goal
 
 pub write_code-requires : goal.write_code-requires

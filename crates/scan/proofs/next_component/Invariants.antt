@@ -1,11 +1,8 @@
 -- `scan::next_component` meets its contract. Assumes nothing.
-use mathlib.Core.Path.{sym, ◌∙◌}
 use Prim.Native.Nat.{◌-◌}
 use lib.ListN.{length}
-use borrow.Author.Tests.{not-true, not-false}
-use borrow.Author.Rules.{rules}
 use Rattle.definition.specs.Bytes.{is_name}
-use Rattle.scan.proofs.Runs.{Passed, passed_none, passed_more, passed_stop, passed_end}
+use Rattle.scan.proofs.Runs.{Passed}
 use Rattle.scan.proofs.next_component.Given as goal
 
 abbrev pub invariant-loop-i : goal.invariant-loop-i

@@ -1,11 +1,9 @@
 -- `scan::next_component_by` meets its contract. Assumes nothing.
 use mathlib.Core.Path.{sym, ◌∙◌}
 use Prim.Native.Nat.{◌-◌}
-use lib.ListN.{length}
 use borrow.Author.Tests.{not-true, not-false}
-use borrow.Author.Rules.{rules}
 use Rattle.definition.specs.Bytes.{is_name}
-use Rattle.scan.proofs.Runs.{Passed, passed_none, passed_more, passed_stop, passed_end}
+use Rattle.scan.proofs.Runs.{passed_none, passed_more, passed_stop, passed_end}
 use Rattle.scan.proofs.next_component_by.Goals as goal
 
 pub returns-then-not-allowed_in_quark_name : goal.returns-then-not-allowed_in_quark_name

@@ -2,10 +2,8 @@
 use mathlib.Core.Path.{sym}
 use Prim.Native.Nat.{◌-◌}
 use lib.Dec.{eqb}
-use lib.ListN.{length}
 use borrow.Author.Tests.{eq-eqb, ne_eqb}
-use borrow.Author.Rules.{rules}
-use Rattle.scan.proofs.Runs.{Passed, passed_none, passed_more, passed_stop, passed_end}
+use Rattle.scan.proofs.Runs.{passed_none, passed_more, passed_stop, passed_end}
 use Rattle.skips.proofs.leading.Goals as goal
 
 pub returns-then-text-i : goal.returns-then-text-i

@@ -1,11 +1,8 @@
 -- `skips::leading` meets its contract. Assumes nothing.
-use mathlib.Core.Path.{sym}
 use Prim.Native.Nat.{◌-◌}
 use lib.Dec.{eqb}
 use lib.ListN.{length}
-use borrow.Author.Tests.{eq-eqb, ne_eqb}
-use borrow.Author.Rules.{rules}
-use Rattle.scan.proofs.Runs.{Passed, passed_none, passed_more, passed_stop, passed_end}
+use Rattle.scan.proofs.Runs.{Passed}
 use Rattle.skips.proofs.leading.Given as goal
 
 abbrev pub invariant-loop-i : goal.invariant-loop-i

@@ -1,12 +1,11 @@
 -- `skips::line_blocks` meets its contract. Assumes nothing.
 use mathlib.Core.Path.{sym, ◌∙◌}
 use Prim.Native.Nat.{◌-◌}
-use lib.ListN.{length}
 use borrow.Author.Rules.{rules}
 use Rattle.definition.specs.Bytes.{newline, not_newline}
 use Rattle.blocks.specs.Either.{either}
 use Rattle.skips.proofs.Texts.{line_block}
-use Rattle.scan.proofs.Runs.{Passed, passed_none, passed_block}
+use Rattle.scan.proofs.Runs.{passed_none, passed_block}
 use Rattle.skips.proofs.line_blocks.Goals as goal
 
 pub returns-then-block_has : goal.returns-then-block_has

@@ -2,7 +2,6 @@
 use mathlib.Core.Path.{ap}
 use Prim.Native.Nat.{ℕ, ◌+◌}
 use lib.Dec.{eqb}
-use borrow.Author.Rules.{rules}
 use Rattle.scan.proofs.Runs.{run_inside, run_rest}
 use Rattle.skips.proofs.skip_byte.Goals as goal
 

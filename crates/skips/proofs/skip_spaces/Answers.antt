@@ -4,7 +4,6 @@ use mathlib.Core.Path.{ap, ◌∙◌}
 use Prim.Native.Nat.{ℕ, ◌+◌}
 use lib.Dec.{eqb}
 use lib.ListN.{length}
-use borrow.Author.Rules.{rules}
 use Rattle.definition.specs.Bytes.{space, is_space}
 use Rattle.skips.proofs.Texts.{space_is}
 use Rattle.scan.proofs.Runs.{take_while_agree, drop_while_agree}

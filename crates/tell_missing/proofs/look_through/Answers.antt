@@ -1,10 +1,7 @@
 -- `tell_missing::look_through` meets its contract, and ends: each include is after the one before. Assumes nothing.
 use Prim.Native.Nat.{◌-◌}
 use native.Mathlib.Omega.{arith}
-use lib.ListN.{length}
-use borrow.Author.Rules.{rules}
 use Rattle.archive.proofs.Walk.{part_size}
-use Rattle.missing.specs.Reaching.{Waiting}
 use Rattle.tell_missing.proofs.look_through.Goals as goal
 
 pub overflow_add-start : goal.overflow_add-start

@@ -1,9 +1,6 @@
 -- `tell_missing::look_through` meets its contract, and ends: each include is after the one before. Assumes nothing.
 use Prim.Native.Nat.{◌-◌}
-use native.Mathlib.Omega.{arith}
 use lib.ListN.{length}
-use borrow.Author.Rules.{rules}
-use Rattle.archive.proofs.Walk.{part_size}
 use Rattle.missing.specs.Reaching.{Waiting}
 use Rattle.tell_missing.proofs.look_through.Given as goal
 

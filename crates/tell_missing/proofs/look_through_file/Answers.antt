@@ -2,10 +2,8 @@
 use Prim.Native.Nat.{◌≤◌}
 use native.Mathlib.Omega.{arith}
 use lib.ListN.{length}
-use borrow.Author.Rules.{rules}
 use Rattle.laws.proofs.Archive.{laid_out_says}
 use Rattle.archive.proofs.Walk.{part_size}
-use Rattle.archive.specs.declared.Member.{Member}
 use Rattle.missing.proofs.Reaching.{in_stands}
 use Rattle.tell_missing.proofs.look_through_file.Goals as goal
 

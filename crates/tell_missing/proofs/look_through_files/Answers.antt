@@ -1,11 +1,8 @@
 -- `tell_missing::look_through_files` ends: there are no more than 64 files. Assumes nothing.
 use Prim.Native.Nat.{◌-◌}
 use native.Mathlib.Omega.{arith}
-use lib.ListN.{length}
-use borrow.Author.Rules.{rules}
-use Rattle.definition.specs.Limits.{archive_files}
 use Rattle.laws.proofs.Lists.{all_get_d}
-use Rattle.missing.specs.Reaching.{stands_in, Waiting}
+use Rattle.missing.specs.Reaching.{stands_in}
 use Rattle.tell_missing.proofs.look_through_files.Goals as goal
 
 pub look_through_file-more-requires : goal.look_through_file-more-requires

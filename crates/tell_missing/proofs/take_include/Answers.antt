@@ -1,9 +1,7 @@
 -- `tell_missing::take_include` meets its contract: files that are reached stand in the archive. Assumes nothing.
 use mathlib.Core.Path.{sym}
 use native.Mathlib.Omega.{arith}
-use lib.ListN.{length}
 use lib.Seq.{length-take-le}
-use borrow.Author.Rules.{rules}
 use Rattle.missing.proofs.Reaching.{stands_in_lem, waiting_more}
 use Rattle.tell_missing.proofs.take_include.Goals as goal
 

@@ -1,6 +1,5 @@
 -- `tell_missing::tell_absent` meets its contract: the line fits. Assumes nothing.
 use native.Mathlib.Omega.{arith}
-use borrow.Author.Rules.{rules}
 use Rattle.tell_missing.proofs.tell_absent.Goals as goal
 
 pub put_absent-n-requires : goal.put_absent-n-requires

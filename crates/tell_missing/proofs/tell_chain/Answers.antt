@@ -1,6 +1,5 @@
 -- `tell_missing::tell_chain` meets what it calls: no file is reached at the start. Assumes nothing.
 use native.Mathlib.Omega.{arith}
-use borrow.Author.Rules.{rules}
 use Rattle.missing.proofs.Reaching.{waiting_none}
 use Rattle.tell_missing.proofs.tell_chain.Goals as goal
 

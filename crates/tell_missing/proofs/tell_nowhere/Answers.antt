@@ -1,6 +1,5 @@
 -- `tell_missing::tell_nowhere` meets its contract: the line fits. Assumes nothing.
 use native.Mathlib.Omega.{arith}
-use borrow.Author.Rules.{rules}
 use Rattle.tell_missing.proofs.tell_nowhere.Goals as goal
 
 pub put_nowhere-n-requires : goal.put_nowhere-n-requires

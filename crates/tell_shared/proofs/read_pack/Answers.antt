@@ -2,7 +2,6 @@
 use mathlib.Core.Path.{refl, sym}
 use native.Mathlib.Omega.{arith}
 use lib.Seq.{length-take-le}
-use borrow.Author.Rules.{rules}
 use Rattle.laws.proofs.Lists.{not_both}
 use Rattle.laws.proofs.ThirdTerm.{read_holds}
 use Rattle.printing.proofs.Pieces.{piece_long}

@@ -1,8 +1,6 @@
 -- `tell_shared::tell_all` ends. Assumes nothing.
 use Prim.Native.Nat.{◌-◌}
 use native.Mathlib.Omega.{arith}
-use borrow.Author.Rules.{rules}
-use Rattle.definition.specs.Limits.{archive_files}
 use Rattle.tell_shared.proofs.tell_all.Goals as goal
 
 pub tell_with-requires : goal.tell_with-requires

@@ -1,7 +1,5 @@
 -- `tell_shared::tell_all` ends. Assumes nothing.
 use Prim.Native.Nat.{◌-◌}
-use native.Mathlib.Omega.{arith}
-use borrow.Author.Rules.{rules}
 use Rattle.definition.specs.Limits.{archive_files}
 use Rattle.tell_shared.proofs.tell_all.Given as goal
 

@@ -1,9 +1,5 @@
 -- `tell_shared::tell_entries` ends, and each entry is one of the image. Assumes nothing.
 use Prim.Native.Nat.{◌-◌}
-use native.Mathlib.Omega.{arith}
-use borrow.Author.Rules.{rules}
-use Rattle.laws.proofs.Image.{image_holds}
-use Rattle.image_judge.proofs.Judged.{judged}
 use Rattle.tell_shared.proofs.tell_entries.Given as goal
 
 abbrev pub invariant-loop-i : goal.invariant-loop-i

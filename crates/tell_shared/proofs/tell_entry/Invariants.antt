@@ -1,11 +1,6 @@
 -- `tell_shared::tell_entry` ends, and what it tells is there: each entry is after the one before. Assumes nothing.
 use Prim.Native.Nat.{◌-◌}
-use native.Mathlib.Omega.{arith}
-use borrow.Author.Rules.{rules}
 use Rattle.definition.specs.Limits.{most_entries}
-use Rattle.definition.specs.Writing.{entries_of_image}
-use Rattle.laws.proofs.Image.{image_holds}
-use Rattle.shared_keys.proofs.Sharing.{found_shared}
 use Rattle.tell_shared.proofs.tell_entry.Given as goal
 
 abbrev pub invariant-loop-next : goal.invariant-loop-next

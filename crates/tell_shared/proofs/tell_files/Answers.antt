@@ -2,7 +2,6 @@
 use Prim.Native.Nat.{◌≤◌}
 use native.Mathlib.Omega.{arith}
 use lib.ListN.{length}
-use borrow.Author.Rules.{rules}
 use Rattle.missing.proofs.Reaching.{in_stands}
 use Rattle.tell_shared.proofs.tell_files.Goals as goal
 

@@ -1,7 +1,6 @@
 -- `tell_shared::tell_line` meets its contract: both entries lie in their bodies, and the line fits. Assumes nothing.
 use Prim.Native.Nat.{◌+◌}
 use native.Mathlib.Omega.{arith}
-use borrow.Author.Rules.{rules}
 use Rattle.archive.proofs.Walk.{part_size}
 use Rattle.image_judge.proofs.Parts.{rows_inside}
 use Rattle.tell_shared.proofs.Rows.{row_stored}

@@ -1,5 +1,4 @@
 -- `tell_shared::tell_packs` hands on two images. Assumes nothing.
-use borrow.Author.Rules.{rules}
 use borrow.Author.Tests.{not-false}
 use Rattle.tell_shared.proofs.tell_packs.Goals as goal
 

@@ -1,5 +1,4 @@
 -- `tell_shared::tell_shared` meets what it calls: no file is reached at the start. Assumes nothing.
-use borrow.Author.Rules.{rules}
 use Rattle.missing.proofs.Reaching.{waiting_none}
 use Rattle.tell_shared.proofs.tell_shared.Goals as goal
 

@@ -1,8 +1,6 @@
 -- `tell_shared::tell_with` ends, and the files that it hands on stand in the archive. Assumes nothing.
 use Prim.Native.Nat.{◌-◌}
 use native.Mathlib.Omega.{arith}
-use borrow.Author.Rules.{rules}
-use Rattle.definition.specs.Limits.{archive_files}
 use Rattle.laws.proofs.Lists.{all_get_d}
 use Rattle.missing.specs.Reaching.{stands_in}
 use Rattle.tell_shared.proofs.tell_with.Goals as goal

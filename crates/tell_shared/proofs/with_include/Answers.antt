@@ -1,5 +1,4 @@
 -- `tell_shared::with_include` meets its contract: files that are reached stand in the archive. Assumes nothing.
-use borrow.Author.Rules.{rules}
 use Rattle.missing.proofs.Reaching.{stands_in_lem, waiting_more}
 use Rattle.tell_shared.proofs.with_include.Goals as goal
 

@@ -1,8 +1,6 @@
 -- `tell_shared::with_includes` meets its contract, and ends: each include is after the one before. Assumes nothing.
 use Prim.Native.Nat.{◌-◌}
-use native.Mathlib.Omega.{arith}
 use lib.ListN.{length}
-use borrow.Author.Rules.{rules}
 use Rattle.missing.specs.Reaching.{Waiting}
 use Rattle.tell_shared.proofs.with_includes.Given as goal
 

@@ -1,14 +1,12 @@
 -- `values::blanks` meets its contract. The invariant is `Dropping`. Assumes nothing.
 use mathlib.Core.Bool.{false}
-use mathlib.Core.Logic.{⊎_elim}
 use mathlib.Core.Path.{◌≡◌, sym, ◌∙◌}
 use Prim.Native.Nat.{◌-◌}
 use native.Mathlib.Omega.{arith}
 use lib.ListN.{length, get_or}
-use borrow.Author.Tests.{eqb-true, eqb-false, ltb-true, ltb-false, not-true, not-false}
-use borrow.Author.Rules.{rules}
+use borrow.Author.Tests.{eqb-true, ltb-false, not-false}
 use Rattle.definition.specs.Bytes.{is_blank}
-use Rattle.values.proofs.Skipping.{Dropping, dropping_none, dropping_blank, dropping_other, dropping_last, dropping_kept, dropping_joined, dropping_end}
+use Rattle.values.proofs.Skipping.{dropping_none, dropping_blank, dropping_other, dropping_last, dropping_kept, dropping_joined, dropping_end}
 use Rattle.values.proofs.blanks.Goals as goal
 use Rattle.values.proofs.blanks.Goals.{then-c-ne92-via-then-c-ne92, then-c-ne92-via-else-c-ne92+then-text-i-lt2, then-c-ne92-via-else-c-ne92+else-text-i-lt2+then-text-i-ne10}
 

@@ -2,8 +2,7 @@
 use mathlib.Core.List.{List, [], ◌∷◌}
 use Prim.Native.Nat.{ℕ, ◌+◌, ◌-◌, ◌≤◌}
 use native.Mathlib.Omega.{arith}
-use lib.ListN.{length, drop}
-use borrow.Author.Rules.{rules}
+use lib.ListN.{drop}
 use Rattle.values.proofs.Pieces.{Yields, IsPiece, answer_piece}
 use Rattle.values.proofs.Decoding.{over, ended, escaped, Decoding, decoding_first, decoded, piece_fits, byte_more, full, drop_more, run_more, run_full}
 use Rattle.values.proofs.parse_value.Goals as goal

@@ -1,5 +1,5 @@
 -- `replay::cases::magnitude` is safe: below 0, -1 less the number is its size less 1. Assumes nothing.
-use Rattle.std.proofs.Common.{◌≡◌, ℕ, suc, Bool, true, false, T, ℤ, pos, negsuc, ◌-ℤ◌, nat_abs, sym, ap, ◌∙◌, arith, to_z-of_z, w64, Fits, SFits, to_z, of_z, rules, leb-false}
+use Rattle.std.proofs.Common.{◌≡◌, ℕ, suc, Bool, true, false, T, ℤ, pos, negsuc, ◌-ℤ◌, nat_abs, sym, ap, ◌∙◌, arith, to_z-of_z, w64, Fits, SFits, to_z, of_z, leb-false}
 use lib.Signed.{mag, non_neg, le_z}
 use mir.Facts.{Fits-nat_abs}
 use borrow.Author.Tests.{lt-leb}

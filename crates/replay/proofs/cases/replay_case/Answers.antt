@@ -1,5 +1,5 @@
 -- `replay::cases::replay_case` is safe: a line's first word lies in it. Assumes nothing.
-use Rattle.std.proofs.Common.{sym, length-take-le, rules}
+use Rattle.std.proofs.Common.{sym, length-take-le}
 use Rattle.definition.specs.Bytes.{is_name}
 use Rattle.scan.proofs.Runs.{run_inside}
 use Rattle.replay.proofs.cases.replay_case.Goals as goal

@@ -1,6 +1,5 @@
 -- `replay_default::cases::take_format` is safe and ends. Assumes nothing.
 use Prim.Native.Nat.{◌-◌}
-use borrow.Author.Rules.{rules}
 use Rattle.replay_default.proofs.cases.take_format.Given as goal
 
 abbrev pub invariant-loop-n : goal.invariant-loop-n

@@ -4,7 +4,6 @@ use Rattle.definition.specs.Lookup.{Reply}
 use Rattle.definition.specs.Board.{Found}
 use Rattle.board_codes.specs.Codes.{answer_numbers}
 use Rattle.board_answers.proofs.Answers.{answer_small}
-use borrow.Author.Rules.{rules}
 use Rattle.resource_manager.proofs.boards.resource_manager_board_answer.Goals as goal
 
 pub answer_code-requires : goal.answer_code-requires

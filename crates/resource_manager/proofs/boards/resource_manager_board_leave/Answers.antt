@@ -1,6 +1,5 @@
 -- `resource_manager::boards::resource_manager_board_leave` meets its contract. Assumes nothing.
 use Rattle.resource_manager.proofs.Packs.{call_numbered, board_crosses}
-use borrow.Author.Rules.{rules}
 use Rattle.resource_manager.proofs.boards.resource_manager_board_leave.Goals as goal
 
 pub call_code-requires : goal.call_code-requires

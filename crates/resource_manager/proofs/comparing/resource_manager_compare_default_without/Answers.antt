@@ -1,6 +1,5 @@
 -- `resource_manager::comparing::resource_manager_compare_default_without` meets its contract. Assumes nothing.
 use Rattle.resource_manager.proofs.Fitting.{both_small, crosses}
-use borrow.Author.Rules.{rules}
 use Rattle.resource_manager.proofs.comparing.resource_manager_compare_default_without.Goals as goal
 
 pub compare_code-requires : goal.compare_code-requires

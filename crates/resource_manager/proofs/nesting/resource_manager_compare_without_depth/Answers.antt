@@ -1,6 +1,5 @@
 -- `resource_manager::nesting::resource_manager_compare_without_depth` meets its contract. Assumes nothing.
 use Rattle.resource_manager.proofs.Fitting.{both_small, crosses}
-use borrow.Author.Rules.{rules}
 use Rattle.resource_manager.proofs.nesting.resource_manager_compare_without_depth.Goals as goal
 
 pub compare_code-requires : goal.compare_code-requires

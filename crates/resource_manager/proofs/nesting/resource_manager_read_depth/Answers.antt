@@ -1,6 +1,5 @@
 -- `resource_manager::nesting::resource_manager_read_depth` meets its contract. Assumes nothing.
 use Rattle.resource_manager.proofs.Fitting.{read_few, read_crosses}
-use borrow.Author.Rules.{rules}
 use Rattle.resource_manager.proofs.nesting.resource_manager_read_depth.Goals as goal
 
 pub read_code-requires : goal.read_code-requires

@@ -3,7 +3,6 @@ use mathlib.Core.Path.{ap, ◌∙◌}
 use Rattle.definition.specs.Lookup.{Reply}
 use Rattle.definition.specs.Walking.{Walk}
 use Rattle.codes.specs.Codes.{start_numbers}
-use borrow.Author.Rules.{rules}
 use Rattle.resource_manager.proofs.walking.resource_manager_walk_start.Goals as goal
 
 pub returns : goal.returns

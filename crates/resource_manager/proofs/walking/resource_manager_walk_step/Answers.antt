@@ -5,7 +5,6 @@ use Rattle.definition.specs.Lookup.{Reply}
 use Rattle.definition.specs.Walking.{walk}
 use Rattle.codes.specs.Codes.{step_numbers}
 use Rattle.resource_manager.proofs.Fitting.{step_numbered}
-use borrow.Author.Rules.{rules}
 use Rattle.resource_manager.proofs.walking.resource_manager_walk_step.Goals as goal
 
 pub step_code-requires : goal.step_code-requires
