@@ -14,7 +14,7 @@ use Rattle.definition.specs.Value.{is_utf8, i64_of, to_bool, replied, read_as, n
 use Rattle.definition.specs.Writing.{entries_of_image}
 use Rattle.definition.specs.Orders.{Reordered, in_bytes, AnswerAlike, ImagesAlike}
 use Rattle.laws.proofs.Lookup.{answer_entries}
-use Rattle.orders.proofs.Answers.{same_answers}
+use Rattle.orders.proofs.Winning.{same_answers}
 
 -- ---- A reading of the value's bytes, from a reply by bytes
 

@@ -2,7 +2,6 @@
 use Rattle.std.specs.Prelude.{if◌then◌else◌}
 use mathlib.Core.Bool.{Bool, true, false}
 use mathlib.Core.List.{List, [], ◌∷◌, ◌++◌, flatten}
-use mathlib.Core.Logic.{◌⊎◌, inl, inr}
 use mathlib.Core.Option.{Option, some, none}
 use mathlib.Core.Path.{◌≡◌, refl, sym, ap, ◌∙◌}
 use Prim.Native.Nat.{ℕ, zero, suc}
@@ -14,10 +13,9 @@ use Rattle.definition.specs.Including.{Chain, Event, opened, entered, events_of,
 use Rattle.definition.specs.Reading.{plain}
 use Rattle.definition.specs.Orders.{outermost}
 use Rattle.laws.proofs.Lists.{filter_append}
-use Rattle.orders.proofs.Drawing.{Drawn}
 use Rattle.orders.proofs.Agreeing.{key_eq, has_key, under}
 use Rattle.orders.proofs.IncludeLines.{sought, file_adds, line_adds}
-use Rattle.orders.proofs.Joined.{Each, each_weaker, each_both, each_join, each_split, joined, EmptyOr, joined_drawn}
+use Rattle.orders.proofs.Joined.{Each, each_both, each_join, joined}
 
 -- ---- Entries and their outermost file
 
@@ -28,7 +26,7 @@ entries_append (opened ch ∷ xs) ys = entries_append xs ys
 entries_append (entered ch e ∷ xs) ys = ap (λ (l : List Entered). record { chain = ch; entry = e } ∷ l) (entries_append xs ys)
 
 module _ (file : List ℕ) where
-  abbrev Through : Entered → Type 0
+  abbrev pub Through : Entered → Type 0
   Through x = outermost x ≡ file
 
   abbrev AllThrough : List Event → Type 0
@@ -64,7 +62,7 @@ module _ (file : List ℕ) where
       events_of_through (including d fs (folder_of g) (file ∷ ch ++ g ∷ [])) (ch ++ g ∷ []) (lines_of b)
       (λ m. including_through d fs (folder_of g) (ch ++ g ∷ []) m)))
 
-  file_through : (d : ℕ) (fs : List File) → AllThrough (file_adds d fs file)
+  pub file_through : (d : ℕ) (fs : List File) → AllThrough (file_adds d fs file)
   unfolding file_adds entries_of Each
   file_through zero fs = tt
   file_through (suc d) fs =
@@ -77,12 +75,12 @@ module _ (file : List ℕ) where
 abbrev pub Agrees : List Part → Entered → Entered → Type 0
 Agrees key x y = x.entry.parts ≡ key → y.entry.parts ≡ key → outermost x ≡ outermost y
 
-record First (P : Entered → Type 0) (key : List Part) : Type 0 where
-  it : Entered
-  has : P it
-  keyed : has_key key it.entry ≡ true
+pub record First (P : Entered → Type 0) (key : List Part) : Type 0 where
+  pub it : Entered
+  pub has : P it
+  pub keyed : has_key key it.entry ≡ true
 
-first_under : (P : Entered → Type 0) (key : List Part) (xs : List Entered) (e : Entry) (es : List Entry) → Each P xs → under key (plain xs) ≡ e ∷ es → First P key
+pub first_under : (P : Entered → Type 0) (key : List Part) (xs : List Entered) (e : Entry) (es : List Entry) → Each P xs → under key (plain xs) ≡ e ∷ es → First P key
 unfolding filter Each
 first_under P key [] e es h u = let z : ◌≡◌ {A = ℕ} 0 1 = cc in absurd (omega arith)
 first_under P key (x ∷ xs) e es h u = at (has_key key x.entry) refl u (first_under P key xs e es h.1)
@@ -111,13 +109,13 @@ module _ (d : ℕ) (fs : List File) where
       entries_append (line_adds d fs l) (joined (line_adds d fs) ls) ∙ ap (λ (xs : List Entered). line_gives l ++ xs) (entries_joined ls)
 
   module _ (key : List Part) where
-    abbrev under_path : Option (List ℕ) → List Entry
+    abbrev pub under_path : Option (List ℕ) → List Entry
     under_path o = under key (plain (gives o))
 
-    abbrev under_line : List ℕ → List Entry
+    abbrev pub under_line : List ℕ → List Entry
     under_line l = under_path (sought l)
 
-    under_joined : (ls : List (List ℕ)) → under key (plain (joined line_gives ls)) ≡ joined under_line ls
+    pub under_joined : (ls : List (List ℕ)) → under key (plain (joined line_gives ls)) ≡ joined under_line ls
     unfolding filter flatten
     under_joined [] = refl
     under_joined (l ∷ ls) =
@@ -126,7 +124,7 @@ module _ (d : ℕ) (fs : List File) where
         ∙ ap (λ (es : List Entry). under_line l ++ es) (under_joined ls)
 
     -- two paths that both give something under it are one
-    files_one : (f g : List ℕ) → First (λ x. Each (Agrees key x) (gives (some g)) × Through f x) key → (e : Entry) (es : List Entry)
+    pub files_one : (f g : List ℕ) → First (λ x. Each (Agrees key x) (gives (some g)) × Through f x) key → (e : Entry) (es : List Entry)
         → under_path (some g) ≡ e ∷ es → f ≡ g
     unfolding seeking
     files_one f g a e es u =
@@ -135,58 +133,3 @@ module _ (d : ℕ) (fs : List File) where
         sym a.has.1
         ∙ b.has.0 (sym (key_eq key a.it.entry.parts a.keyed)) (sym (key_eq key b.it.entry.parts b.keyed))
         ∙ b.has.1
-
-    paths_one : (o p : Option (List ℕ)) → Each (λ x. Each (Agrees key x) (gives p)) (gives o)
-        → (under_path o ≡ []) ⊎ ((under_path p ≡ []) ⊎ (under_path p ≡ under_path o))
-    unfolding seeking entries_of filter
-    paths_one none p h = inl refl
-    paths_one (some f) none h = inr (inl refl)
-    paths_one (some f) (some g) h = at (under_path (some f)) refl (under_path (some g)) refl
-      where
-        at : (us : List Entry) → under_path (some f) ≡ us → (vs : List Entry) → under_path (some g) ≡ vs
-            → (under_path (some f) ≡ []) ⊎ ((under_path (some g) ≡ []) ⊎ (under_path (some g) ≡ under_path (some f)))
-        at [] e vs k = inl e
-        at (u ∷ us) e [] k = inr (inl k)
-        at (u ∷ us) e (v ∷ vs) k =
-            let a = first_under (λ x. Each (Agrees key x) (gives (some g)) × Through f x) key (gives (some f)) u us
-            (each_both (λ x. Each (Agrees key x) (gives (some g))) (Through f) (gives (some f)) h (file_through f d fs)) e in
-            inr (inr (ap (λ (n : List ℕ). under_path (some n)) (sym (files_one f g a v vs k))))
-
-    -- if the first of some lines gives something under it, each of the others gives that or nothing
-    others_one : (l : List ℕ) (e : Entry) (es : List Entry) → under_line l ≡ e ∷ es → (ms : List (List ℕ))
-        → Each (λ x. Each (Agrees key x) (joined line_gives ms)) (line_gives l) → Each (EmptyOr under_line (under_line l)) ms
-    unfolding Each flatten
-    others_one l e es u [] h = tt
-    others_one l e es u (m ∷ ms) h =
-        let split : (x : Entered) → Each (Agrees key x) (joined line_gives (m ∷ ms)) → Each (Agrees key x) (line_gives m) × Each (Agrees key x) (joined line_gives ms) =
-        λ x k. each_split (Agrees key x) (line_gives m) (joined line_gives ms) k in (
-          at (paths_one (sought l) (sought m) (each_weaker _ _ (line_gives l) (λ x k. (split x k).0) h)),
-          others_one l e es u ms (each_weaker _ _ (line_gives l) (λ x k. (split x k).1) h),
-        )
-      where
-        at : (under_line l ≡ []) ⊎ ((under_line m ≡ []) ⊎ (under_line m ≡ under_line l)) → EmptyOr under_line (under_line l) m
-        at (inl n) = let z : ◌≡◌ {A = ℕ} 0 1 = cc in absurd (omega arith)
-        at (inr (inl n)) = inl n
-        at (inr (inr n)) = inr n
-
-    -- the lines give one list under it, or nothing
-    lines_one : (ls : List (List ℕ)) → Each (λ x. Each (Agrees key x) (joined line_gives ls)) (joined line_gives ls)
-        → (w : List Entry) × Each (EmptyOr under_line w) ls
-    unfolding Each flatten
-    lines_one [] h = ([], tt)
-    lines_one (l ∷ ls) h =
-        let rest : (x : Entered) → Each (Agrees key x) (joined line_gives (l ∷ ls)) → Each (Agrees key x) (joined line_gives ls) =
-        λ x k. (each_split (Agrees key x) (line_gives l) (joined line_gives ls) k).1 in
-        let r = each_split (λ x. Each (Agrees key x) (joined line_gives (l ∷ ls))) (line_gives l) (joined line_gives ls) h in
-        at (under_line l) refl (each_weaker _ _ (line_gives l) rest r.0) (lines_one ls (each_weaker _ _ (joined line_gives ls) rest r.1))
-      where
-        at : (us : List Entry) → under_line l ≡ us → Each (λ x. Each (Agrees key x) (joined line_gives ls)) (line_gives l)
-            → (w : List Entry) × Each (EmptyOr under_line w) ls → (w : List Entry) × Each (EmptyOr under_line w) (l ∷ ls)
-        at [] u k ih = (ih.0, (inl u, ih.1))
-        at (e ∷ es) u k ih = (under_line l, (inr refl, others_one l e es u ls k))
-
-    pub under_drawn : {ls ms : List (List ℕ)} → Drawn ls ms → Each (λ x. Each (Agrees key x) (joined line_gives ls)) (joined line_gives ls)
-        → under key (plain (joined line_gives ls)) ≡ under key (plain (joined line_gives ms))
-    under_drawn {ls} {ms} r h =
-        let w = lines_one ls h in
-        under_joined ls ∙ joined_drawn under_line w.0 r w.1 ∙ sym (under_joined ms)

@@ -15,7 +15,6 @@ use Rattle.definition.specs.Text.{Part, Entry}
 use Rattle.definition.specs.Including.{Event, opened, entered, Entered, entries_of, opens_of}
 use Rattle.definition.specs.Image.{too_short}
 use Rattle.definition.specs.Reading.{accepted, Outcome, met, read_entries, plain, start, reading}
-use Rattle.definition.specs.Query.{Query}
 use Rattle.definition.specs.Lookup.{answer_of}
 use Rattle.definition.specs.ThirdTerm.{entry_number}
 use Rattle.definition.specs.Orders.{Rearranged, blank, values_under, are_includes, text_of_lines, OneFile, PacksInAnyOrder, last_of, Decides, OnlyWherePacksMeet}
@@ -29,7 +28,8 @@ use Rattle.orders.proofs.Calls.{images_alike}
 use Rattle.orders.proofs.IncludeLines.{line_adds, lines_met}
 use Rattle.orders.proofs.Joined.{Each, each_get_d, each_at, each_drawn, joined, sum_drawn, each_joined}
 use Rattle.orders.proofs.Meeting.{Stands, StandIn, decided}
-use Rattle.orders.proofs.Packs.{entries_append, Agrees, line_gives, entries_joined, under_drawn}
+use Rattle.orders.proofs.Packs.{entries_append, Agrees, line_gives, entries_joined}
+use Rattle.orders.proofs.OnePack.{under_drawn}
 
 -- ---- A rearrangement the other way round
 
