@@ -68,7 +68,7 @@ const HEAD: &str = "\
 -- Made by `make recorded-antt` from the recorded answers of the Rust: the definition gives each of them.
 use Rattle.std.specs.Prelude.{true, false, List, [], ◌∷◌, map, ◌≡◌, refl, pos, negsuc}
 use Rattle.std.proofs.Math.Option.{some, none}
-use Rattle.definition.specs.Value.{number, not_aNumber}
+use Rattle.definition.specs.Value.{number, not_a_number}
 use Rattle.definition.specs.Evaluation.{definition, written, reads, bytes, truth, value, Row, ◌~◌, entry, read, found, well_formed, ask_bytes, ask_string, ask_bool, ask_value}
 
 rows : List Row
@@ -116,7 +116,7 @@ fn recorded(answer: &Answer) -> String {
         Answer::Bytes(found) => format!("bytes {}", option(found.as_ref().map(|bytes| list(bytes)))),
         Answer::Bool(found) => format!("truth {}", option(found.map(|is| is.to_string()))),
         Answer::Value(Number::Is(number)) => format!("value (some (number {}))", integer(*number)),
-        Answer::Value(Number::NotANumber) => "value (some not_aNumber)".to_string(),
+        Answer::Value(Number::NotANumber) => "value (some not_a_number)".to_string(),
         Answer::Value(Number::None) => "value none".to_string(),
     }
 }
