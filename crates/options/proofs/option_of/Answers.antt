@@ -1,6 +1,7 @@
 -- `options::option_of` meets its contract. Assumes nothing.
+use mathlib.Core.Bool.{false}
 use mathlib.Core.List.{List}
-use mathlib.Core.Path.{refl}
+use mathlib.Core.Path.{◌≡◌, refl, sym, ◌∙◌}
 use Prim.Native.Nat.{ℕ}
 use Rattle.definition.specs.Lists.{ascii, same}
 use Rattle.options.specs.Options.{option_of}
