@@ -1,7 +1,7 @@
 // A file opened, a reader read to its end; why the system refuses, told in words.
 #![tactic(auto)]
 
-ghost use Rattle.std.specs.Prelude.{◌<◌, ◌≤◌, take, length, IfOk};
+ghost use Rattle.std.specs.Prelude.{◌≡◌, ◌<◌, ◌≤◌, take, length, IfOk, OnErr};
 ghost use Rattle.io.specs.Counts.{IsPrefixLen};
 ghost use Rattle.std.specs.Io.KnownBytes.{Consumes, IsAtEnd};
 
@@ -27,11 +27,12 @@ pub fn open(rt: &HostRuntime, path: &[u8]) -> Result<File> {
 
 // Reads until the end, or until `buffer` is full: a caller lends one byte more than it takes, so that what fills the buffer is too long.
 // Which bytes the system gives, and in how many pieces, no contract can say: the programs' tests do. After an error nothing is known of
-// the bytes of `buffer`.
+// the bytes of `buffer` but how many there are.
 pub fn read_all<R: Read>(reader: &mut R, buffer: &mut [u8]) -> Result<usize>
     ensures in_bounds { IfOk result (λ n. IsPrefixLen n buffer.new) }
     ensures bytes { IfOk result (λ n. Consumes (R.remaining reader.old) (R.remaining reader.new) (take n buffer.new)) }
     ensures end { IfOk result (λ n. n < length buffer.new → IsAtEnd (R.remaining reader.new)) }
+    ensures err { OnErr result (length buffer.new ≡ length buffer.old) }
 {
     let mut n = 0;
     while n < buffer.len() {
