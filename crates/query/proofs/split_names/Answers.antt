@@ -39,7 +39,7 @@ returns-then-rest-gt0 c =
 pub returns-then-starts-count : goal.returns-then-starts-count
 returns-then-starts-count c =
     let z = sym c.next_component-n.ensures ∙ c.if-n-eq0.true in (
-      c.no_parts-then-starts-count.ensures ∙ parsed_many _ c.loop-n.invariant c.if-text-most.false c.if-rest-gt0.false (omega (arith, c.if-starts-count.true, as_long c.loop-n.invariant)),
+      c.no_parts-then-starts-count.ensures ∙ parsed_many _ c.loop-n.invariant c.if-text-most.false (omega arith) (omega (arith, c.if-starts-count.true, as_long c.loop-n.invariant)),
       kept_found _ c.loop-n.invariant c.if-text-most.false z,
       lengths_found _ c.loop-n.invariant c.if-text-most.false z,
     )
