@@ -1,6 +1,6 @@
 # Of a log of rt check: which declarations are refused, a line each, `PROOF DECLARATION`. PROOF is the function's folder below proofs/, as
 # `walking/walk_step`, or a file of examples, definitions or laws, as `specs/Walks` or `proofs/Table`. A declaration that waits for another's is not
-# refused for itself, and is left out.
+# refused for itself, and is left out; so is one that only names a goal, a step or a fact that the edit took away.
 
 function put(file, declaration) {
     sub(/^\.\//, "", file)
@@ -10,7 +10,7 @@ function put(file, declaration) {
         print file, declaration
 }
 
-match($0, /^[^ :]+\.antt:[0-9]+:[0-9]+: error: `[^`]+`: /) && !/ was not admitted \(/ {
+match($0, /^[^ :]+\.antt:[0-9]+:[0-9]+: error: `[^`]+`: /) && !/ was not admitted \(| has no field | is not in scope| that can be named from here/ {
     file = declaration = substr($0, 1, RLENGTH)
     sub(/:.*/, "", file)
     sub(/^[^`]*`/, "", declaration)
