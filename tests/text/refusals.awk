@@ -4,8 +4,12 @@
 
 function put(file, declaration) {
     sub(/^\.\//, "", file)
-    if (!sub(/\/(Proof|Answers|Invariants)\.antt$/, "", file) || !sub(/^proofs\//, "", file))
+    if (file !~ /^proofs\/.+\/(Proof|Answers|Invariants)\.antt$/)
         sub(/\.antt$/, "", file)
+    else {
+        sub(/\/[^\/]*$/, "", file)
+        sub(/^proofs\//, "", file)
+    }
     if (!seen[file, declaration]++)
         print file, declaration
 }
