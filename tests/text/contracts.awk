@@ -4,7 +4,7 @@
 # A function gives a result, and may write each place that it is lent as `&mut`. Its `ensures` fixes one of these if it stands in an
 # equation that holds outright, not under a condition, and that gives it back whole: `take n out` says a part of `out` alone. The
 # equation may stand in a record or a definition of the specs that the `ensures` names; each case of a definition must have one. Of a
-# result that may be a part of one slice or of another, the place (`.ref_ptr`) is to be fixed too.
+# result that may be a part of one slice or of another, or that holds such a part, the place (`.ref_ptr`) is to be fixed too.
 #
 # Expressions are tokens with a blank between them. `result.field` is one token, and so is `out.new`, what is lent as it is afterwards; what
 # stands behind a reference is the reference itself, `result` for `result.now`.
@@ -85,8 +85,20 @@ function given_back(e, from,    parts, n, i, key, all, out) {
     }
     if (n == 0)
         return " " parts[0] " "
+    # what the references of a list show
+    if (parts[0] == "map" && n == 2 && bare(parts[1]) ~ /^ *λ x\. x$/)
+        return given_back(parts[2], from)
+    # and where they lie
+    if (parts[0] == "map" && n == 2 && bare(parts[1]) ~ /^ *λ x\. x\.ref_ptr$/) {
+        out = given_back(parts[2], from)
+        gsub(/[^ ]+/, "&.ref_ptr", out)
+        return out
+    }
     key = named(parts[0], from)
     all = parts[0] ~ /^([A-Z]|some$)/ || kind[key] == "constructor"
+    if (n == 1 && key in viewed)
+        out = " " parts[0] ":" bare(parts[1]) " "
+    gsub(/: +/, ":", out)
     for (i = 1; i <= n; i++)
         if (all || (key != "" && index(kept(key), " " (i + shift(key, from)) " ")))
             out = out given_back(parts[i], from)
@@ -126,6 +138,8 @@ function apart(tokens, other,    n, t, i, out) {
 # The same for a name of the specs with its arguments: those that stand where the name's own text fixes them.
 function applied(e, from,    n, args, key, i, out) {
     n = arguments(e, args)
+    if (args[0] == "MatchResult" && n == 3)
+        return taken(args[2], okType, from) && taken(args[3], errType, from) ? given_back(args[1], from) : ""
     key = named(args[0], from)
     if (key == "")
         return ""
@@ -133,6 +147,16 @@ function applied(e, from,    n, args, key, i, out) {
         if (index(places(key), " " (i + shift(key, from)) " "))
             out = out given_back(args[i], from)
     return out
+}
+
+# Does what is said of each value fix it? It is said by `λ x. ..`, or by a name that wants one argument more.
+function taken(e, type, from,    v) {
+    e = bare(e)
+    if (!match(e, /^ *λ [^ ]+\. /))
+        return covered("it", type, fixed(e " it", from))
+    v = substr(e, 1, RLENGTH)
+    gsub(/^ *λ |\. $/, "", v)
+    return covered(v, type, fixed(substr(e, RLENGTH), from))
 }
 
 # How many arguments a declaration takes from the module that it shares with the place where it is used.
@@ -162,9 +186,16 @@ function named(name, from,    path, module) {
 }
 
 # Is a variable fixed, itself or, if it is a struct, each of its fields? Crates may have structs of one name: one of them must fit.
+# A buffer with how far it is written is what stands there and what is left.
 function covered(v, type, f,    n, m, files, names, i, j) {
-    if (index(f, " " v " "))
+    if (index(f, " " v " ") || (index(f, " " v ".0 ") && index(f, " " v ".1 ")))
         return 1
+    sub(/<.*/, "", type)
+    if (type in views) {
+        n = split(views[type], names, " ")
+        for (i = 1; i <= n && index(f, " " names[i] ":" v " "); i++) {}
+        return i > n && n == 2
+    }
     n = split(structs[type], files, " ")
     for (i = 1; i <= n; i++) {
         m = split(fields[files[i], type], names, " ")
@@ -216,14 +247,25 @@ function in_cases(key, what,    n, lines, i, j, f, pats, miss, out) {
 }
 
 # Is what a pattern binds fixed? A constructor is, with all that it holds.
-function held(p, type, f,    n, t, i) {
-    n = split(bare(p), t, " ")
-    if (n == 1 && t[1] !~ /^([A-Z]|.*\.[A-Z])/)
-        return covered(t[1], type, f)
-    for (i = 2; i <= n; i++)
-        if (!index(f, " " t[i] " "))
+function held(p, type, f,    n, args, i) {
+    n = arguments(bare(p), args)
+    if (args[0] !~ /^([A-Z]|.*\.[A-Z])/)
+        return n == 0 && covered(args[0], type, f)
+    for (i = 1; i <= n; i++)
+        if (!held(args[i], within(args[0], type), f))
             return 0
-    return n > 0
+    return 1
+}
+
+# The type of what a constructor of an Option or a Result holds; of another, none is known.
+function within(constructor, type,    args) {
+    arguments(bare(type), args)
+    sub(/.*\./, "", constructor)
+    sub(/.*\./, "", args[0])
+    constructor = args[0] " " constructor
+    type = constructor ~ /^(Option Some|Option some|Result Ok)$/ ? bare(args[1]) : constructor == "Result Err" ? bare(args[2]) : ""
+    gsub(/^ +| +$/, "", type)
+    return type
 }
 
 # ---- Files
@@ -321,6 +363,9 @@ function take_in(path, item, at,    s, name, key, n, parts, i) {
     if (current != "" && at > recordAt && kind[current] == "record") {
         i = index(s, " : ")
         text[current] = text[current] "\n" substr(s, i + 2)
+        name = substr(s, 1, i - 1)
+        sub(/^ pub /, "", name)
+        fields[path, recordName] = fields[path, recordName] " " name
         return
     }
     while (sub(/^ (abbrev|unfoldable|pub|opaque|private|mutual) /, " ", s)) {}
@@ -328,6 +373,10 @@ function take_in(path, item, at,    s, name, key, n, parts, i) {
     sub(/^ (record )?/, "", name)
     sub(/ .*/, "", name)
     key = path SUBSEP name
+    if (s ~ /^ record /) {
+        recordName = name
+        structs[name] = structs[name] " " path
+    }
     if (s ~ /^ record / || (s ~ "^ [^ ]+ :" && !(key in kind))) {
         kind[key] = s ~ /^ record / ? "record" : "definition"
         inside[key] = shared == "" ? key : path SUBSEP shared
@@ -347,8 +396,14 @@ function take_in(path, item, at,    s, name, key, n, parts, i) {
         }
         current = key
         recordAt = at
-    } else if (key in kind)
+    } else if (key in kind) {
         text[key] = text[key] "\n" s
+        # `take v.len v.out` and `drop v.len v.out` read a struct whole between them
+        if (arity[key] == 1 && s ~ /^ [^ ]+ [^ ]+ = (take|drop) [^ ]+\.[a-z]+ [^ ]+$/) {
+            views[ofType[key, 1]] = views[ofType[key, 1]] " " name
+            viewed[key]
+        }
+    }
 }
 
 # ---- Functions
@@ -370,7 +425,7 @@ function promised(head,    i, depth, c, out) {
     return out
 }
 
-function judge(path, head,    crate, name, lent, s, parts, promise, f, type) {
+function judge(path, head, self,    crate, name, lent, s, parts, promise, f, type) {
     crate = path
     sub(/^crates\//, "", crate)
     sub(/\/src\/lib\.rt$/, "", crate)
@@ -385,25 +440,68 @@ function judge(path, head,    crate, name, lent, s, parts, promise, f, type) {
         print crate "::" name ": no ensures"
         return
     }
-    f = fixed(normal(promise), path)
     s = head
     sub(/ (requires|ensures)\*? .*/, "", s)
+    type = s
+    sub(/.*\) -> /, "", type)
+    gsub(/Self/, self, type)
+    okType = errType = ""
+    if (type ~ /^Result</ && split(type, parts, ", ") == 2) {
+        okType = substr(parts[1], 8)
+        errType = parts[2]
+        sub(/> *$/, "", errType)
+    }
+    f = fixed(normal(promise), path)
     if (s ~ /\) -> /) {
         type = s
         sub(/.*\) -> /, "", type)
         sub(/ +$/, "", type)
+        gsub(/Self/, self, type)
         if (!covered("result", type, f))
             print crate "::" name ": the result"
-        if (type ~ /^&'/ && split(s, parts, substr(type, 1, index(type " ", " "))) > 3 && f !~ / result\.(ref_)?ptr /)
+        if (type ~ /&'/ && lenders(s, self, type) > 1 && f !~ / result\.(ref_)?ptr /)
             print crate "::" name ": where the result lies"
     }
+    if (s ~ /&('[a-z]+ )?mut self[,)]/ && !covered("self.new", self, f))
+        print crate "::" name ": self afterwards"
     while (match(s, /[a-z_0-9]+: &('[a-z]+ )?mut /)) {
         lent = substr(s, RSTART, RLENGTH)
         sub(/:.*/, "", lent)
         s = substr(s, RSTART + RLENGTH)
-        if (!index(f, " " lent ".new "))
+        type = s
+        sub(/[,)].*/, "", type)
+        # What a result goes on borrowing is what the result shows, if it has the very reference.
+        if (!covered(lent ".new", type, f) && !(f ~ / result[.a-z_]*\.ghost_name / && index(f, " " lent ".entry.ghost_name ")))
             print crate "::" name ": " lent " afterwards"
     }
+}
+
+# Of how many slices may a result be a part? Of those of its lifetime that the head names, and of those of its type that a struct holds
+# which is lent for that lifetime, or is `self`.
+function lenders(s, self, type,    life, what, struct, end, i, out) {
+    match(type, /&'[a-z]+ (mut )?/)
+    what = substr(type, RSTART + RLENGTH)
+    life = substr(type, RSTART + 1, RLENGTH - 1)
+    sub(/ .*/, "", life)
+    match(what, /^\[?[A-Za-z0-9_]+\]?/)
+    what = "&" substr(what, 1, RLENGTH)
+    # a parameter may be a closure, with an arrow of its own
+    while (i = index(substr(s, end + 1), ") -> "))
+        end += i
+    s = substr(s, 1, end)
+    out = times(s, "&" life " ")
+    if (s ~ /[(& ]self[,)]/)
+        out += times(lends[self], what)
+    for (struct in lends)
+        out += times(s, struct "<" life ">") * times(lends[struct], what)
+    return out
+}
+
+# How often a text stands in another.
+function times(s, t,    n, i) {
+    for (n = 0; i = index(s, t); n++)
+        s = substr(s, i + length(t))
+    return n
 }
 
 # The heads of a source file's public functions, and the fields of its structs.
@@ -414,24 +512,38 @@ FNR == 1 {
 {
     sub(/[ ]*\/\/.*/, "")
 }
-/^ghost use / {
+/^ *ghost use / {
     import(FILENAME, $0)
 }
-/^(pub )?struct [A-Za-z]+ *[{]/ {
+/^(pub )?struct [A-Za-z]+(<[^>]*>)? *[{]/ {
     struct = $0
     sub(/^(pub )?struct /, "", struct)
-    sub(/ *[{].*/, "", struct)
+    sub(/(<[^>]*>)? *[{].*/, "", struct)
     structs[struct] = structs[struct] " " FILENAME
     next
 }
 struct != "" && /^}/ {
     struct = ""
 }
-struct != "" && /:/ {
+# A ghost field is a fact over the others.
+struct != "" && /:/ && !/^ *(pub )?ghost / {
     field = $0
     sub(/:.*/, "", field)
     sub(/^ *(pub )?/, "", field)
     fields[FILENAME, struct] = fields[FILENAME, struct] " " field
+    field = $0
+    gsub(/&'[a-z]+ (mut )?/, "\\&", field)
+    lends[struct] = lends[struct] field
+}
+/^impl/ {
+    self = $0
+    sub(/ *[{].*/, "", self)
+    sub(/.* for /, "", self)
+    sub(/^impl(<[^>]*>)? */, "", self)
+    sub(/<.*/, "", self)
+}
+/^}/ {
+    self = ""
 }
 /^ *pub (const |unsafe )*(extern "C" )?fn / {
     head = " "
@@ -441,10 +553,11 @@ head != "" {
     if ($0 ~ /^ *[{]$/ || ($0 ~ /[{]$/ && head !~ / (ensures|requires)\*? /)) {
         heads[++count] = head
         source[count] = FILENAME
+        selves[count] = self
         head = ""
     }
 }
 END {
     for (i = 1; i <= count; i++)
-        judge(source[i], heads[i])
+        judge(source[i], heads[i], selves[i])
 }

@@ -1,5 +1,6 @@
 -- An entry behind those of an image: what the code has written, and its tests. Assumes nothing.
-use Rattle.std.specs.Prelude.{if◌then◌else◌}
+use Rattle.std.specs.Prelude.{if◌then◌else◌, Some, None}
+use Rattle.std.specs.Prelude.{Option as Answer}
 use mathlib.Core.Bool.{Bool, true, false}
 use mathlib.Core.List.{List, [], ◌∷◌, ◌++◌}
 use mathlib.Core.Option.{some, none}
@@ -26,27 +27,31 @@ use Rattle.values.specs.Decoded.{decoded_at, Decoded}
 use Rattle.values.specs.declared.Stored.{Stored}
 use Rattle.parser.specs.Putting.{entry_from}
 use Rattle.parser.proofs.Entries.{value_is}
+use Rattle.lines.specs.declared.Resource.{Resource}
+use Rattle.refusal.specs.declared.Refusal.{Refusal}
+use Rattle.refusal.specs.declared.Refusal.TheVariants.{ManyParts, ManyEntries, FullBodies}
+use Rattle.refusal.specs.Numbers.{number}
 use Rattle.adding.specs.Only.{Counted, only_of}
 use Rattle.adding.specs.Appending.{refusal_of, Fitting}
 
 -- ---- The limits
 
 module _ (count size len entries used : ℕ) where
-  pub many_parts : most_parts < count → 5 ≡ refusal_of count size len entries used
+  pub many_parts : most_parts < count → Some ManyParts ≡ refusal_of count size len entries used
   unfolding refusal_of
   many_parts h = rw (lt-ltb most_parts count h) refl
 
   module _ (few : count ≤ most_parts) where
-    pub many_entries : most_entries ≤ entries → 6 ≡ refusal_of count size len entries used
+    pub many_entries : most_entries ≤ entries → Some ManyEntries ≡ refusal_of count size len entries used
     unfolding refusal_of
     many_entries h = rw (le-ltb most_parts count few, le-leb most_entries entries h) refl
 
     module _ (room : entries < most_entries) where
-      pub many_bytes : body_bytes < used + (size + len) → 7 ≡ refusal_of count size len entries used
+      pub many_bytes : body_bytes < used + (size + len) → Some FullBodies ≡ refusal_of count size len entries used
       unfolding refusal_of
       many_bytes h = rw (le-ltb most_parts count few, lt-leb most_entries entries room, lt-ltb body_bytes (used + (size + len)) h) refl
 
-      pub none_past : used + (size + len) ≤ body_bytes → 0 ≡ refusal_of count size len entries used
+      pub none_past : used + (size + len) ≤ body_bytes → None ≡ refusal_of count size len entries used
       unfolding refusal_of
       none_past h = rw (le-ltb most_parts count few, lt-leb most_entries entries room, le-ltb body_bytes (used + (size + len)) h) refl
 
@@ -68,7 +73,7 @@ module _ {t u : List ℕ} {size : ℕ} {verbatim : Bool} {len entries used : ℕ
       g ∙ rw (one, two, three, f.key, f.value) (sets-eq (used ∷ length (key_of (parts_of t)) ∷ length (decoded_at u) ∷ unknown_file ∷ []) c (row_start entries) h)
 
   -- the value behind the key
-  bytes_written : {b₁ b₂ : List ℕ} {r : Stored} → b₁ ≡ paste b used (key_of (parts_of t)) (length (key_of (parts_of t))) → length b₁ ≡ length b
+  bytes_written : {b₁ b₂ : List ℕ} {r : Answer Stored} → b₁ ≡ paste b used (key_of (parts_of t)) (length (key_of (parts_of t))) → length b₁ ≡ length b
       → Decoded u b₁ (used + size) b₂ r → b₂ ≡ over used (key_of (parts_of t) ++ decoded_at u) b
   bytes_written {b₁} {b₂} g l d =
       let m : length (decoded_at u) ≤ length b₁ - (used + size) = omega (arith, l, f.value, f.byte_room, f.bodies_long) in
@@ -79,7 +84,7 @@ module _ {t u : List ℕ} {size : ℕ} {verbatim : Bool} {len entries used : ℕ
       ∙ sym (paste_append b used (key_of (parts_of t)) (decoded_at u) k)
       ∙ over_paste used (key_of (parts_of t) ++ decoded_at u) b
 
-  pub appended_is : {b₁ b₂ c₁ c₂ : List ℕ} {r : Stored} → b₁ ≡ paste b used (key_of (parts_of t)) (length (key_of (parts_of t))) → length b₁ ≡ length b
+  pub appended_is : {b₁ b₂ c₁ c₂ : List ℕ} {r : Answer Stored} → b₁ ≡ paste b used (key_of (parts_of t)) (length (key_of (parts_of t))) → length b₁ ≡ length b
       → Decoded u b₁ (used + size) b₂ r
       → c₁ ≡ with_row c entries (record { start = used; key_length = size; value_length = len }) unknown_file → length c₁ ≡ length c
       → c₂ ≡ set (set c₁ 0 (entries + 1)) 1 (used + size + len)
@@ -96,47 +101,47 @@ module _ {t u : List ℕ} {size : ℕ} {verbatim : Bool} {len entries used : ℕ
 
 -- ---- What the tests say
 
--- the number by the tests, and what is then added
+-- the refusal by the tests, and what is then added
 module _ (en : Entry) (c b : List ℕ) (s : Totals) where
   abbrev verdict : Bool → Bool → Bool → Verdict
   verdict x y z = if x then past 5 else if y then past 6 else if z then past 7 else within s
 
-  abbrev number : Bool → Bool → Bool → ℕ
-  number x y z = if x then 5 else if y then 6 else if z then 7 else 0
+  abbrev refusal : Bool → Bool → Bool → Answer Refusal
+  refusal x y z = if x then Some ManyParts else if y then Some ManyEntries else if z then Some FullBodies else None
 
-  judged_past : (x y z : Bool) (k : ℕ) → k ≡ number x y z → (k ≡ 0 → ⊥) → addition (refused k) c b ≡ judged (verdict x y z) en c b
+  judged_past : (x y z : Bool) (k : Refusal) → Some k ≡ refusal x y z → addition (refused (number k)) c b ≡ judged (verdict x y z) en c b
   unfolding judged
-  judged_past true y z k e f = rw e refl
-  judged_past false true z k e f = rw e refl
-  judged_past false false true k e f = rw e refl
-  judged_past false false false k e f = absurd (f e)
+  judged_past true y z k e = let f : k ≡ ManyParts = cc in rw f refl
+  judged_past false true z k e = let f : k ≡ ManyEntries = cc in rw f refl
+  judged_past false false true k e = let f : k ≡ FullBodies = cc in rw f refl
+  judged_past false false false k e = absurd (cc)
 
-  judged_none : (x y z : Bool) → 0 ≡ number x y z → judged (verdict x y z) en c b ≡ appended en c b
+  judged_none : (x y z : Bool) → None ≡ refusal x y z → judged (verdict x y z) en c b ≡ appended en c b
   unfolding judged
-  judged_none true y z e = absurd (omega (arith, e))
-  judged_none false true z e = absurd (omega (arith, e))
-  judged_none false false true e = absurd (omega (arith, e))
+  judged_none true y z e = absurd (cc)
+  judged_none false true z e = absurd (cc)
+  judged_none false false true e = absurd (cc)
   judged_none false false false e = refl
 
 -- an entry that passes them fits
-passes : (count size len entries used : ℕ) → 0 ≡ refusal_of count size len entries used → (entries < most_entries) × (used + (size + len) ≤ body_bytes)
+passes : (count size len entries used : ℕ) → None ≡ refusal_of count size len entries used → (entries < most_entries) × (used + (size + len) ≤ body_bytes)
 unfolding refusal_of
 passes count size len entries used h = at (ltb most_parts count) (leb most_entries entries) refl (ltb body_bytes (used + (size + len))) refl h
   where
     at : (x y : Bool) → leb most_entries entries ≡ y → (z : Bool) → ltb body_bytes (used + (size + len)) ≡ z
-        → ◌≡◌ {A = ℕ} 0 (if x then 5 else if y then 6 else if z then 7 else 0) → (entries < most_entries) × (used + (size + len) ≤ body_bytes)
-    at true y f z g h = absurd (omega (arith, h))
-    at false true f z g h = absurd (omega (arith, h))
-    at false false f true g h = absurd (omega (arith, h))
+        → ◌≡◌ {A = Answer Refusal} None (if x then Some ManyParts else if y then Some ManyEntries else if z then Some FullBodies else None) → (entries < most_entries) × (used + (size + len) ≤ body_bytes)
+    at true y f z g h = absurd (cc)
+    at false true f z g h = absurd (cc)
+    at false false f true g h = absurd (cc)
     at false false f false g h = (leb-false most_entries entries f, ltb-false body_bytes (used + (size + len)) g)
 
 -- ---- The entry of a line, behind those of an image
 
-module _ {t : List ℕ} {v count size : ℕ} {verbatim : Bool} (k : Counted t v count size verbatim) (c b : List ℕ) (is : is_image c b ≡ true)
-    {u : List ℕ} (text : u ≡ after_blanks (take (length t - v) (drop v t))) {len : ℕ} (long : len ≡ length (decoded_at u))
-    {n : ℕ} (says : n ≡ refusal_of count size len (count_of c) (used_of c)) where
+module _ {t : List ℕ} {r : Resource} (k : Counted t r) (c b : List ℕ) (is : is_image c b ≡ true)
+    {u : List ℕ} (text : u ≡ after_blanks (take (length t - r.value) (drop r.value t))) {len : ℕ} (long : len ≡ length (decoded_at u))
+    {n : Answer Refusal} (says : n ≡ refusal_of r.count r.size len (count_of c) (used_of c)) where
   abbrev en : Entry
-  en = entry_from t v
+  en = entry_from t r.value
 
   -- the tests of the definition, and the totals behind them
   abbrev many : Bool
@@ -152,22 +157,22 @@ module _ {t : List ℕ} {v count size : ℕ} {verbatim : Bool} (k : Counted t v 
   after = record { opens = 0; entries = count_of c + 1; used = used_of c + size_of en }
 
   value_here : decoded_at u ≡ en.value
-  value_here = value_is t v k.inside u text
+  value_here = value_is t r.value k.inside u text
 
   says_of : n ≡ refusal_of (length en.parts) (length (key_of en.parts)) (length en.value) (count_of c) (used_of c)
   says_of =
       let l : len ≡ length en.value = long ∙ ap length value_here in
       says ∙ rw (k.parts, k.key, l) refl
 
-  pub entry_refused : (n ≡ 0 → ⊥) → addition (refused n) c b ≡ added_one (en ∷ []) c b
+  pub entry_refused : {refusal : Refusal} → n ≡ Some refusal → addition (refused (number refusal)) c b ≡ added_one (en ∷ []) c b
   unfolding added_one judge refusal_of
-  entry_refused f = judged_past en c b after many full long_store n says_of f
+  entry_refused {refusal} f = judged_past en c b after many full long_store refusal (sym f ∙ says_of)
 
-  module _ (zero_number : n ≡ 0) where
-    pub entry_fits : Fitting t u size verbatim len (count_of c) (used_of c) c b
+  module _ (fits : n ≡ None) where
+    pub entry_fits : Fitting t u r.size r.verbatim len (count_of c) (used_of c) c b
     entry_fits =
         let i = image_holds c b is in
-        let p = passes count size len (count_of c) (used_of c) (sym zero_number ∙ says) in
+        let p = passes r.count r.size len (count_of c) (used_of c) (sym fits ∙ says) in
         record {
           key = k.key;
           some_key = k.some_key;
@@ -187,7 +192,7 @@ module _ {t : List ℕ} {v count size : ℕ} {verbatim : Bool} (k : Counted t v 
     entry_added e =
         e
         ∙ ap (λ (l : List ℕ). appended (record { parts = parts_of t; value = l }) c b) value_here
-        ∙ sym (judged_none en c b after many full long_store (sym zero_number ∙ says_of))
+        ∙ sym (judged_none en c b after many full long_store (sym fits ∙ says_of))
 
 -- ---- The call
 

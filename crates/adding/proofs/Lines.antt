@@ -1,5 +1,4 @@
 -- The entries of a text that is read with an empty archive are those of its own lines; and the loop over these. Assumes nothing.
-use mathlib.Core.Bool.{Bool}
 use mathlib.Core.List.{List, [], ◌∷◌, append-nil}
 use mathlib.Core.Option.{Option, some, none}
 use mathlib.Core.Path.{◌≡◌, refl, ap, ◌∙◌}
@@ -17,11 +16,13 @@ use Rattle.definition.specs.Adding.{entries_added}
 use Rattle.parser.specs.Putting.{entry_from, line_after}
 use Rattle.laws.proofs.Lists.{part_rest}
 use Rattle.lines.specs.Places.{line_in}
+use Rattle.lines.specs.declared.Directive.{Directive}
+use Rattle.lines.specs.declared.Resource.{Resource}
 use Rattle.lines.specs.declared.Line.TheVariants.{Skip, Include, Entry}
 use Rattle.include_lines.specs.Includes.{taken}
 use Rattle.include_lines.proofs.Passing.{entry_found, line_is, line_takes, line_inside}
 use Rattle.include_lines.proofs.Named.{lines_end, lines_step}
-use Rattle.adding.specs.Only.{entered_by, Stands, only_of}
+use Rattle.adding.specs.Only.{entered_by, Counted, only_of}
 
 -- ---- An empty archive
 
@@ -77,42 +78,42 @@ module _ {t : List ℕ} {from at : ℕ} (s : Seeking t from at) where
       unfolding entered_by
       seeking_skip = record { same = s.same ∙ rw (lines_step (drop at t) skipped (drop n (drop at t)) (line_is t at h e).is, drop-drop n at t) refl }
 
-    module _ {a m n : ℕ} (e : Include a m n ≡ line_in (take (length t - at) (drop at t))) where
-      pub include_inside : at + n ≤ length t
+    module _ {d : Directive} (e : Include d ≡ line_in (take (length t - at) (drop at t))) where
+      pub include_inside : at + d.end ≤ length t
       unfolding taken
       include_inside = line_inside t at h e
 
-      pub include_less : 1 ≤ n
+      pub include_less : 1 ≤ d.end
       unfolding taken
       include_less = (line_takes t at h e).some
 
-      pub seeking_include : Seeking t from (at + n)
+      pub seeking_include : Seeking t from (at + d.end)
       unfolding entered_by
-      seeking_include = record { same = s.same ∙ rw (lines_step (drop at t) (include (take m (drop a (drop at t)))) (drop n (drop at t)) (line_is t at h e).is, drop-drop n at t) refl }
+      seeking_include = record { same = s.same ∙ rw (lines_step (drop at t) (include (take d.size (drop d.start (drop at t)))) (drop d.end (drop at t)) (line_is t at h e).is, drop-drop d.end at t) refl }
 
-    module _ {v count size : ℕ} {verbatim : Bool} (e : Entry v count size verbatim ≡ line_in (take (length t - at) (drop at t))) where
-      pub value_in : v ≤ length (take (length t - at) (drop at t))
+    module _ {r : Resource} (e : Entry r ≡ line_in (take (length t - at) (drop at t))) where
+      pub value_in : r.value ≤ length (take (length t - at) (drop at t))
       value_in = rw (part_rest t at) (line_is t at h e).inside
 
-      pub stands : Stands t at v count size verbatim
+      pub stands : (at ≤ length t) × Counted (drop at t) r
       stands =
           let l = line_is t at h e in
           (omega arith, record { inside = l.inside; parts = l.parts; key = l.key; some_key = l.some_key; is_text = l.is_text })
 
-      module _ {n : ℕ} (f : n ≡ line_after (take (length t - at) (drop at t)) v) where
-        after_here : n ≡ line_after (drop at t) v
-        after_here = f ∙ ap (λ (u : List ℕ). line_after u v) (part_rest t at)
+      module _ {n : ℕ} (f : n ≡ line_after (take (length t - at) (drop at t)) r.value) where
+        after_here : n ≡ line_after (drop at t) r.value
+        after_here = f ∙ ap (λ (u : List ℕ). line_after u r.value) (part_rest t at)
 
         pub entry_inside : at + n ≤ length t
         unfolding taken
         entry_inside = rw (← after_here) at (line_inside t at h e)
 
-        pub seeking_found : entered_by (lines_of (drop from t)) ≡ entry_from (drop at t) v ∷ entered_by (lines_of (drop (at + n) t))
+        pub seeking_found : entered_by (lines_of (drop from t)) ≡ entry_from (drop at t) r.value ∷ entered_by (lines_of (drop (at + n) t))
         unfolding entered_by
         seeking_found =
-            let g = entry_found (drop at t) v count size (line_is t at h e) in
+            let g = entry_found (drop at t) (line_is t at h e) in
             s.same
-            ∙ rw (lines_step (drop at t) (entry (entry_from (drop at t) v)) (drop (line_after (drop at t) v) (drop at t)) g, ← after_here, drop-drop n at t) refl
+            ∙ rw (lines_step (drop at t) (entry (entry_from (drop at t) r.value)) (drop (line_after (drop at t) r.value) (drop at t)) g, ← after_here, drop-drop n at t) refl
 
 -- ---- One, or another number of them
 

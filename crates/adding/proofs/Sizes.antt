@@ -1,6 +1,9 @@
 -- The loop that measures a value: so many bytes of it are counted, and the text that is left gives the rest. Assumes nothing.
-use mathlib.Core.List.{List, [], ◌∷◌, flatten}
-use mathlib.Core.Path.{◌≡◌, refl, ap, ◌∙◌}
+use Rattle.std.specs.Prelude.{Option, Some, None, is_some}
+use Rattle.std.proofs.lemmas.Bool.{false≢true}
+use mathlib.Core.Bool.{true, false}
+use mathlib.Core.List.{List, flatten}
+use mathlib.Core.Path.{◌≡◌, refl, sym, ap, ◌∙◌}
 use Prim.Native.Nat.{ℕ, ◌+◌, ◌≤◌, ◌<◌}
 use native.Mathlib.Omega.{arith}
 use lib.ListN.{length, drop, get_or, length-append, length-drop}
@@ -12,7 +15,8 @@ use Rattle.laws.proofs.Parsing.{many_stop}
 use Rattle.laws.proofs.Keys.{piece_shrinks}
 use Rattle.copies.proofs.Copying.{plain_byte}
 use Rattle.values.specs.Decoded.{decoded_at}
-use Rattle.values.proofs.Pieces.{Yields}
+use Rattle.escapes.specs.declared.Piece.{Piece}
+use Rattle.values.proofs.Pieces.{Yields, given, IsPiece}
 use Rattle.values.proofs.Decoding.{over, ended, plain}
 
 pub record Measuring (t : List ℕ) (size i : ℕ) : Type 0 where
@@ -46,11 +50,19 @@ module _ {t : List ℕ} {size i : ℕ} (m : Measuring t size i) where
         ap length g.value ∙ length-append ys (decoded_at (drop n (drop i t))) ∙ rw (drop-drop n i t) refl in
         record { counted = omega (arith, m.counted); inside = piece_inside; less = omega (arith, m.less) }
 
-  pub measuring_byte : {b n : ℕ} → Yields (drop i t) (b ∷ []) n → 1 ≤ n → Measuring t (size + 1) (i + n)
-  measuring_byte g h = measuring_more g h
+  pub measuring_piece : (p : Piece) → IsPiece (drop i t) p → is_some p.byte ≡ true → Measuring t (size + 1) (i + p.len)
+  measuring_piece p g e = at p.byte g e
+    where
+      at : (o : Option ℕ) → Yields (drop i t) (given o) p.len × (1 ≤ p.len) → is_some o ≡ true → Measuring t (size + 1) (i + p.len)
+      at (Some b) g e = measuring_more g.0 g.1
+      at None g e = absurd (false≢true e)
 
-  pub measuring_none : {n : ℕ} → Yields (drop i t) [] n → Measuring t size (i + n)
-  measuring_none g = let z : size + 0 ≡ size = omega arith in rw z at (measuring_more g (omega arith))
+  pub measuring_none : (p : Piece) → IsPiece (drop i t) p → is_some p.byte ≡ false → Measuring t size (i + p.len)
+  measuring_none p g e = at p.byte g e
+    where
+      at : (o : Option ℕ) → Yields (drop i t) (given o) p.len × (1 ≤ p.len) → is_some o ≡ false → Measuring t size (i + p.len)
+      at (Some b) g e = absurd (false≢true (sym e))
+      at None g e = let z : size + 0 ≡ size = omega arith in rw z at (measuring_more g.0 (omega arith))
 
   pub measuring_plain : i < length t → (get_or t i 0 ≡ newline → ⊥) → (get_or t i 0 ≡ backslash → ⊥) → Measuring t (size + 1) (i + 1)
-  measuring_plain h e f = measuring_byte (plain t i h (plain_byte (get_or t i 0) e f)) (omega arith)
+  measuring_plain h e f = measuring_more (plain t i h (plain_byte (get_or t i 0) e f)) (omega arith)

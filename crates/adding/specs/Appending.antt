@@ -1,19 +1,24 @@
 -- An entry behind those of an image: what the code asks and answers.
-use Rattle.std.specs.Prelude.{Bool, List, ◌≡◌, ℕ, ◌+◌, ◌≤◌, ◌<◌, leb, ltb, length, if◌then◌else◌}
+use Rattle.std.specs.Prelude.{Bool, List, ◌≡◌, ℕ, ◌+◌, ◌≤◌, ◌<◌, leb, ltb, length, if◌then◌else◌, Option, Some, None, Result, Ok, Err}
 use Rattle.definition.specs.Limits.{most_entries, most_parts, body_bytes, contents_words}
 use Rattle.definition.specs.Image.{key_of, count_of, used_of}
 use Rattle.definition.specs.Lookup.{Reply, given, refused}
 use Rattle.components.specs.Parts.{parts_of, is_verbatim}
 use Rattle.values.specs.Decoded.{decoded_at}
-use Rattle.adding.specs.declared.Added.{Added}
-use Rattle.adding.specs.declared.Added.TheVariants.{Number, Refused}
+use Rattle.refusal.specs.declared.Refusal.{Refusal}
+use Rattle.refusal.specs.declared.Refusal.TheVariants.{ManyParts, ManyEntries, FullBodies}
+use Rattle.refusal.specs.Numbers.{number}
 
--- 5, 6, 7, or 0 for an entry that fits
-unfoldable pub refusal_of : ℕ → ℕ → ℕ → ℕ → ℕ → ℕ
+-- what refuses an entry, if it does not fit
+unfoldable pub refusal_of : ℕ → ℕ → ℕ → ℕ → ℕ → Option Refusal
 refusal_of count size len entries used =
-    if ltb most_parts count then 5 else
-    if leb most_entries entries then 6 else
-    if ltb body_bytes (used + (size + len)) then 7 else 0
+    if ltb most_parts count then Some ManyParts else
+    if leb most_entries entries then Some ManyEntries else
+    if ltb body_bytes (used + (size + len)) then Some FullBodies else None
+
+abbrev pub said : Result (Unit {0}) Refusal → Option Refusal
+said (Ok o) = None
+said (Err k) = Some k
 
 -- an image has room for the entry of a line t, whose value's text is u
 pub record Fitting (t u : List ℕ) (size : ℕ) (verbatim : Bool) (len entries used : ℕ) (contents bodies : List ℕ) : Type 0 where
@@ -29,6 +34,6 @@ pub record Fitting (t u : List ℕ) (size : ℕ) (verbatim : Bool) (len entries 
   pub bodies_long : body_bytes ≤ length bodies
 
 -- the answer in the definition's words
-abbrev pub replied : Added → Reply ℕ
-replied (Number i) = given i
-replied (Refused k) = refused k
+abbrev pub replied : Result ℕ Refusal → Reply ℕ
+replied (Ok i) = given i
+replied (Err k) = refused (number k)

@@ -11,8 +11,10 @@ use Rattle.definition.specs.Reading.{Answer, accepted, refused as refusedReading
 use Rattle.definition.specs.Lookup.{refused, get_bytes, answer_in, answer_of}
 use Rattle.laws.proofs.Reading.{Reads, accepted_reads}
 use Rattle.laws.proofs.ThirdTerm.{reading_image, reading_answers, reading_replies}
-use Rattle.lookup.specs.declared.Lookup.{Lookup}
-use Rattle.lookup.specs.declared.Lookup.TheVariants.{Found, Nothing, Refused}
+use Rattle.std.specs.Prelude.{Result, Ok, Err, Some, None, Option as Optional}
+use Rattle.refusal.specs.declared.Refusal.{Refusal}
+use Rattle.refusal.specs.Numbers.{number}
+use Rattle.lookup.specs.declared.Place.{Place}
 use Rattle.lookup.specs.Replies.{replied, LiesIn}
 use Rattle.lookup.proofs.Looking.{past, bytes_within}
 use Rattle.showing.specs.Showing.{refused_by, shown_of}
@@ -20,21 +22,24 @@ use Rattle.answers.specs.Answering.{of_bytes, of_query, of_reading, after_readin
 
 -- ---- A lookup's answer
 
-shown_refused : (b : List ℕ) (x : Lookup) (k : ℕ) → replied x ≡ refused k → shown_of b x ≡ refused_by k
-shown_refused b (Found p n) k e = absurd (let z : ◌≡◌ {A = ℕ} 0 1 = cc in omega arith)
-shown_refused b Nothing k e = absurd (let z : ◌≡◌ {A = ℕ} 0 1 = cc in omega arith)
-shown_refused b (Refused j) k e = let i : j ≡ k = cc in ap refused_by i
+abbrev Looked : Type 0
+Looked = Result (Optional Place) Refusal
 
-shown_bytes : (b : List ℕ) (x : Lookup) (o : Option (List ℕ)) → answer_in b (replied x) ≡ o → ((k : ℕ) → replied x ≡ refused k → ⊥) → shown_of b x ≡ of_bytes o
+shown_refused : (b : List ℕ) (x : Looked) (k : ℕ) → replied x ≡ refused k → shown_of b x ≡ refused_by k
+shown_refused b (Ok (Some p)) k e = absurd (let z : ◌≡◌ {A = ℕ} 0 1 = cc in omega arith)
+shown_refused b (Ok None) k e = absurd (let z : ◌≡◌ {A = ℕ} 0 1 = cc in omega arith)
+shown_refused b (Err j) k e = let i : number j ≡ k = cc in ap refused_by i
+
+shown_bytes : (b : List ℕ) (x : Looked) (o : Option (List ℕ)) → answer_in b (replied x) ≡ o → ((k : ℕ) → replied x ≡ refused k → ⊥) → shown_of b x ≡ of_bytes o
 unfolding answer_in
-shown_bytes b (Found p n) o e h = ap of_bytes e
-shown_bytes b Nothing o e h = ap of_bytes e
-shown_bytes b (Refused k) o e h = absurd (h k refl)
+shown_bytes b (Ok (Some p)) o e h = ap of_bytes e
+shown_bytes b (Ok None) o e h = ap of_bytes e
+shown_bytes b (Err j) o e h = absurd (h (number j) refl)
 
-inside_refused : (b : List ℕ) (x : Lookup) (k : ℕ) → replied x ≡ refused k → LiesIn x (length b)
-inside_refused b (Found p n) k e = absurd (let z : ◌≡◌ {A = ℕ} 0 1 = cc in omega arith)
-inside_refused b Nothing k e = tt
-inside_refused b (Refused j) k e = tt
+inside_refused : (b : List ℕ) (x : Looked) (k : ℕ) → replied x ≡ refused k → LiesIn x (length b)
+inside_refused b (Ok (Some p)) k e = absurd (let z : ◌≡◌ {A = ℕ} 0 1 = cc in omega arith)
+inside_refused b (Ok None) k e = tt
+inside_refused b (Err j) k e = tt
 
 module _ (depth : ℕ) (texts : List (List ℕ)) (archive contents bodies : List ℕ) (r : Reads depth texts archive contents bodies) where
   abbrev es : List Entry
@@ -46,7 +51,7 @@ module _ (depth : ℕ) (texts : List (List ℕ)) (archive contents bodies : List
   abbrev b : List ℕ
   b = (reading depth texts archive contents bodies).bodies
 
-  module _ (name class : List ℕ) (x : Lookup) (h : replied x ≡ get_bytes c b name class) where
+  module _ (name class : List ℕ) (x : Looked) (h : replied x ≡ get_bytes c b name class) where
     bytes_are : answer_in b (replied x) ≡ answer_of es (query_of name class)
     bytes_are = ap (answer_in b) h ∙ reading_answers depth texts archive contents bodies r shell name class
 
@@ -64,12 +69,12 @@ module _ (depth : ℕ) (texts : List (List ℕ)) (archive contents bodies : List
         at (past_limit k) e = shown_refused b x k (h ∙ sym (past shell c b name class (reading_image depth texts archive contents bodies r) k e))
 
 module _ (depth : ℕ) (texts : List (List ℕ)) (archive name class contents bodies c b : List ℕ) where
-  refused_shown : (x : Lookup) (k : ℕ) → (reading depth texts archive contents bodies).answer ≡ refusedReading k → replied x ≡ refused k
+  refused_shown : (x : Looked) (k : ℕ) → (reading depth texts archive contents bodies).answer ≡ refusedReading k → replied x ≡ refused k
       → (shown_of b x ≡ answer_shown depth texts archive name class contents bodies) × LiesIn x (length b)
   unfolding answer_shown of_reading
   refused_shown x k e h = (shown_refused b x k h ∙ rw e refl, inside_refused b x k h)
 
-  accepted_shown : (x : Lookup) (n o : ℕ) → (reading depth texts archive contents bodies).answer ≡ accepted n o → c ≡ (reading depth texts archive contents bodies).contents
+  accepted_shown : (x : Looked) (n o : ℕ) → (reading depth texts archive contents bodies).answer ≡ accepted n o → c ≡ (reading depth texts archive contents bodies).contents
       → b ≡ (reading depth texts archive contents bodies).bodies → replied x ≡ get_bytes c b name class
       → (shown_of b x ≡ answer_shown depth texts archive name class contents bodies) × LiesIn x (length b)
   unfolding answer_shown of_reading
@@ -80,7 +85,7 @@ module _ (depth : ℕ) (texts : List (List ℕ)) (archive name class contents bo
       (ap (λ (y : List ℕ). shown_of y x) eb ∙ shown_is depth texts archive contents bodies reads name class x h' ∙ rw e refl, bytes_within shell c b name class x h)
 
   -- what was looked up shows what the definition answers, and lies in the bodies
-  pub looked : (x : Lookup) → LooksUp depth texts archive name class contents bodies c b x → (shown_of b x ≡ answer_shown depth texts archive name class contents bodies) × LiesIn x (length b)
+  pub looked : (x : Looked) → LooksUp depth texts archive name class contents bodies c b x → (shown_of b x ≡ answer_shown depth texts archive name class contents bodies) × LiesIn x (length b)
   unfolding after_reading
   looked x l = at (reading depth texts archive contents bodies).answer refl
     where
@@ -88,7 +93,7 @@ module _ (depth : ℕ) (texts : List (List ℕ)) (archive name class contents bo
       at (accepted n o) e = accepted_shown x n o e l.contents_left l.bodies_left (l.answers ∙ ap (λ (a : Answer). after_reading a (get_bytes c b name class)) e)
       at (refusedReading k) e = refused_shown x k e (l.answers ∙ ap (λ (a : Answer). after_reading a (get_bytes c b name class)) e)
 
-  pub refused_looks : (k : ℕ) → outcome (refusedReading k) c b ≡ reading depth texts archive contents bodies → LooksUp depth texts archive name class contents bodies c b (Refused k)
+  pub refused_looks : (k : Refusal) → outcome (refusedReading (number k)) c b ≡ reading depth texts archive contents bodies → LooksUp depth texts archive name class contents bodies c b (Err k)
   unfolding after_reading
   refused_looks k e = record {
     answers = ap (λ (o : Outcome). after_reading o.answer (get_bytes c b name class)) e;
@@ -96,7 +101,7 @@ module _ (depth : ℕ) (texts : List (List ℕ)) (archive name class contents bo
     bodies_left = ap (λ (o : Outcome). o.bodies) e;
   }
 
-  pub accepted_looks : (n o : ℕ) (x : Lookup) → outcome (accepted n o) c b ≡ reading depth texts archive contents bodies → replied x ≡ get_bytes c b name class
+  pub accepted_looks : (n o : ℕ) (x : Looked) → outcome (accepted n o) c b ≡ reading depth texts archive contents bodies → replied x ≡ get_bytes c b name class
       → LooksUp depth texts archive name class contents bodies c b x
   unfolding after_reading
   accepted_looks n o x e h = record {

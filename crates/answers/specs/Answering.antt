@@ -1,5 +1,5 @@
 -- A query asked of the texts of a reading and their files, and what getres tells of it.
-use Rattle.std.specs.Prelude.{List, ◌≡◌, ℕ}
+use Rattle.std.specs.Prelude.{List, ◌≡◌, ℕ, Result, Option as Optional}
 use Rattle.std.proofs.Math.Option.{Option, some, none}
 use Rattle.definition.specs.Lists.{zeroes}
 use Rattle.definition.specs.Limits.{contents_words, body_bytes}
@@ -7,7 +7,8 @@ use Rattle.definition.specs.Text.{Entry}
 use Rattle.definition.specs.Query.{Query, positions, malformed, past_limit, query_of}
 use Rattle.definition.specs.Reading.{Answer, accepted, refused, reading, plain, read_entries}
 use Rattle.definition.specs.Lookup.{Reply, refused as refusedLookup, Place, get_bytes, answer_of}
-use Rattle.lookup.specs.declared.Lookup.{Lookup}
+use Rattle.refusal.specs.declared.Refusal.{Refusal}
+use Rattle.lookup.specs.declared.Place.{Place as Found}
 use Rattle.lookup.specs.Replies.{replied}
 use Rattle.showing.specs.Showing.{Shown, value, no_value, refused_by}
 use Rattle.reports.specs.Telling.{Told, told}
@@ -20,7 +21,7 @@ after_reading (accepted entries opens) r = r
 after_reading (refused k) r = refusedLookup k
 
 -- the answer, and both buffers, which are the reading's
-pub record LooksUp (depth : ℕ) (texts : List (List ℕ)) (archive name class contents bodies contents' bodies' : List ℕ) (r : Lookup) : Type 0 where
+pub record LooksUp (depth : ℕ) (texts : List (List ℕ)) (archive name class contents bodies contents' bodies' : List ℕ) (r : Result (Optional Found) Refusal) : Type 0 where
   pub answers : replied r ≡ after_reading (reading depth texts archive contents bodies).answer (get_bytes contents' bodies' name class)
   pub contents_left : contents' ≡ (reading depth texts archive contents bodies).contents
   pub bodies_left : bodies' ≡ (reading depth texts archive contents bodies).bodies

@@ -4,11 +4,15 @@
 ghost use Rattle.std.specs.Prelude.{map, ◌≤◌, length};
 ghost use Rattle.reports.specs.Telling.{Reports, report_bytes};
 ghost use Rattle.answers.specs.Answering.{LooksUp, answer_told};
+ghost use Rattle.printing.specs.Putting.{left};
 
 use limits::{BODY_BYTES, CONTENTS_WORDS};
-use lookup::{Lookup, get_bytes};
-use reader::{Answer, read_texts};
+use lookup::{Place, get_bytes};
+use printing::Lines;
+use reader::read_texts;
+use refusal::Refusal;
 use reports::{Report, tell};
+use showing::value_of;
 
 // Reads the texts with the archive at that depth, and looks the query up in what was read.
 fn look_up(
@@ -19,14 +23,11 @@ fn look_up(
     class: &[u8],
     contents: &mut [u16],
     bodies: &mut [u8],
-) -> Lookup
+) -> Result<Option<Place>, Refusal>
     ensures { LooksUp depth (map (λ x. x.now) texts.now) archive.now name.now class.now contents.old bodies.old contents.new bodies.new result }
 {
-    let answer = read_texts(texts, archive, depth, contents, bodies);
-    match answer {
-        Answer::Refused(number) => Lookup::Refused(number),
-        Answer::Accepted(_, _) => get_bytes(contents, bodies, name, class),
-    }
+    let _read = read_texts(texts, archive, depth, contents, bodies)?;
+    get_bytes(contents, bodies, name, class)
 }
 
 // The value that a name and a class get from texts and their files, none, or a refusal.
@@ -36,9 +37,9 @@ pub fn answer(
     depth: u64,
     name: &[u8],
     class: &[u8],
-    out: &mut [u8],
+    out: &mut Lines,
 ) -> Report
-    requires { report_bytes ≤ length out.old }
+    requires { report_bytes ≤ length (left out.old) }
     ensures { Reports (answer_told depth (map (λ x. x.now) texts.now) archive.now name.now class.now) out.old out.new result }
 {
     let mut contents = [0; CONTENTS_WORDS];
@@ -52,5 +53,5 @@ pub fn answer(
         &mut contents,
         &mut bodies,
     );
-    tell(found, &bodies, out)
+    tell(value_of(found, &bodies), out)
 }

@@ -1,11 +1,10 @@
 -- What is told of the entries that align, and of what was read. Assumes nothing.
 use mathlib.Core.Bool.{true, false}
-use mathlib.Core.List.{List, [], ◌∷◌}
+use mathlib.Core.List.{List, [], ◌∷◌, ◌++◌}
 use mathlib.Core.Path.{◌≡◌, refl, sym, ap, ◌∙◌}
-use Prim.Native.Nat.{ℕ, ◌≤◌, ◌<◌}
+use Prim.Native.Nat.{ℕ, ◌+◌, ◌≤◌, ◌<◌}
 use native.Mathlib.Omega.{arith}
 use lib.ListN.{length, get_or, length-append}
-use lib.Seq.{paste-zero}
 use Rattle.definition.specs.Lists.{ascii, zeroes}
 use Rattle.definition.specs.Limits.{contents_words, body_bytes}
 use Rattle.definition.specs.Text.{Entry}
@@ -21,11 +20,14 @@ use Rattle.laws.proofs.Image.{length_bare, image_held}
 use Rattle.laws.proofs.Origins.{bare_with}
 use Rattle.laws.proofs.Adding.{Asked, starts}
 use Rattle.laws.proofs.ThirdTerm.{read_holds, read_sourced}
-use Rattle.printing.specs.Putting.{Appends}
-use Rattle.printing.proofs.Pieces.{piece_counts}
+use Rattle.std.proofs.lemmas.List.{nil_from_length}
+use Rattle.printing.specs.Putting.{Appends, written}
+use Rattle.printing.specs.declared.Lines.{Lines}
+use Rattle.printing.proofs.Pieces.{piece_of, then_piece}
 use Rattle.reports.specs.declared.Report.{Report}
 use Rattle.reports.specs.Telling.{output, trouble, refused as refusalTold, Reports}
-use Rattle.reports.proofs.Telling.{report, reports_of}
+use Rattle.reports.specs.declared.Status.TheVariants.{Yes, No}
+use Rattle.reports.proofs.Telling.{reports_of}
 use Rattle.places.specs.Places.{file_told}
 use Rattle.walk_lines.specs.Lines.{blank, line_at, lines_at, walk_lines}
 use Rattle.walk_lines.proofs.Lines.{listed_long, walk_most}
@@ -71,27 +73,32 @@ module _ (contents bodies archive name class : List ℕ) where
     asked = (starts contents bodies name class (walk 0 count) (sym start)).asked
 
     -- room for the lines
-    pub lines_room : (out : List ℕ) → laid_out archive ≡ true → listed_bytes ≤ length out → length (walk_lines fs q xs) ≤ length out
-    lines_room out l h =
+    pub lines_room : (left : List ℕ) → laid_out archive ≡ true → listed_bytes ≤ length left → length (walk_lines fs q xs) ≤ length left
+    lines_room left l h =
         let i = image_held contents bodies (starts contents bodies name class (walk 0 count) (sym start)).is_image_lem in
         let b = bare_with (entries_of_image contents bodies) (origins_in contents) in
         omega (arith, walk_most archive l q xs, i.few, i.small, length_bare xs, ap length b, ap (λ (es : List Entry). length (store_of es)) b)
 
     -- nothing was put, and then that there is none; or the lines
-    module _ {out out' : List ℕ} {size : ℕ} (p : Appends (walk_lines fs q xs) out 0 out' size) where
-      pub told_none : {out'' : List ℕ} {end : ℕ} → size ≡ 0 → Appends (ascii "getres: no entry\n") out' 0 out'' end → Reports (query_told fs q xs) out out'' (report end 1 true)
-      told_none {out''} {end} z w =
-          let n : length (walk_lines fs q xs) ≡ 0 = omega (arith, p.ends) in
-          let same : out' ≡ out = p.leaves ∙ rw n (paste-zero out 0 (walk_lines fs q xs)) in
-          let r : Appends (ascii "getres: no entry\n") out 0 out'' end = rw same at w in
-          reports_of (none_told fs xs (numbers_of q (bare xs)) n ∙ query_told_lem fs xs q asked) (record { puts = r; status = refl; wrong = refl; counts = piece_counts r })
+    module _ {w w' : Lines} (p : Appends (walk_lines fs q xs) w w') where
+      put_bytes : length (written w') ≡ length (written w) + length (walk_lines fs q xs)
+      put_bytes = ap length p.puts ∙ length-append (written w) (walk_lines fs q xs)
 
-      pub told_some : 0 < size → Reports (query_told fs q xs) out out' (report size 0 false)
+      pub told_none : {w'' : Lines} → length (written w') ≡ length (written w) → Appends (ascii "getres: no entry\n") w' w''
+          → Reports (query_told fs q xs) w w'' (record { status = No; wrong = true })
+      told_none {w''} z t =
+          let n : length (walk_lines fs q xs) ≡ 0 = omega (arith, put_bytes) in
+          let none : walk_lines fs q xs ≡ [] = nil_from_length _ n in
+          reports_of (none_told fs xs (numbers_of q (bare xs)) n ∙ query_told_lem fs xs q asked)
+          (record { puts = piece_of (ap (λ (l : List ℕ). l ++ ascii "getres: no entry\n") none) (then_piece p t); status = refl; wrong = refl })
+
+      pub told_some : (length (written w') ≡ length (written w) → ⊥) → Reports (query_told fs q xs) w w' (record { status = Yes; wrong = false })
       told_some h =
-          reports_of (some_told fs xs (numbers_of q (bare xs)) (omega (arith, p.ends)) ∙ query_told_lem fs xs q asked) (record { puts = p; status = refl; wrong = refl; counts = piece_counts p })
+          let n : 0 < length (walk_lines fs q xs) = omega (arith, h, put_bytes) in
+          reports_of (some_told fs xs (numbers_of q (bare xs)) n ∙ query_told_lem fs xs q asked) (record { puts = p; status = refl; wrong = refl })
 
-  pub told_refused : is_image contents bodies ≡ true → (k : ℕ) → refusedStart k ≡ walk_start contents bodies name class → {out out' : List ℕ} {r : Report}
-      → Reports (refusalTold k) out out' r → Reports (query_told fs q xs) out out' r
+  pub told_refused : is_image contents bodies ≡ true → (k : ℕ) → refusedStart k ≡ walk_start contents bodies name class → {w w' : Lines} {r : Report}
+      → Reports (refusalTold k) w w' r → Reports (query_told fs q xs) w w' r
   unfolding walk_start_by begun query_told
   told_refused e k h p = reports_of (at q refl (h ∙ rw e refl)) p
     where
@@ -113,11 +120,11 @@ module _ (depth : ℕ) (texts : List (List ℕ)) (archive name class : List ℕ)
     pub read_image : (is_image c b ≡ true) × (laid_out archive ≡ true)
     read_image = ((read_holds depth texts archive (zeroes contents_words) (zeroes body_bytes) c b n o e).0, holds.0)
 
-    pub list_told_lem : {out out' : List ℕ} {r : Report} → Reports (query_told (files_of archive) (query_of name class) (sources_of_image c b)) out out' r → Reports (list_told depth texts archive name class) out out' r
+    pub list_told_lem : {w w' : Lines} {r : Report} → Reports (query_told (files_of archive) (query_of name class) (sources_of_image c b)) w w' r → Reports (list_told depth texts archive name class) w w' r
     unfolding list_told read_told
     list_told_lem p = reports_of (ap (query_told (files_of archive) (query_of name class)) holds.1 ∙ rw (← e) refl) p
 
-  pub refused_told : {c b : List ℕ} (k : ℕ) → outcome (refused k) c b ≡ read → {out out' : List ℕ} {r : Report} → Reports (refusalTold k) out out' r
-      → Reports (list_told depth texts archive name class) out out' r
+  pub refused_told : {c b : List ℕ} (k : ℕ) → outcome (refused k) c b ≡ read → {w w' : Lines} {r : Report} → Reports (refusalTold k) w w' r
+      → Reports (list_told depth texts archive name class) w w' r
   unfolding list_told read_told
   refused_told k e p = reports_of (ap (λ (x : Outcome). read_told x.answer (query_told (files_of archive) (query_of name class) (sourced (files_of archive) (read_entries depth texts archive)))) e) p

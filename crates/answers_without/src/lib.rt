@@ -1,16 +1,19 @@
 // What getres tells of a query with a file on the archive (document 01's shelf) and with it struck off.
 #![tactic(auto)]
 
-ghost use Rattle.std.specs.Prelude.{◌≡◌, true, map, ◌≤◌, length};
-ghost use Rattle.definition.specs.Archive.{files_of, laid_out, file_number};
+ghost use Rattle.std.specs.Prelude.{map, ◌≤◌, length};
+ghost use Rattle.definition.specs.Archive.{files_of, file_number};
 ghost use Rattle.reports.specs.Telling.{Reports, report_bytes, argument_bytes};
 ghost use Rattle.answers_without.specs.Twice.{twice_told};
+ghost use Rattle.printing.specs.Putting.{left};
 
+use archive::Archive;
 use archive_find::number_of;
 use compare::compare_without;
-use comparison::Compared;
 use limits::{ARCHIVE_BYTES, BODY_BYTES, CONTENTS_WORDS};
+use printing::Lines;
 use reports::{Report, no_file, refuse, tell_both};
+use showing::value_of;
 
 // Both answers, with file `number` and without it.
 fn compare_file(
@@ -21,9 +24,9 @@ fn compare_file(
     file: &[u8],
     name: &[u8],
     class: &[u8],
-    out: &mut [u8],
+    out: &mut Lines,
 ) -> Report
-    requires { (length file.now ≤ argument_bytes) × (report_bytes ≤ length out.old) }
+    requires { (length file.now ≤ argument_bytes) × (report_bytes ≤ length (left out.old)) }
     ensures { Reports (twice_told depth (map (λ x. x.now) texts.now) archive.now number file.now name.now class.now) out.old out.new result }
 {
     let mut struck = [0; ARCHIVE_BYTES];
@@ -45,25 +48,31 @@ fn compare_file(
         &mut store,
     );
     match compared {
-        Compared::Both(a, b, _) => tell_both(file, a, &bodies, b, &store, out),
-        Compared::NoFile => no_file(file, out),
-        Compared::Refused(number) => refuse(number, out),
+        Ok(found) => match found {
+            Some(both) => {
+                let a = value_of(Ok(both.with_it), &bodies);
+                let b = value_of(both.without, &store);
+                tell_both(file, a, b, out)
+            }
+            None => no_file(file, out),
+        },
+        Err(refusal) => refuse(refusal, out),
     }
 }
 
 // Both answers, with the file of that name and without it, and whether they differ.
 pub fn answer_twice(
     texts: &[&[u8]],
-    archive: &[u8],
+    archive: Archive<'_>,
     depth: u64,
     file: &[u8],
     name: &[u8],
     class: &[u8],
-    out: &mut [u8],
+    out: &mut Lines,
 ) -> Report
-    requires { (laid_out archive.now ≡ true) × (length file.now ≤ argument_bytes) × (report_bytes ≤ length out.old) }
-    ensures { Reports (twice_told depth (map (λ x. x.now) texts.now) archive.now (file_number file.now (files_of archive.now)) file.now name.now class.now) out.old out.new result }
+    requires { (length file.now ≤ argument_bytes) × (report_bytes ≤ length (left out.old)) }
+    ensures { Reports (twice_told depth (map (λ x. x.now) texts.now) archive.entry.bytes.now (file_number file.now (files_of archive.entry.bytes.now)) file.now name.now class.now) out.old out.new result }
 {
     let number = number_of(archive, file);
-    compare_file(texts, archive, depth, number, file, name, class, out)
+    compare_file(texts, archive.bytes, depth, number, file, name, class, out)
 }

@@ -12,6 +12,7 @@ use lib.ListN.{length, take, drop, get_or, length-append, length-drop, drop_of_l
 use lib.Seq.{get_or-drop, drop-drop, drop-cons, take-add, length-take-le}
 use borrow.Author.Tests.{leb-true, le-leb, lt-leb, eq-eqb, ne_eqb}
 use Rattle.definition.specs.Lists.{is_empty}
+use Rattle.definition.specs.Limits.{archive_files}
 use Rattle.definition.specs.Archive.{File, bodies_of, number_at, files_from, files_of, laid_out}
 use Rattle.laws.proofs.Lists.{and_true}
 use Rattle.laws.proofs.Archive.{laid_out_says, laid_out_archive}
@@ -142,6 +143,10 @@ laid_fits s h = ap fits (sym (laid_out_archive s h)) ∙ files_fit (files_of s)
 pub length_files : (s : List ℕ) → length (files_of s) ≡ number_at s 0
 unfolding files_of
 length_files s = number_from (number_at s 0) (drop 2 s) (drop (lengths_at (number_at s 0)) s)
+
+-- by the number that a judged archive answers
+pub counted : (s : List ℕ) {count : ℕ} → (count ≡ length (files_of s)) × (count ≤ archive_files) → (count ≡ number_at s 0) × (count < 65536)
+counted s e = (omega (arith, e, length_files s), omega (arith, e))
 
 pub rows_room : (s : List ℕ) → laid_out s ≡ true → lengths_at (length (files_of s)) ≤ length s
 rows_room s h = omega (arith, length_files s, fits_room s (laid_fits s h))

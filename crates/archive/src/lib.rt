@@ -1,13 +1,15 @@
 // Document 01's shelf: the walk over its files, and whether it is laid out.
 #![tactic(auto)]
 
-ghost use Rattle.std.specs.Prelude.{◌≡◌, true, [], ◌+◌, ◌≤◌, ◌<◌, length};
+ghost use Rattle.std.specs.Prelude.{◌≡◌, true, false, [], ◌+◌, ◌≤◌, ◌<◌, length, MatchResult};
+ghost use Rattle.definition.specs.Limits.{archive_files};
 ghost use Rattle.definition.specs.Archive.{number_at, files_of, laid_out};
 ghost use Rattle.laws.proofs.Walked.{fits};
 ghost use Rattle.archive.specs.Walk.{lengths_at, name_start, member_at, rising_from};
 
 use file_names::{is_file_name, lower};
 use limits::{ARCHIVE_BYTES, ARCHIVE_FILES};
+use refusal::Refusal;
 
 // The bytes of a file's two lengths.
 pub const LENGTHS_BYTES: usize = 4;
@@ -26,7 +28,7 @@ fn word_at(archive: &[u8], i: usize) -> usize
     requires { i + 1 < length archive.now }
     ensures { (result ≡ number_at archive.now i) × (result < 65536) }
 {
-    archive[i] as usize + 256 * (archive[i + 1] as usize)
+    usize::from(u16::from_le_bytes([archive[i], archive[i + 1]]))
 }
 
 // How many files the archive says it has.
@@ -61,22 +63,6 @@ pub fn member_at(archive: &[u8], number: usize, start: usize) -> Member
     }
 }
 
-// The file of that number, by the walk over those before it.
-pub fn member_of(archive: &[u8], file: usize) -> Member
-    requires { (laid_out archive.now ≡ true) × (file < length (files_of archive.now)) }
-    ensures { result ≡ member_at archive.now file (name_start file archive.now) }
-{
-    let count = file_count(archive);
-    let mut at = lengths_at(count);
-    let mut j = 0;
-    while j < file {
-        let member = member_at(archive, j, at);
-        at = member.end;
-        j += 1;
-    }
-    member_at(archive, file, at)
-}
-
 // Do the lengths sum to the bytes that follow them, and to nothing less?
 fn fits(archive: &[u8]) -> bool
     ensures { result ≡ fits archive.now }
@@ -89,14 +75,12 @@ fn fits(archive: &[u8]) -> bool
     if archive.len() < at {
         return false;
     }
-    let mut j = 0;
-    while j < count {
+    for j in 0..count {
         let member = member_at(archive, j, at);
         if archive.len() < member.end {
             return false;
         }
         at = member.end;
-        j += 1;
     }
     at == archive.len()
 }
@@ -109,12 +93,9 @@ fn names_rise(archive: &[u8]) -> bool
     let count = file_count(archive);
     let mut at = lengths_at(count);
     let mut last = &archive[..0];
-    let mut j = 0;
-    while j < count {
+    for j in 0..count {
         let member = member_at(archive, j, at);
-        let start = member.start;
-        let body = member.body;
-        let name = &archive[start..body];
+        let name = &archive[member.start..member.body];
         if !is_file_name(name) {
             return false;
         }
@@ -123,7 +104,6 @@ fn names_rise(archive: &[u8]) -> bool
         }
         last = name;
         at = member.end;
-        j += 1;
     }
     true
 }
@@ -142,4 +122,42 @@ pub fn is_archive(archive: &[u8]) -> bool
         return false;
     }
     names_rise(archive)
+}
+
+// An archive that is judged: bytes that are laid out as document 01's shelf.
+#[derive(Clone, Copy)]
+pub struct Archive<'a> {
+    pub bytes: &'a [u8],
+    ghost judged: { laid_out bytes.now ≡ true },
+}
+
+impl<'a> Archive<'a> {
+    // The bytes, judged: 3.
+    pub fn new(bytes: &'a [u8]) -> Result<Archive<'a>, Refusal>
+        ensures { MatchResult result (λ archive. (archive.bytes.now ≡ bytes.now) × (laid_out bytes.now ≡ true)) (λ k. (k ≡ Refusal.NotAnArchive) × (laid_out bytes.now ≡ false)) }
+    {
+        if !is_archive(bytes) {
+            return Err(Refusal::NotAnArchive);
+        }
+        Ok(Archive { bytes })
+    }
+
+    // How many files it has.
+    pub fn count(self) -> usize
+        ensures { (result ≡ length (files_of self.entry.bytes.now)) × (result ≤ archive_files) }
+    {
+        file_count(self.bytes)
+    }
+
+    // The file of that number, by the walk over those before it.
+    pub fn member(self, file: usize) -> Member
+        requires { file < length (files_of self.bytes.now) }
+        ensures { result ≡ member_at self.entry.bytes.now file (name_start file self.entry.bytes.now) }
+    {
+        let mut at = lengths_at(self.count());
+        for j in 0..file {
+            at = member_at(self.bytes, j, at).end;
+        }
+        member_at(self.bytes, file, at)
+    }
 }

@@ -1,5 +1,5 @@
 -- The files of an archive, with one more. Assumes nothing.
-use Rattle.std.specs.Prelude.{if◌then◌else◌}
+use Rattle.std.specs.Prelude.{Ok, Err, if◌then◌else◌}
 use mathlib.Core.Bool.{Bool, true, false, not}
 use mathlib.Core.List.{List, [], ◌∷◌, ◌++◌, append_assoc}
 use mathlib.Core.Path.{◌≡◌, refl, sym, ap, ◌∙◌}
@@ -11,17 +11,17 @@ use lib.Seq.{paste, length-take-le, length-paste, take_all, take_at}
 use borrow.Author.Tests.{leb-true, le-leb, lt-leb, le-ltb, lt-ltb, ltb-false, leb-false, not-false}
 use Rattle.definition.specs.Lists.{all, lower}
 use Rattle.definition.specs.Limits.{archive_bytes, archive_files, file_name_bytes}
-use Rattle.definition.specs.Archive.{File, bytes_of, lengths_of, bodies_of, archive_of, number_at, files_of, split, is_name_part, is_file_name, rising, laid_out}
+use Rattle.definition.specs.Archive.{File, bytes_of, lengths_of, bodies_of, archive_of, files_of, split, is_name_part, is_file_name, rising, laid_out}
 use Rattle.definition.specs.Evaluation.{definition}
 use Rattle.laws.proofs.Lists.{not_both, and_true, and_both, not_lower_equal, all_map}
 use Rattle.laws.proofs.Archive.{files_archive, laid_out_says, says_laid_out, rising_first, rising_rest, rising_cons}
 use Rattle.archive.specs.Walk.{lengths_at, name_start}
-use Rattle.archive.proofs.Walk.{length_files, bodies_append, part_size}
+use Rattle.archive.proofs.Walk.{bodies_append, part_size}
 use Rattle.archive_slot.specs.declared.Slot.{Slot}
-use Rattle.archive_slot.specs.Slots.{below, on_it, slot_for}
+use Rattle.archive_slot.specs.Slots.{below, on_it, place_for}
 use Rattle.archive_slot.proofs.Slots.{names, on_passed, on_same, below_most}
-use Rattle.archive_add.specs.declared.Added.{Added}
-use Rattle.archive_add.specs.declared.Added.TheVariants.{Size, NotAName, Again, TooMany, TooLarge}
+use Rattle.archive_add.specs.declared.AddError.{AddError}
+use Rattle.archive_add.specs.declared.AddError.TheVariants.{NotAName, Again, TooMany, TooLarge}
 use Rattle.archive_add.specs.Adding.{inserted, archive_with, Addition, addition_of, adding}
 use Rattle.archive_write.proofs.Stretches.{lengths_append, stretch_sizes, stretch_lengths, stretch_middle, stretch_last, starts_low, written_first, written_on, written_all}
 
@@ -83,18 +83,18 @@ module _ (s : List ℕ) (h : laid_out s ≡ true) (f : File) where
       ap length (inserted_cut f (files_of s)) ∙ length-append (take j (files_of s)) (f ∷ drop j (files_of s))
       ∙ omega (arith, length-take-le j (files_of s) k, length-drop j (files_of s), k)
 
-  module _ (slot : Slot) (es : slot ≡ slot_for f.name s) (count : ℕ) (ec : count ≡ number_at s 0) where
+  module _ (slot : Slot) (es : slot ≡ place_for f.name s) (count : ℕ) (ec : count ≡ length (files_of s)) where
     index_is : slot.index ≡ j
-    unfolding slot_for
+    unfolding place_for
     index_is = ap (λ x. x.index) es
 
     at_is : slot.at ≡ name_start j s
-    unfolding slot_for
+    unfolding place_for
     at_is = ap (λ x. x.at) es
 
     pub slot_most : (slot.index ≤ count) × (lengths_at count ≤ slot.at) × (slot.at ≤ length s)
     slot_most =
-        (omega (arith, k, index_is, ec, length_files s), omega (arith, at_is, ec, length_files s, starts_low s j), omega (arith, at_is, stretch_sizes s h j j k k))
+        (omega (arith, k, index_is, ec), omega (arith, at_is, ec, starts_low s j), omega (arith, at_is, stretch_sizes s h j j k k))
 
     abbrev parts : List ℕ
     parts =
@@ -105,7 +105,7 @@ module _ (s : List ℕ) (h : laid_out s ≡ true) (f : File) where
     unfolding archive_with archive_of lengths_of bodies_of
     parts_are =
         let fs = files_of s in
-        let c : count + 1 ≡ length (take j fs ++ f ∷ drop j fs) = sym (ap length (sym (inserted_cut f fs)) ∙ length_more ∙ omega (arith, ec, length_files s)) in
+        let c : count + 1 ≡ length (take j fs ++ f ∷ drop j fs) = sym (ap length (sym (inserted_cut f fs)) ∙ length_more ∙ omega (arith, ec)) in
         rw (
           index_is,
           at_is,
@@ -150,7 +150,7 @@ module _ (s : List ℕ) (h : laid_out s ≡ true) (f : File) where
         written_all w₇ (archive_with f s) parts_are
 
   pub length_with : length (archive_with f s) ≡ length s + (4 + length f.name + length f.body)
-  length_with = sym (insert_written (slot_for f.name s) refl (number_at s 0) refl [] _ _ _ _ _ _ _ refl refl refl refl refl refl refl).0
+  length_with = sym (insert_written (place_for f.name s) refl (length (files_of s)) refl [] _ _ _ _ _ _ _ refl refl refl refl refl refl refl).0
 
   inserted_laid : is_file_name f.name ≡ true → on_it f.name (files_of s) ≡ false → length (files_of s) < archive_files
       → length (archive_with f s) ≤ archive_bytes → laid_out (archive_with f s) ≡ true
@@ -173,27 +173,27 @@ module _ (s : List ℕ) (h : laid_out s ≡ true) (f : File) where
   -- ---- The first reason why there is none, or the archive
 
   module _ (out : List ℕ) where
-    pub adding_name : is_file_name f.name ≡ false → addition_of NotAName out ≡ adding f s out
+    pub adding_name : is_file_name f.name ≡ false → addition_of (Err NotAName) out ≡ adding f s out
     unfolding adding
     adding_name a = rw a refl
 
     module _ (a : is_file_name f.name ≡ true) where
-      pub adding_again : on_it f.name (files_of s) ≡ true → addition_of Again out ≡ adding f s out
+      pub adding_again : on_it f.name (files_of s) ≡ true → addition_of (Err Again) out ≡ adding f s out
       unfolding adding
       adding_again b = rw (a, b) refl
 
       module _ (b : on_it f.name (files_of s) ≡ false) where
-        pub adding_many : archive_files ≤ length (files_of s) → addition_of TooMany out ≡ adding f s out
+        pub adding_many : archive_files ≤ length (files_of s) → addition_of (Err TooMany) out ≡ adding f s out
         unfolding adding
         adding_many c = rw (a, b, le-leb archive_files (length (files_of s)) c) refl
 
         module _ (c : length (files_of s) < archive_files) where
-          pub adding_large : archive_bytes < length s + (4 + length f.name + length f.body) → addition_of TooLarge out ≡ adding f s out
+          pub adding_large : archive_bytes < length s + (4 + length f.name + length f.body) → addition_of (Err TooLarge) out ≡ adding f s out
           unfolding adding
           adding_large d = rw (a, b, lt-leb archive_files (length (files_of s)) c, lt-ltb archive_bytes (length (archive_with f s)) (omega (arith, length_with))) refl
 
           module _ (d : length s + (4 + length f.name + length f.body) ≤ archive_bytes) where
-            pub adding_short : length out < length s + (4 + length f.name + length f.body) → addition_of TooLarge out ≡ adding f s out
+            pub adding_short : length out < length s + (4 + length f.name + length f.body) → addition_of (Err TooLarge) out ≡ adding f s out
             unfolding adding
             adding_short g =
                 rw (
@@ -205,7 +205,7 @@ module _ (s : List ℕ) (h : laid_out s ≡ true) (f : File) where
                 ) refl
 
             pub adding_laid : length s + (4 + length f.name + length f.body) ≤ length out → (n : ℕ) (t : List ℕ) → n ≡ length (archive_with f s)
-                → t ≡ paste out 0 (archive_with f s) n → addition_of (Size n) t ≡ adding f s out
+                → t ≡ paste out 0 (archive_with f s) n → addition_of (Ok n) t ≡ adding f s out
             unfolding adding
             adding_laid g n t en et =
                 rw (
@@ -228,7 +228,7 @@ pub record Holding (f : File) (s out : List ℕ) (n : ℕ) : Type 0 where
 
 module _ (f : File) (s out o : List ℕ) (n : ℕ) (h : laid_out s ≡ true) where
   held : is_file_name f.name ≡ true → on_it f.name (files_of s) ≡ false → length (files_of s) < archive_files → length (archive_with f s) ≤ archive_bytes
-      → length (archive_with f s) ≤ length out → addition_of (Size n) o ≡ addition_of (Size (length (archive_with f s))) (paste out 0 (archive_with f s) (length (archive_with f s)))
+      → length (archive_with f s) ≤ length out → addition_of (Ok n) o ≡ addition_of (Ok (length (archive_with f s))) (paste out 0 (archive_with f s) (length (archive_with f s)))
       → Holding f s o n
   held a b c d r e =
       let w = archive_with f s in
@@ -241,27 +241,20 @@ module _ (f : File) (s out o : List ℕ) (n : ℕ) (h : laid_out s ≡ true) whe
         laid = rw t (inserted_laid s h f a b c d);
       }
 
-  abbrev is_size : Added → Bool
-  is_size (Size m) = true
-  is_size NotAName = false
-  is_size Again = false
-  is_size TooMany = false
-  is_size TooLarge = false
-
   -- a reason that does not hold is passed over
-  passed : (b : Bool) (a : Added) (x : Addition) → is_size a ≡ false → addition_of (Size n) o ≡ (if b then addition_of a out else x) → (b ≡ false) × (addition_of (Size n) o ≡ x)
-  passed true a x r e = absurd (not_both (ap (λ y. is_size y.answer) (sym e)) r)
-  passed false a x r e = (refl, e)
+  passed : (b : Bool) (a : AddError) (x : Addition) → addition_of (Ok n) o ≡ (if b then addition_of (Err a) out else x) → (b ≡ false) × (addition_of (Ok n) o ≡ x)
+  passed true a x e = let r = ap (λ y. y.answer) e in (cc, cc)
+  passed false a x e = (refl, e)
 
   -- what was added to an archive is one
-  pub added_holds : addition_of (Size n) o ≡ adding f s out → Holding f s o n
+  pub added_holds : addition_of (Ok n) o ≡ adding f s out → Holding f s o n
   unfolding adding
   added_holds e =
-      let r₁ = passed (not (is_file_name f.name)) NotAName _ refl e in
-      let r₂ = passed (on_it f.name (files_of s)) Again _ refl r₁.1 in
-      let r₃ = passed (leb archive_files (length (files_of s))) TooMany _ refl r₂.1 in
-      let r₄ = passed (ltb archive_bytes (length (archive_with f s))) TooLarge _ refl r₃.1 in
-      let r₅ = passed (ltb (length out) (length (archive_with f s))) TooLarge _ refl r₄.1 in
+      let r₁ = passed (not (is_file_name f.name)) NotAName _ e in
+      let r₂ = passed (on_it f.name (files_of s)) Again _ r₁.1 in
+      let r₃ = passed (leb archive_files (length (files_of s))) TooMany _ r₂.1 in
+      let r₄ = passed (ltb archive_bytes (length (archive_with f s))) TooLarge _ r₃.1 in
+      let r₅ = passed (ltb (length out) (length (archive_with f s))) TooLarge _ r₄.1 in
       held (not-false (is_file_name f.name) r₁.0) r₂.0 (leb-false archive_files (length (files_of s)) r₃.0) (ltb-false archive_bytes (length (archive_with f s)) r₄.0)
       (ltb-false (length out) (length (archive_with f s)) r₅.0) r₅.1
 

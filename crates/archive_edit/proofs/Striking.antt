@@ -7,19 +7,19 @@ use native.Mathlib.Numerals.{add-one}
 use native.Mathlib.Omega.{arith}
 use lib.ListN.{length, take, drop, length-append, length-drop}
 use lib.Seq.{paste, length-take-le}
-use Rattle.definition.specs.Limits.{archive_bytes}
+use Rattle.definition.specs.Limits.{archive_bytes, archive_files}
 use Rattle.definition.specs.Archive.{bytes_of, lengths_of, bodies_of, archive_of, number_at, files_of, laid_out, struck_off}
 use Rattle.laws.proofs.Archive.{laid_out_says, length_struck}
 use Rattle.archive.specs.declared.Member.{Member}
 use Rattle.archive.specs.Walk.{lengths_at, name_start, member_at}
-use Rattle.archive.proofs.Walk.{length_files, bodies_append, part_size, member_next}
+use Rattle.archive.proofs.Walk.{length_files, counted, bodies_append, part_size, member_next}
 use Rattle.archive_write.proofs.Stretches.{lengths_append, stretch_sizes, stretch_lengths, stretch_middle, stretch_last, starts_low, start_next, written_first, written_on, written_all}
 
 -- where file j starts, and where it ends
-pub starts_at : (s : List ℕ) (j : ℕ) {m : Member} → m ≡ member_at s j (name_start j s) → m.start ≡ name_start j s
+starts_at : (s : List ℕ) (j : ℕ) {m : Member} → m ≡ member_at s j (name_start j s) → m.start ≡ name_start j s
 starts_at s j e = ap (λ x. x.start) e
 
-pub ends_at : (s : List ℕ) (h : laid_out s ≡ true) (j : ℕ) → j < length (files_of s) → {m : Member} → m ≡ member_at s j (name_start j s) → m.end ≡ name_start (j + 1) s
+ends_at : (s : List ℕ) (h : laid_out s ≡ true) (j : ℕ) → j < length (files_of s) → {m : Member} → m ≡ member_at s j (name_start j s) → m.end ≡ name_start (j + 1) s
 ends_at s h j k e = ap (λ x. x.end) e ∙ member_next s h j k
 
 -- how the numbers lie to each other
@@ -58,7 +58,7 @@ module _ (s : List ℕ) (j : ℕ) (h : laid_out s ≡ true) (k : j < length (fil
       regroup : (a b c d e : List ℕ) → a ++ b ++ (c ++ d) ++ e ≡ a ++ (b ++ c) ++ (d ++ e)
       regroup a b c d e = simp append_assoc
 
-  pub numbers : Numbers s j count at rest
+  numbers : Numbers s j count at rest
   numbers =
       let l = (laid_out_says s h).short in
       let n = start_next s j k in
@@ -72,7 +72,7 @@ module _ (s : List ℕ) (j : ℕ) (h : laid_out s ≡ true) (k : j < length (fil
       }
 
   -- two bytes, then three stretches, each where the one before it ends
-  pub strike_written : (d₀ d₁ d₂ d₃ d₄ : List ℕ) → d₁ ≡ paste d₀ 0 (bytes_of (count - 1)) 2
+  strike_written : (d₀ d₁ d₂ d₃ d₄ : List ℕ) → d₁ ≡ paste d₀ 0 (bytes_of (count - 1)) 2
       → d₂ ≡ paste d₁ 2 (take (lengths_at j - 2) (drop 2 s)) (lengths_at j - 2)
       → d₃ ≡ paste d₂ (lengths_at j) (take (at - (lengths_at j + 4)) (drop (lengths_at j + 4) s)) (at - (lengths_at j + 4))
       → d₄ ≡ paste d₃ (at - 4) (take (length s - rest) (drop rest s)) (length s - rest)
@@ -90,3 +90,15 @@ module _ (s : List ℕ) (j : ℕ) (h : laid_out s ≡ true) (k : j < length (fil
     where
       ends : (a r n : ℕ) → 4 ≤ a → a ≤ r → r ≤ n → n - 4 - (r - a) ≡ a - 4 + (n - r)
       ends a r n h k m = omega arith
+
+-- the same, by what the calls for the numbers ensure
+module _ (s : List ℕ) (j : ℕ) (h : laid_out s ≡ true) (k : j < length (files_of s)) {count : ℕ} (e : (count ≡ length (files_of s)) × (count ≤ archive_files)) {m : Member} (em : m ≡ member_at s j (name_start j s)) where
+  pub member_numbers : Numbers s j count m.start m.end
+  member_numbers = numbers s j h k count m.start m.end (counted s e).0 (starts_at s j em) (ends_at s h j k em)
+
+  pub member_written : (d₀ d₁ d₂ d₃ d₄ : List ℕ) {row : ℕ} → row ≡ lengths_at j → d₁ ≡ paste d₀ 0 (bytes_of (count - 1)) 2
+      → d₂ ≡ paste d₁ 2 (take (row - 2) (drop 2 s)) (row - 2)
+      → d₃ ≡ paste d₂ row (take (m.start - (row + 4)) (drop (row + 4) s)) (m.start - (row + 4))
+      → d₄ ≡ paste d₃ (m.start - 4) (take (length s - m.end) (drop m.end s)) (length s - m.end)
+      → (length s - 4 - (m.end - m.start) ≡ length (struck_off j s)) × (d₄ ≡ paste d₀ 0 (struck_off j s) (length s - 4 - (m.end - m.start)))
+  member_written d₀ d₁ d₂ d₃ d₄ er e₁ e₂ e₃ e₄ = strike_written s j h k count m.start m.end (counted s e).0 (starts_at s j em) (ends_at s h j k em) d₀ d₁ d₂ d₃ d₄ e₁ (rw er at e₂) (rw er at e₃) e₄

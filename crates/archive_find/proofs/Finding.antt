@@ -1,23 +1,20 @@
 -- The search of an archive: a row's name and a path, the walk, and what a caller learns. Assumes nothing.
-use Rattle.std.specs.Prelude.{if◌then◌else◌}
-use mathlib.Core.Bool.{Bool, true, false, ◌&&◌, and-false}
+use Rattle.std.specs.Prelude.{Option, Some, None, if◌then◌else◌}
+use mathlib.Core.Bool.{Bool, true, false}
 use mathlib.Core.List.{List, [], ◌∷◌, ◌++◌, append_assoc}
-use mathlib.Core.Option.{Option, some, none}
+use mathlib.Core.Option.{Option as Maybe, some, none}
 use mathlib.Core.Path.{◌≡◌, refl, sym, ap, ◌∙◌}
 use Prim.Native.Nat.{ℕ, suc, ◌+◌, ◌-◌, ◌≤◌, ◌<◌}
 use native.Mathlib.Omega.{arith}
 use lib.ListN.{length, take, drop, length-append, length-drop}
-use lib.Seq.{drop_at, take_at, drop-drop, length-take-le, take-add}
-use Rattle.definition.specs.Lists.{is_empty, same}
-use Rattle.definition.specs.Bytes.{slash}
+use lib.Seq.{drop_at, take_at, drop-drop, length-take-le}
+use Rattle.definition.specs.Lists.{same}
 use Rattle.definition.specs.Archive.{File, bodies_of, number_at, files_of, laid_out, body_of, file_number}
-use Rattle.laws.proofs.Lists.{same_eq, same_lengths, same_append}
+use Rattle.laws.proofs.Lists.{same_eq, same_lengths}
 use Rattle.laws.proofs.Archive.{length_archive, archive_bodies, laid_out_archive}
 use Rattle.archive.specs.declared.Member.{Member}
 use Rattle.archive.specs.Walk.{lengths_at, member_at, file_in}
 use Rattle.archive.proofs.Walk.{laid_fits, length_files, Walking, Stands, walking_first, walking_in, walking_turn, walking_next, walking_end, walking_sizes}
-use Rattle.archive_find.specs.declared.Found.{Found}
-use Rattle.archive_find.specs.declared.Found.TheVariants.{At, Nothing}
 use Rattle.archive_find.specs.Finding.{member_of, find_from, find_in, sought_in}
 
 -- ---- A row's name and a path
@@ -31,50 +28,47 @@ module _ (s path : List ℕ) (from n : ℕ) where
 
 -- ---- The search
 
--- before file j nothing was found
-pub record Searching (s path : List ℕ) (count : ℕ) (found : Found) (at j : ℕ) : Type 0 where
+-- no file before file j has that name
+pub record Searching (s path : List ℕ) (count at j : ℕ) : Type 0 where
   pub walk : Walking s count at j
-  pub nothing : found ≡ Nothing
   pub left : find_in s path ≡ find_from j at (drop j (files_of s)) path
 
 pub searching_first : (s path : List ℕ) (count : ℕ) → laid_out s ≡ true → (count ≡ number_at s 0) × (count < 65536)
-    → Searching s path count Nothing (lengths_at count) 0
+    → Searching s path count (lengths_at count) 0
 unfolding find_in
 searching_first s path count h ec = record {
   walk = walking_first s count ec (laid_fits s h);
-  nothing = refl;
   left = rw (length_files s, ec.0) refl;
 }
 
-module _ {s path : List ℕ} {count : ℕ} {found : Found} {at j : ℕ} (l : Searching s path count found at j) where
-  pub searching_none : count ≤ j → found ≡ find_in s path
+module _ {s path : List ℕ} {count at j : ℕ} (l : Searching s path count at j) where
+  pub searching_none : count ≤ j → None ≡ find_in s path
   unfolding find_from
-  searching_none h = l.nothing ∙ sym (l.left ∙ ap (λ fs. find_from j at fs path) (walking_end l.walk h))
+  searching_none h = sym (l.left ∙ ap (λ fs. find_from j at fs path) (walking_end l.walk h))
 
   module _ (h : j < count) {m : Member} (e : m ≡ member_at s j at) where
     pub file_in_lem : Stands s at m
     file_in_lem = walking_in l.walk h e
 
     turn : find_in s path
-        ≡ (if same (file_in s m).name path then At (member_of j at (file_in s m)) else find_from (j + 1) (member_of j at (file_in s m)).end (drop (j + 1) (files_of s)) path)
+        ≡ (if same (file_in s m).name path then Some (member_of j at (file_in s m)) else find_from (j + 1) (member_of j at (file_in s m)).end (drop (j + 1) (files_of s)) path)
     unfolding find_from
     turn = l.left ∙ ap (λ fs. find_from j at fs path) (walking_turn l.walk h e)
 
-    pub searching_next : same (file_in s m).name path ≡ false → Searching s path count found m.end (j + 1)
+    pub searching_next : same (file_in s m).name path ≡ false → Searching s path count m.end (j + 1)
     searching_next f = record {
       walk = walking_next l.walk h e;
-      nothing = l.nothing;
       left =
-          turn ∙ ap (λ (b : Bool). if b then At (member_of j at (file_in s m)) else find_from (j + 1) (member_of j at (file_in s m)).end (drop (j + 1) (files_of s)) path) f
+          turn ∙ ap (λ (b : Bool). if b then Some (member_of j at (file_in s m)) else find_from (j + 1) (member_of j at (file_in s m)).end (drop (j + 1) (files_of s)) path) f
           ∙ ap (λ x. find_from (j + 1) x (drop (j + 1) (files_of s)) path) (sym (walking_sizes l.walk h e).1);
     }
 
-    pub searching_found : same (file_in s m).name path ≡ true → At m ≡ find_in s path
+    pub searching_found : same (file_in s m).name path ≡ true → Some m ≡ find_in s path
     searching_found f =
         let z = walking_sizes l.walk h e in
         let p : m ≡ member_of j at (file_in s m) = (λ i. record { number = (e i).number; start = (e i).start; body = z.0 i; end = z.1 i }) in
-        ap At p
-        ∙ sym (turn ∙ ap (λ (b : Bool). if b then At (member_of j at (file_in s m)) else find_from (j + 1) (member_of j at (file_in s m)).end (drop (j + 1) (files_of s)) path) f)
+        ap Some p
+        ∙ sym (turn ∙ ap (λ (b : Bool). if b then Some (member_of j at (file_in s m)) else find_from (j + 1) (member_of j at (file_in s m)).end (drop (j + 1) (files_of s)) path) f)
 
 -- ---- What a caller learns
 
@@ -84,9 +78,9 @@ pub record FoundAt (s : List ℕ) (fs : List File) (path : List ℕ) (m : Member
   pub name : (file_in s m).name ≡ path
   pub inside : Stands s m.start m
 
-abbrev pub Finds : List ℕ → List File → List ℕ → Found → Type 0
-Finds s fs path (At m) = FoundAt s fs path m
-Finds s fs path Nothing = body_of fs path ≡ none
+abbrev pub Finds : List ℕ → List File → List ℕ → Option Member → Type 0
+Finds s fs path (Some m) = FoundAt s fs path m
+Finds s fs path None = body_of fs path ≡ none
 
 -- what a file's name and body are, in bytes that go on with them
 module _ (s : List ℕ) (j at : ℕ) (f : File) (fs : List File) (h : at ≤ length s) (e : drop at s ≡ bodies_of (f ∷ fs)) where
@@ -120,12 +114,12 @@ find_from_lem s j at [] path h e = refl
 find_from_lem s j at (f ∷ fs) path h e =
     pick (same f.name path) refl (find_from_lem s (j + 1) (member_of j at f).end fs path (stands s j at f fs h e).end_in (after_file s j at f fs h e))
   where
-    onward : (r : Found) → same f.name path ≡ false → Finds s fs path r → Finds s (f ∷ fs) path r
-    onward (At m) q g = record { body = rw q g.body; name = g.name; inside = g.inside }
-    onward Nothing q g = rw q g
+    onward : (r : Option Member) → same f.name path ≡ false → Finds s fs path r → Finds s (f ∷ fs) path r
+    onward (Some m) q g = record { body = rw q g.body; name = g.name; inside = g.inside }
+    onward None q g = rw q g
 
     pick : (b : Bool) → same f.name path ≡ b → Finds s fs path (find_from (j + 1) (member_of j at f).end fs path)
-        → Finds s (f ∷ fs) path (if b then At (member_of j at f) else find_from (j + 1) (member_of j at f).end fs path)
+        → Finds s (f ∷ fs) path (if b then Some (member_of j at f) else find_from (j + 1) (member_of j at f).end fs path)
     pick true q g = record {
       body = rw q (ap some (sym (body_is s j at f fs h e)));
       name = name_is s j at f fs h e ∙ same_eq f.name path q;
@@ -141,46 +135,46 @@ find_finds s path h =
     find_from_lem s 0 k (files_of s) path (omega (arith, length_archive (files_of s), ap length x)) (ap (drop k) (sym x) ∙ archive_bodies (files_of s))
 
 -- there is no path that is looked for, or no file of that name
-abbrev pub Absent : List File → Option (List ℕ) → Type 0
+abbrev pub Absent : List File → Maybe (List ℕ) → Type 0
 Absent fs none = Unit {0}
 Absent fs (some path) = body_of fs path ≡ none
 
 -- the file that an include finds, by the path that it looks for
-abbrev pub FindsInclude : List ℕ → Option (List ℕ) → Found → Type 0
-FindsInclude s o (At m) = (path : List ℕ) × (o ≡ some path) × FoundAt s (files_of s) path m
-FindsInclude s o Nothing = Absent (files_of s) o
+abbrev pub FindsInclude : List ℕ → Maybe (List ℕ) → Option Member → Type 0
+FindsInclude s o (Some m) = (path : List ℕ) × (o ≡ some path) × FoundAt s (files_of s) path m
+FindsInclude s o None = Absent (files_of s) o
 
-include_finds : (s : List ℕ) (o : Option (List ℕ)) → laid_out s ≡ true → FindsInclude s o (sought_in s o)
+include_finds : (s : List ℕ) (o : Maybe (List ℕ)) → laid_out s ≡ true → FindsInclude s o (sought_in s o)
 unfolding sought_in
 include_finds s none h = tt
 include_finds s (some path) h = at (find_in s path) (find_finds s path h)
   where
-    at : (r : Found) → Finds s (files_of s) path r → FindsInclude s (some path) r
-    at (At m) f = (path, refl, f)
-    at Nothing f = f
+    at : (r : Option Member) → Finds s (files_of s) path r → FindsInclude s (some path) r
+    at (Some m) f = (path, refl, f)
+    at None f = f
 
-module _ (s : List ℕ) (o : Option (List ℕ)) {r : Found} (h : laid_out s ≡ true) (f : r ≡ sought_in s o) where
-  pub found_none : r ≡ Nothing → Absent (files_of s) o
+module _ (s : List ℕ) (o : Maybe (List ℕ)) {r : Option Member} (h : laid_out s ≡ true) (f : r ≡ sought_in s o) where
+  pub found_none : r ≡ None → Absent (files_of s) o
   found_none e = rw (sym f ∙ e) at (include_finds s o h)
 
-  pub found_at : {m : Member} → r ≡ At m → (path : List ℕ) × (o ≡ some path) × FoundAt s (files_of s) path m
+  pub found_at : {m : Member} → r ≡ Some m → (path : List ℕ) × (o ≡ some path) × FoundAt s (files_of s) path m
   found_at e = rw (sym f ∙ e) at (include_finds s o h)
 
 -- ---- An include's path, as `path_of` leaves it
 
-pub sought_at : (s : List ℕ) {path : List ℕ} {o : Option (List ℕ)} {r : Found} → some path ≡ o → r ≡ find_in s path → r ≡ sought_in s o
+pub sought_at : (s : List ℕ) {path : List ℕ} {o : Maybe (List ℕ)} {r : Option Member} → some path ≡ o → r ≡ find_in s path → r ≡ sought_in s o
 unfolding sought_in
 sought_at s e f = f ∙ ap (sought_in s) e
 
-pub sought_none : (s : List ℕ) {o : Option (List ℕ)} → none ≡ o → Nothing ≡ sought_in s o
+pub sought_none : (s : List ℕ) {o : Maybe (List ℕ)} → none ≡ o → None ≡ sought_in s o
 unfolding sought_in
 sought_none s e = ap (sought_in s) e
 
 -- ---- The number of a file
 
-unfoldable numbered : ℕ → Found → ℕ
-numbered k (At m) = m.number
-numbered k Nothing = k
+unfoldable numbered : ℕ → Option Member → ℕ
+numbered k (Some m) = m.number
+numbered k None = k
 
 number_from : (j at : ℕ) (fs : List File) (n : List ℕ) → numbered (j + length fs) (find_from j at fs n) ≡ j + file_number n fs
 unfolding find_from file_number numbered
@@ -188,7 +182,7 @@ number_from j at [] n = refl
 number_from j at (f ∷ fs) n = pick (same f.name n) (number_from (j + 1) (member_of j at f).end fs n)
   where
     pick : (b : Bool) → numbered (j + 1 + length fs) (find_from (j + 1) (member_of j at f).end fs n) ≡ j + 1 + file_number n fs
-        → numbered (j + suc (length fs)) (if b then At (member_of j at f) else find_from (j + 1) (member_of j at f).end fs n)
+        → numbered (j + suc (length fs)) (if b then Some (member_of j at f) else find_from (j + 1) (member_of j at f).end fs n)
         ≡ j + (if b then 0 else suc (file_number n fs))
     pick true ih = omega arith
     pick false ih =
@@ -196,7 +190,7 @@ number_from j at (f ∷ fs) n = pick (same f.name n) (number_from (j + 1) (membe
         let g : j + 1 + file_number n fs ≡ j + suc (file_number n fs) = omega arith in
         ap (λ k. numbered k (find_from (j + 1) (member_of j at f).end fs n)) e ∙ ih ∙ g
 
-module _ (s n : List ℕ) {r : Found} (e : r ≡ find_in s n) where
+module _ (s n : List ℕ) {r : Option Member} (e : r ≡ find_in s n) where
   number_is : numbered (length (files_of s)) r ≡ file_number n (files_of s)
   unfolding find_in
   number_is =
@@ -205,16 +199,16 @@ module _ (s n : List ℕ) {r : Found} (e : r ≡ find_in s n) where
       ap (numbered (length (files_of s))) e ∙ ap (λ k. numbered k (find_from 0 (lengths_at (length (files_of s))) (files_of s) n)) (sym z)
       ∙ number_from 0 (lengths_at (length (files_of s))) (files_of s) n ∙ y
 
-  pub number_found : {m : Member} → r ≡ At m → m.number ≡ file_number n (files_of s)
+  pub number_found : {m : Member} → r ≡ Some m → m.number ≡ file_number n (files_of s)
   unfolding numbered
   number_found q = sym (ap (numbered (length (files_of s))) q) ∙ number_is
 
-  pub number_off : r ≡ Nothing → length (files_of s) ≡ file_number n (files_of s)
+  pub number_off : r ≡ None → length (files_of s) ≡ file_number n (files_of s)
   unfolding numbered
   number_off q = sym (ap (numbered (length (files_of s))) q) ∙ number_is
 
 -- of the file that an include finds
-pub include_number : (s : List ℕ) {path : List ℕ} {o : Option (List ℕ)} {r : Found} {m : Member} → r ≡ sought_in s o → o ≡ some path → r ≡ At m
+pub include_number : (s : List ℕ) {path : List ℕ} {o : Maybe (List ℕ)} {r : Option Member} {m : Member} → r ≡ sought_in s o → o ≡ some path → r ≡ Some m
     → m.number ≡ file_number path (files_of s)
 unfolding sought_in
 include_number s {path} f e q = number_found s path (f ∙ ap (sought_in s) e) q

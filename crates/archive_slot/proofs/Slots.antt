@@ -1,5 +1,5 @@
 -- The place of a name among the files of an archive, and the walk to it. Assumes nothing.
-use Rattle.std.specs.Prelude.{if◌then◌else◌}
+use Rattle.std.specs.Prelude.{Ok, Err, if◌then◌else◌}
 use mathlib.Core.Bool.{Bool, true, false, not}
 use mathlib.Core.List.{List, [], ◌∷◌, map}
 use mathlib.Core.Path.{◌≡◌, refl, sym, ap, ◌∙◌}
@@ -14,7 +14,7 @@ use Rattle.archive.specs.declared.Member.{Member}
 use Rattle.archive.specs.Walk.{lengths_at, name_start, member_at, file_in}
 use Rattle.archive.proofs.Walk.{laid_fits, Walking, walking_first, walking_turn, walking_next, walking_end}
 use Rattle.archive_slot.specs.declared.Slot.{Slot}
-use Rattle.archive_slot.specs.Slots.{below, on_it, slot_for}
+use Rattle.archive_slot.specs.Slots.{below, on_it, place_for, slot_for}
 
 abbrev pub names : List File → List (List ℕ)
 names fs = map (λ f. f.name) fs
@@ -80,15 +80,22 @@ seeking_first s n count ec h = record {
 }
 
 module _ {s n : List ℕ} {count at j : ℕ} (r : Seeking s n count at j) where
-  slot_is : {taken : Bool} → below n (files_of s) ≡ j → on_it n (files_of s) ≡ taken → record { index = j; at = at; taken = taken } ≡ slot_for n s
-  unfolding slot_for
-  slot_is i t =
+  place_is : below n (files_of s) ≡ j → record { index = j; at = at } ≡ place_for n s
+  unfolding place_for
+  place_is i =
       let p : at ≡ name_start (below n (files_of s)) s = r.walk.place ∙ ap (λ x. name_start x s) (sym i) in
-      (λ k. record { index = sym i k; at = p k; taken = sym t k })
+      (λ k. record { index = sym i k; at = p k })
 
-  pub seeking_done : count ≤ j → record { index = j; at = at; taken = false } ≡ slot_for n s
+  slot_free : below n (files_of s) ≡ j → on_it n (files_of s) ≡ false → Err (record { index = j; at = at }) ≡ slot_for n s
+  unfolding slot_for
+  slot_free i t = rw t (ap Err (place_is i))
+
+  pub seeking_done : count ≤ j → Err (record { index = count; at = at }) ≡ slot_for n s
   unfolding below on_it any
-  seeking_done h = let e = walking_end r.walk h in slot_is (omega (arith, r.index, ap (below n) e)) (r.on ∙ ap (on_it n) e)
+  seeking_done h =
+      let e = walking_end r.walk h in
+      let z : count ≡ j = omega (arith, r.walk.standing.j_most) in
+      rw z (slot_free (omega (arith, r.index, ap (below n) e)) (r.on ∙ ap (on_it n) e))
 
   module _ (h : j < count) {m : Member} (e : m ≡ member_at s j at) where
     turn : drop j (files_of s) ≡ file_in s m ∷ drop (j + 1) (files_of s)
@@ -102,11 +109,35 @@ module _ {s n : List ℕ} {count at j : ℕ} (r : Seeking s n count at j) where
       on = r.on ∙ ap (on_it n) turn ∙ on_passed n (file_in s m) (drop (j + 1) (files_of s)) low;
     }
 
-    pub seeking_here : lower (file_in s m).name n ≡ false → record { index = j; at = at; taken = not (lower n (file_in s m).name) } ≡ slot_for n s
-    seeking_here low =
-        slot_is (omega (arith, r.index, ap (below n) turn, below_here n (file_in s m) (drop (j + 1) (files_of s)) low))
-        (r.on ∙ ap (on_it n) turn ∙ on_here n (file_in s m) (drop (j + 1) (files_of s)) low (rw turn at r.rises))
+    module _ (low : lower (file_in s m).name n ≡ false) where
+      on_turn : on_it n (files_of s) ≡ not (lower n (file_in s m).name)
+      on_turn = r.on ∙ ap (on_it n) turn ∙ on_here n (file_in s m) (drop (j + 1) (files_of s)) low (rw turn at r.rises)
 
-pub slot_taken : (n s : List ℕ) {slot : Slot} → slot ≡ slot_for n s → on_it n (files_of s) ≡ slot.taken
-unfolding slot_for
-slot_taken n s e = sym (ap (λ x. x.taken) e)
+      index_here : below n (files_of s) ≡ j
+      index_here = omega (arith, r.index, ap (below n) turn, below_here n (file_in s m) (drop (j + 1) (files_of s)) low)
+
+      pub seeking_here : lower n (file_in s m).name ≡ true → Err (record { index = j; at = at }) ≡ slot_for n s
+      seeking_here e = slot_free index_here (on_turn ∙ ap not e)
+
+      pub seeking_taken : lower n (file_in s m).name ≡ false → Ok (record { index = j; at = at }) ≡ slot_for n s
+      unfolding slot_for
+      seeking_taken e = rw (on_turn ∙ ap not e) (ap Ok (place_is index_here))
+
+-- ---- What a caller learns
+
+module _ (n s : List ℕ) {slot : Slot} where
+  pub slot_ok : Ok slot ≡ slot_for n s → (on_it n (files_of s) ≡ true) × (slot ≡ place_for n s)
+  unfolding slot_for
+  slot_ok e = at (on_it n (files_of s)) e
+    where
+      at : (b : Bool) → Ok slot ≡ (if b then Ok (place_for n s) else Err (place_for n s)) → (b ≡ true) × (slot ≡ place_for n s)
+      at true h = (refl, cc)
+      at false h = (cc, cc)
+
+  pub slot_err : Err slot ≡ slot_for n s → (on_it n (files_of s) ≡ false) × (slot ≡ place_for n s)
+  unfolding slot_for
+  slot_err e = at (on_it n (files_of s)) e
+    where
+      at : (b : Bool) → Err slot ≡ (if b then Ok (place_for n s) else Err (place_for n s)) → (b ≡ false) × (slot ≡ place_for n s)
+      at true h = (cc, cc)
+      at false h = (refl, cc)

@@ -12,8 +12,7 @@ pub fn put_word(n: usize, out: &mut [u8], at: usize)
     requires { (n < 65536) × (at + 2 ≤ length out.old) }
     ensures { out.new ≡ paste out.old at (bytes_of n) 2 }
 {
-    let pair = [(n % 256) as u8, (n / 256) as u8];
-    copy_in(&pair, out, at);
+    copy_in(&(n as u16).to_le_bytes(), out, at);
 }
 
 // Puts a file's two lengths.
@@ -21,13 +20,8 @@ pub fn put_lengths(name: usize, body: usize, out: &mut [u8], at: usize)
     requires { (name < 65536) × (body < 65536) × (at + 4 ≤ length out.old) }
     ensures { out.new ≡ paste out.old at (bytes_of name ++ bytes_of body) 4 }
 {
-    let lengths = [
-        (name % 256) as u8,
-        (name / 256) as u8,
-        (body % 256) as u8,
-        (body / 256) as u8,
-    ];
-    copy_in(&lengths, out, at);
+    put_word(name, out, at);
+    put_word(body, out, at + 2);
 }
 
 // Copies a part of the archive.

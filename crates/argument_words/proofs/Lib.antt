@@ -1,2 +1,2 @@
--- Laws that the proofs of this crate lean on.
-mod Words
+-- Laws that the proofs of this crate lean on, and those of options.
+pub mod Words

@@ -5,119 +5,98 @@ ghost use Rattle.std.specs.Prelude.{◌≡◌};
 ghost use Rattle.arguments.specs.Planning.{with_operand, with_value, with_flag, with_option, with_argument, NameEnds};
 
 use argument_words::is_option;
-use options::{
-    ANY, CLASS, FORMAT, HELP, LIST, MISSING, NAME, OPERAND, SHARED, TEXT, WRITE, option_of, takes,
-};
+use options::{Choice, Flag, Next, Role, option_of, takes};
 use plans::{Plan, given, misunderstood, once};
 
 // The first operand is the text, the second the name and the third the class.
 fn with_operand(plan: Plan, i: usize) -> Plan
     ensures { result ≡ with_operand plan i }
 {
-    if given(plan, TEXT) == 0 {
-        return once(plan, TEXT, i);
+    if given(plan, Role::Text).is_none() {
+        return once(plan, Role::Text, i);
     }
-    if given(plan, NAME) == 0 {
-        return once(plan, NAME, i);
+    if given(plan, Role::Name).is_none() {
+        return once(plan, Role::Name, i);
     }
-    once(plan, CLASS, i)
+    once(plan, Role::Class, i)
 }
 
-// The value of the option before it. That of `--file` is taken when the files are loaded.
-fn with_value(plan: Plan, argument: &[u8], i: usize) -> Plan
-    ensures { result ≡ with_value plan argument.now i }
+// The value of the option before it.
+fn with_value(plan: Plan, role: Role, argument: &[u8], i: usize) -> Plan
+    ensures { result ≡ with_value plan role argument.now i }
 {
-    let what = plan.next;
-    let mut more = plan;
-    more.next = ANY;
-    if what < ANY {
-        if takes(what, argument) {
-            return once(more, what, i);
-        }
-        return misunderstood(more, i);
+    let more = Plan {
+        next: Next::Any,
+        ..plan
+    };
+    if takes(role, argument) {
+        once(more, role, i)
+    } else {
+        misunderstood(more, Some(i))
     }
-    more
 }
 
-// An option that nothing follows, or one that is not known. A database is written out or listed: the second of the two is not understood.
-fn with_flag(plan: Plan, what: usize, i: usize) -> Plan
-    ensures { result ≡ with_flag plan what i }
+// An option that nothing follows. A database is written out or listed: the second of the two is not understood.
+fn with_flag(plan: Plan, flag: Flag, i: usize) -> Plan
+    ensures { result ≡ with_flag plan flag i }
 {
-    let mut more = plan;
-    if what == HELP {
-        more.help = true;
-        return more;
+    match flag {
+        Flag::Help => Plan { help: true, ..plan },
+        Flag::Missing => Plan {
+            missing: true,
+            ..plan
+        },
+        Flag::Write if plan.list => misunderstood(plan, Some(i)),
+        Flag::Write => Plan {
+            write: true,
+            ..plan
+        },
+        Flag::List if plan.write => misunderstood(plan, Some(i)),
+        Flag::List => Plan { list: true, ..plan },
+        Flag::Shared => Plan {
+            shared: true,
+            ..plan
+        },
     }
-    if what == MISSING {
-        more.missing = true;
-        return more;
-    }
-    if what == WRITE {
-        if plan.list {
-            return misunderstood(plan, i);
-        }
-        more.write = true;
-        return more;
-    }
-    if what == LIST {
-        if plan.write {
-            return misunderstood(plan, i);
-        }
-        more.list = true;
-        return more;
-    }
-    if what == SHARED {
-        more.shared = true;
-        return more;
-    }
-    misunderstood(plan, i)
 }
 
-// An option, by what follows it.
-fn with_option(plan: Plan, what: usize, i: usize) -> Plan
-    ensures { result ≡ with_option plan what i }
+// An option, or an argument that looks like one.
+fn with_option(plan: Plan, option: Option<Choice>, i: usize) -> Plan
+    ensures { result ≡ with_option plan option i }
 {
-    if what > OPERAND {
-        return with_flag(plan, what, i);
+    match option {
+        Some(Choice::Alone(flag)) => with_flag(plan, flag, i),
+        Some(Choice::Before(next)) => Plan { next, ..plan },
+        Some(Choice::Chain(next)) => Plan {
+            next,
+            chain: true,
+            ..plan
+        },
+        None => misunderstood(plan, Some(i)),
     }
-    let mut more = plan;
-    more.next = what;
-    if what < FORMAT {
-        return more;
-    }
-    if what > ANY {
-        return more;
-    }
-    more.chain = true;
-    more
 }
 
-// The plan with argument `i`.
+// The plan with argument `i`. The value of `--file` is taken when the files are loaded.
 pub fn with_argument(plan: Plan, argument: &[u8], i: usize) -> Plan
     ensures { result ≡ with_argument plan argument.now i }
 {
-    if plan.next == OPERAND {
-        return with_operand(plan, i);
+    match plan.next {
+        Next::Any if is_option(argument) => with_option(plan, option_of(argument), i),
+        Next::Any | Next::Operand => with_operand(plan, i),
+        Next::File => Plan {
+            next: Next::Any,
+            ..plan
+        },
+        Next::Value(role) => with_value(plan, role, argument, i),
     }
-    if plan.next == ANY {
-        if is_option(argument) {
-            return with_option(plan, option_of(argument), i);
-        }
-        return with_operand(plan, i);
-    }
-    with_value(plan, argument, i)
 }
 
 // Where the name ends in the value of `--file`, `NAME=PATH`: at the first `=`, or the end.
 pub fn name_end(argument: &[u8]) -> usize
     ensures { NameEnds argument.now result }
 {
-    let mut i = 0;
-    while i < argument.len() {
-        if argument[i] == b'=' {
-            return i;
-        }
-        i += 1;
-    }
-    i
+    argument
+        .iter()
+        .position(|c| *c == b'=')
+        .unwrap_or(argument.len())
 }

@@ -1,13 +1,11 @@
 -- What a block has, byte by byte, and bytes pasted one block after another. Assumes nothing.
-use Rattle.std.specs.Prelude.{if◌then◌else◌}
-use mathlib.Core.Bool.{Bool, true, false, ◌||◌, or-false}
+use mathlib.Core.Bool.{Bool, ◌||◌, or-false}
 use mathlib.Core.List.{List, ◌++◌}
 use mathlib.Core.Path.{◌≡◌, refl, sym, ap, ◌∙◌}
 use Prim.Native.Nat.{ℕ, ◌+◌, ◌≤◌, ◌<◌}
 use native.Mathlib.Numerals.{add-one}
 use native.Mathlib.Nat.{zero-add}
 use native.Mathlib.Omega.{arith}
-use lib.Bits.{bit_or}
 use lib.Dec.{eqb}
 use lib.ListN.{length, get_or, set, take, drop, length-drop}
 use lib.Seq.{paste, paste-suc, take-paste, take-suc, get_or-drop}
@@ -16,31 +14,17 @@ use Rattle.laws.proofs.Lists.{any_append}
 use Rattle.laws.proofs.Image.{length_zeroes}
 use Rattle.blocks.specs.Either.{either}
 
-abbrev pub bit_of : Bool → ℕ
-bit_of b = if b then 1 else 0
-
-or_bits : (x y : Bool) → bit_or (bit_of x) (bit_of y) ≡ bit_of (x || y)
-or_bits true true = refl
-or_bits true false = refl
-or_bits false true = refl
-or_bits false false = refl
-
-pub bit_is : (b : Bool) → eqb (bit_of b) 1 ≡ b
-bit_is true = refl
-bit_is false = refl
-
 any_more : (p : ℕ → Bool) (xs : List ℕ) (i : ℕ) → i < length xs → any p (take (i + 1) xs) ≡ (any p (take i xs) || p (get_or xs i 0))
 unfolding any
 any_more p xs i h = rw (add-one, take-suc xs i 0 h, any_append) (ap (λ (x : Bool). any p (take i xs) || x) (or-false _))
 
 -- one byte more
-pub block_more : (text : List ℕ) (at a b found bit i : ℕ) → at + i < length text → found ≡ bit_of (any (either a b) (take i (drop at text)))
-    → bit ≡ bit_of (eqb (get_or text (at + i) 0) a || eqb (get_or text (at + i) 0) b)
-    → bit_or found bit ≡ bit_of (any (either a b) (take (i + 1) (drop at text)))
+pub block_more : (text : List ℕ) (at a b : ℕ) (found : Bool) (i : ℕ) → at + i < length text → found ≡ any (either a b) (take i (drop at text))
+    → (found || (eqb (get_or text (at + i) 0) a || eqb (get_or text (at + i) 0) b)) ≡ any (either a b) (take (i + 1) (drop at text))
 unfolding either
-block_more text at a b found bit i h e f =
+block_more text at a b found i h e =
     let k : i < length (drop at text) = omega (arith, length-drop at text) in
-    rw (e, f, or_bits, any_more (either a b) (drop at text) i k, get_or-drop) refl
+    rw (e, any_more (either a b) (drop at text) i k, get_or-drop) refl
 
 -- and one more in a block that is copied from its front on
 paste_front : (d s : List ℕ) (i : ℕ) → i < length d → i < length s → set (paste d 0 s i) i (get_or s i 0) ≡ paste d 0 s (i + 1)

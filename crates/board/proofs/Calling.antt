@@ -1,22 +1,32 @@
 -- What the calls of a board answer, test by test. Assumes nothing.
-use Rattle.std.specs.Prelude.{if◌then◌else◌}
+use Rattle.std.specs.Prelude.{if◌then◌else◌, Option, None, Some, Ok, MatchOption, MatchResult}
+use Rattle.std.specs.Option.{ok_or}
 use mathlib.Core.Bool.{Bool, true, false, not, or-true}
+use mathlib.Core.List.{List}
 use mathlib.Core.Path.{◌≡◌, refl, sym, ap, ◌∙◌}
 use Prim.Native.Nat.{ℕ, ◌≤◌, ◌<◌}
 use native.Mathlib.Nat.{sub-zero}
 use lib.Dec.{eqb}
 use borrow.Author.Tests.{le-leb, lt-leb, eq-eqb, ne_eqb}
 use Rattle.definition.specs.Lists.{any}
-use Rattle.definition.specs.Limits.{most_packs, most_queries}
+use Rattle.definition.specs.Limits.{query_parts, most_packs, most_queries}
 use Rattle.definition.specs.Image.{is_image}
-use Rattle.definition.specs.Query.{query_of}
+use Rattle.definition.specs.Query.{past_limit, query_of}
+use Rattle.query.specs.declared.Split.{Split}
+use Rattle.query.specs.Shapes.{asked}
+use Rattle.board_layout.specs.declared.Buffers.{Buffers}
+use Rattle.board_layout.specs.Laid.{lent_of}
 use Rattle.definition.specs.Lookup.{Reply, given, no_value, refused}
 use Rattle.definition.specs.Board.{Arrival, Watched, Call, watch, arrive, leave, is_present, checked, reply_to, if_given, each, Lent, pack_count, query_count, slots_in, board_in, short_board, is_board, done, writing, board_call}
 use Rattle.board_laws.proofs.Slots.{slot_present}
 use Rattle.board_laws.proofs.Calls.{Laid}
 use Rattle.board_laws.proofs.Histories.{refused_given, called, packs_held, queries_held}
-use Rattle.board_judge.specs.Slots.{number_at, has_number_from, refusal_of}
-use Rattle.board_judge.proofs.Judging.{turned_away, goes_on, slots_number}
+use Rattle.refusal.specs.declared.Refusal.{Refusal}
+use Rattle.refusal.specs.declared.Refusal.TheVariants.{PackNumber}
+use Rattle.refusal.specs.Numbers.{number}
+use Rattle.board_judge.specs.Slots.{number_at, has_number_from, turns_away}
+use Rattle.board.specs.Replies.{left}
+use Rattle.board_judge.proofs.Judging.{turned_away, slots_number}
 
 -- ---- The call's answer
 
@@ -34,11 +44,11 @@ module _ (c : Call) (l : Lent) where
       at false true = refl
       at false false = refl
 
-  pub answer_away : (k : ℕ) → k ≡ refusal_of l → (k ≡ 0 → ⊥) → refused k ≡ (board_call c l).answer
-  answer_away k e h = turned_away l k e h ℕ (reply_to c (board_in l)) ∙ sym answer_is
+  pub answer_away : (k : Refusal) → turns_away l k → refused (number k) ≡ (board_call c l).answer
+  answer_away k h = turned_away l k h ℕ (reply_to c (board_in l)) ∙ sym answer_is
 
-  pub answer_on : (k : ℕ) → k ≡ refusal_of l → k ≡ 0 → reply_to c (board_in l) ≡ (board_call c l).answer
-  answer_on k e h = sym (ap (λ d. d.answer) (called l (goes_on l k e h) c))
+  pub answer_on : is_board l ≡ true → reply_to c (board_in l) ≡ (board_call c l).answer
+  answer_on h = sym (ap (λ d. d.answer) (called l h c))
 
   -- a refusal leaves the board as it is
   pub call_refused : (k : ℕ) → refused k ≡ (board_call c l).answer → done (refused k) l ≡ board_call c l
@@ -70,6 +80,17 @@ module _ (c : Call) (l : Lent) where
 
 -- ---- A query
 
+module _ (n : ℕ) where
+  -- malformed or not
+  pub checked_ok : (name class : List ℕ) (o : Option (Split query_parts × Split query_parts)) → checked n (asked name class (Ok o)) ≡ given n
+  unfolding checked
+  checked_ok name class None = refl
+  checked_ok name class (Some p) = refl
+
+  pub checked_err : (k : Refusal) → checked n (past_limit (number k)) ≡ refused (number k)
+  unfolding checked
+  checked_err k = refl
+
 module _ (l : Lent) (h : Laid l) (w : Watched) where
   pub query_many : most_queries ≤ query_count l → refused 13 ≡ reply_to (watch w) (board_in l)
   unfolding reply_to
@@ -88,6 +109,11 @@ number_present l n =
     ap (λ (m : ℕ). any (eqb n) (each (number_at l.words) 0 m)) (sub-zero (pack_count l))
     ∙ sym (slots_number l n 0 (pack_count l))
     ∙ sym (slot_present n (slots_in l))
+
+-- as the words of a judged board tell it
+pub number_found : (l : Lent) (b : Buffers) (n count : ℕ) {found : Bool} → lent_of b ≡ l → count ≡ pack_count l → found ≡ has_number_from b.words.now n 0 count
+    → is_present n (board_in l) ≡ found
+number_found l b n count e k f = sym (number_present l n) ∙ rw (k, ap (λ (o : Lent). o.words) e) at (sym f)
 
 module _ (l : Lent) (h : Laid l) (a : Arrival) where
   pub arrive_no_image : is_image a.contents a.bodies ≡ false → refused 8 ≡ reply_to (arrive a) (board_in l)
@@ -124,3 +150,15 @@ module _ (l : Lent) (n : ℕ) where
   pub leave_done : (n ≡ 0 → ⊥) → is_present n (board_in l) ≡ true → given 0 ≡ reply_to (leave n) (board_in l)
   unfolding reply_to
   leave_done e f = rw (ne_eqb n 0 e, f) refl
+
+module _ (l : Lent) (n : ℕ) (is : is_board l ≡ true) (named : n ≡ 0 → ⊥) where
+  -- by the slot that is found
+  pub leave_told : {has : Bool} → is_present n (board_in l) ≡ has → (k : ℕ) (o : Option ℕ) → MatchOption o (has ≡ false) (λ i. (has ≡ true) × (i ≡ k))
+      → left (ok_or o PackNumber) ≡ (board_call (leave n) l).answer
+  leave_told p k None h = leave_absent l n (p ∙ h) ∙ answer_on (leave n) l is
+  leave_told p k (Some i) h = leave_done l n named (p ∙ h.0) ∙ answer_on (leave n) l is
+
+-- and where it stands
+pub slot_told : (has : Bool) (k : ℕ) (o : Option ℕ) → MatchOption o (has ≡ false) (λ i. (has ≡ true) × (i ≡ k)) → MatchResult (ok_or o PackNumber) (λ i. i ≡ k) (λ r. r ≡ PackNumber)
+slot_told has k None h = refl
+slot_told has k (Some i) h = h.1

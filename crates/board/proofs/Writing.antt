@@ -1,5 +1,6 @@
 -- What the calls of a board write. Assumes nothing.
-use Rattle.std.specs.Prelude.{if◌then◌else◌}
+use Rattle.std.specs.Prelude.{if◌then◌else◌, Option, None, Some, MatchOption}
+use Rattle.std.specs.Option.{unwrap_or}
 use mathlib.Core.Bool.{Bool, true, false, ◌||◌, not}
 use mathlib.Core.List.{List, [], ◌∷◌, ◌++◌}
 use mathlib.Core.Path.{◌≡◌, refl, sym, ap, ◌∙◌}
@@ -8,21 +9,24 @@ use native.Mathlib.Numerals.{add-one}
 use native.Mathlib.Omega.{arith}
 use lib.Dec.{eqb}
 use lib.ListN.{length, take, drop, set, length-set}
-use lib.Seq.{paste, sets-eq, slice, take-suc-set, drop-set-lt, append_snoc}
+use lib.Seq.{paste, sets-eq, slice, take-suc-set, drop-set-lt, append_snoc, length-take-le}
 use Rattle.definition.specs.Lists.{any, take_while}
 use Rattle.definition.specs.Limits.{row_words}
-use Rattle.definition.specs.Image.{count_of, used_of}
+use Rattle.definition.specs.Image.{count_of, used_of, is_image}
 use Rattle.definition.specs.Lookup.{given, refused}
 use Rattle.definition.specs.Adding.{over}
 use Rattle.definition.specs.Board.{Arrival, Watched, watch, arrive, leave, each, Lent, lent, pack_count, query_count, lengths_start, slot_start, text_start, body_start, slot_at, slots_in, short_board, done, board_make, writing}
 use Rattle.laws.proofs.Lists.{not_both, paste_append}
 use Rattle.laws.proofs.Adding.{over_paste}
+use Rattle.laws.proofs.Image.{image_holds}
 use borrow.Author.Tests.{eqb-true, eq-eqb, ne_eqb}
 use Rattle.board_laws.proofs.Placing.{each_long}
 use Rattle.board_laws.proofs.Slots.{has_slot, slot_leaves}
 use Rattle.board_laws.proofs.Calls.{Laid}
-use Rattle.board_judge.specs.Slots.{number_at}
-use Rattle.board_judge.proofs.Judging.{each_first, each_none, slots_number}
+use Rattle.board_layout.specs.declared.Buffers.{Buffers}
+use Rattle.board_layout.specs.Laid.{lent_of}
+use Rattle.board_judge.specs.Slots.{number_at, has_number_from}
+use Rattle.board_judge.proofs.Judging.{each_first, number_found, number_on, number_none, slots_number}
 use Rattle.board.specs.Replies.{before_number, dropped}
 
 -- ---- Stores
@@ -80,6 +84,14 @@ module _ (l : Lent) (w : Watched) (q at first : ℕ) (count : q ≡ query_count 
 
 -- ---- A pack
 
+-- what is used of an image lies in it
+module _ (contents bodies : List ℕ) (image : is_image contents bodies ≡ true) where
+  pub rows_there : length (take (2 + row_words * count_of contents) contents) ≡ 2 + row_words * count_of contents
+  rows_there = let h = image_holds contents bodies image in length-take-le (2 + row_words * count_of contents) contents (omega (arith, h.count_most, h.contents_long))
+
+  pub bytes_there : length (take (used_of contents) bodies) ≡ used_of contents
+  bytes_there = let h = image_holds contents bodies image in length-take-le (used_of contents) bodies (omega (arith, h.used_most, h.bodies_long))
+
 module _ (l : Lent) (a : Arrival) (i at first : ℕ) (count : i ≡ pack_count l) (starts : at ≡ slot_start i) (bodies : first ≡ body_start i)
     (inside : at < length l.words) (rows : List ℕ) (store : List ℕ)
     (rows_are : rows ≡ take (2 + row_words * count_of a.contents) a.contents) (Store-is : store ≡ take (used_of a.contents) a.bodies) where
@@ -128,6 +140,28 @@ takes_to n f i (suc m) h = at (eqb n (f i)) refl h (takes_to n f (suc i) m)
     at true e p ih = let z : i + 0 ≡ i = omega arith in ap f z ∙ sym (eqb-true n (f i) e)
     at false e p ih = let z : i + suc (length (take_while (λ k. not (eqb n k)) (each f (suc i) m))) ≡ suc i + length (take_while (λ k. not (eqb n k)) (each f (suc i) m)) = omega arith in ap f z ∙ ih p
 
+-- with none of that number all slots stand before it
+none_before : (n : ℕ) (f : ℕ → ℕ) (i m : ℕ) → any (eqb n) (each f i m) ≡ false → length (take_while (λ k. not (eqb n k)) (each f i m)) ≡ m
+unfolding any each take_while
+none_before n f i zero h = refl
+none_before n f i (suc m) h = at (eqb n (f i)) h (none_before n f (suc i) m)
+  where
+    at : (b : Bool) → (b || any (eqb n) (each f (suc i) m)) ≡ false
+        → (any (eqb n) (each f (suc i) m) ≡ false → length (take_while (λ k. not (eqb n k)) (each f (suc i) m)) ≡ m)
+        → length (if not b then f i ∷ take_while (λ k. not (eqb n k)) (each f (suc i) m) else []) ≡ suc m
+    at true h ih = absurd (not_both refl h)
+    at false h ih = ap suc (ih h)
+
+all_before : (words : List ℕ) (number count : ℕ) → has_number_from words number 0 count ≡ false → count ≡ before_number words number count
+unfolding has_number_from before_number
+all_before words number count h = let e : count - 0 ≡ count = omega arith in sym (none_before number (number_at words) 0 count (rw e at h))
+
+pub slot_or : (words : List ℕ) (number count : ℕ) (o : Option ℕ)
+    → MatchOption o (has_number_from words number 0 count ≡ false) (λ i. (has_number_from words number 0 count ≡ true) × (i ≡ before_number words number count))
+    → unwrap_or o count ≡ before_number words number count
+slot_or words number count None h = all_before words number count h
+slot_or words number count (Some i) h = h.1
+
 pub number_there : (l : Lent) (n : ℕ) → has_slot n (slots_in l) ≡ true → (i : ℕ) → i ≡ before_number l.words n (pack_count l) → number_at l.words i ≡ n
 unfolding before_number
 number_there l n p i e =
@@ -138,6 +172,7 @@ number_there l n p i e =
 -- all slots before i have another number
 pub record Before (words : List ℕ) (number count i : ℕ) : Type 0 where
   pub same : before_number words number count ≡ i + length (take_while (λ n. not (eqb number n)) (each (number_at words) i (count - i)))
+  pub behind : has_number_from words number i count ≡ has_number_from words number 0 count
   pub most : i ≤ count
 
 module _ (words : List ℕ) (number count : ℕ) where
@@ -145,7 +180,7 @@ module _ (words : List ℕ) (number count : ℕ) where
   unfolding before_number
   before_first =
       let e : count - 0 ≡ count = omega arith in
-      record { same = rw e (omega arith); most = omega arith }
+      record { same = rw e (omega arith); behind = refl; most = omega arith }
 
   module _ {i : ℕ} (h : Before words number count i) where
     turn : i < count → before_number words number count
@@ -153,15 +188,18 @@ module _ (words : List ℕ) (number count : ℕ) where
     unfolding take_while
     turn k = h.same ∙ rw (each_first (number_at words) i count k) refl
 
-    pub before_found : i < count → number_at words i ≡ number → i ≡ before_number words number count
-    before_found k e = sym (turn k ∙ rw (eq-eqb number (number_at words i) (sym e)) (omega arith))
+    pub before_found : i < count → number_at words i ≡ number → (has_number_from words number 0 count ≡ true) × (i ≡ before_number words number count)
+    before_found k e = (sym h.behind ∙ number_found words number i count k e, sym (turn k ∙ rw (eq-eqb number (number_at words i) (sym e)) (omega arith)))
 
     pub before_more : i < count → (number_at words i ≡ number → ⊥) → Before words number count (i + 1)
-    before_more k e = record { same = turn k ∙ rw (ne_eqb number (number_at words i) (λ z. e (sym z))) (omega arith); most = omega arith }
+    before_more k e = record {
+      same = turn k ∙ rw (ne_eqb number (number_at words i) (λ z. e (sym z))) (omega arith);
+      behind = sym (number_on words number i count k e) ∙ h.behind;
+      most = omega arith;
+    }
 
-    pub before_end : count ≤ i → i ≡ before_number words number count
-    unfolding take_while
-    before_end k = sym (h.same ∙ rw (each_none (number_at words) i count k) (omega arith))
+    pub before_end : count ≤ i → has_number_from words number 0 count ≡ false
+    before_end k = sym h.behind ∙ number_none words number i count k
 
 -- the slots behind slot i moved up
 module _ (l : Lent) (i count at next end body behind last : ℕ) (a : at ≡ slot_start i) (b : next ≡ slot_start (i + 1)) (c : end ≡ slot_start count)
@@ -183,3 +221,7 @@ pub gone_inside : (l : Lent) (n : ℕ) → Laid l → has_slot n (slots_in l) �
 unfolding before_number
 gone_inside l n h p i e =
     omega (arith, e, before_slots l n 0 (pack_count l), (slot_leaves n (slots_in l) h.slots p).0, each_long (slot_at l) 0 (pack_count l))
+
+-- the slot by the words of a judged board
+pub slot_at_call : (b : Buffers) (l : Lent) (n i : ℕ) → lent_of b ≡ l → i ≡ before_number b.words.now n (pack_count (lent_of b)) → i ≡ before_number l.words n (pack_count l)
+slot_at_call b l n i e h = h ∙ ap (λ (o : Lent). before_number o.words n (pack_count o)) e

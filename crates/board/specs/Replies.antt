@@ -1,5 +1,5 @@
 -- A board's answers in document 02's numbers, and what its parts ask for and leave.
-use Rattle.std.specs.Prelude.{not, List, [], ◌∷◌, ℕ, suc, ◌-◌, ◌≤◌, eqb, length}
+use Rattle.std.specs.Prelude.{not, List, [], ◌∷◌, ℕ, suc, ◌-◌, ◌≤◌, eqb, length, Result, Ok, Err}
 use Rattle.std.proofs.Math.Seq.{slice}
 use Rattle.definition.specs.Lists.{take_while}
 use Rattle.definition.specs.Limits.{board_words, board_bytes}
@@ -7,13 +7,18 @@ use Rattle.definition.specs.Lookup.{Reply, given, refused}
 use Rattle.definition.specs.Adding.{over}
 use Rattle.definition.specs.Board.{each, Lent, lent, slot_start, body_start}
 use Rattle.board_judge.specs.Slots.{number_at}
-use Rattle.board.specs.declared.Changed.{Changed}
-use Rattle.board.specs.declared.Changed.TheVariants.{Done, Refused}
+use Rattle.refusal.specs.declared.Refusal.{Refusal}
+use Rattle.refusal.specs.Numbers.{number}
 
 -- a call that is done, with the number of a query that is watched from now on, or the number of a refusal
-abbrev pub replied : Changed → Reply ℕ
-replied (Done n) = given n
-replied (Refused k) = refused k
+abbrev pub replied : Result ℕ Refusal → Reply ℕ
+replied (Ok n) = given n
+replied (Err k) = refused (number k)
+
+-- a pack that leaves its slot, whose number is not told
+abbrev pub left : Result ℕ Refusal → Reply ℕ
+left (Ok i) = given 0
+left (Err k) = refused (number k)
 
 -- buffers that are long enough
 pub record Long (words bytes : List ℕ) : Type 0 where

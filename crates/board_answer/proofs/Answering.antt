@@ -1,19 +1,19 @@
 -- What a watched query gets, test by test. Assumes nothing.
 use Rattle.std.specs.Prelude.{if◌then◌else◌}
 use mathlib.Core.Bool.{Bool, true, false, not}
-use mathlib.Core.List.{[]}
 use mathlib.Core.Path.{◌≡◌, refl, sym, ap, ◌∙◌}
-use Prim.Native.Nat.{ℕ, suc, ◌+◌, ◌/◌, ◌%◌, ◌≤◌, ◌<◌}
+use Prim.Native.Nat.{ℕ, ◌+◌, ◌/◌, ◌%◌, ◌≤◌}
 use native.Mathlib.Omega.{arith}
-use lib.ListN.{length, get_or}
-use lib.Seq.{length-slice}
-use Rattle.definition.specs.Limits.{most_entries, most_packs, body_bytes, contents_words, board_words}
+use lib.ListN.{get_or}
+use Rattle.definition.specs.Limits.{most_entries, most_packs, body_bytes}
 use Rattle.definition.specs.Image.{key_end}
 use Rattle.definition.specs.Lookup.{Reply, given, no_value, refused, Place}
-use Rattle.definition.specs.Board.{joined, Found, found_in, query_number, watched_answer, Lent, lent, query_count, slot_start, slot_at, query_at, board_in, short_board, is_board, board_answer}
+use Rattle.definition.specs.Board.{joined, Found, found_in, query_number, watched_answer, Lent, query_count, slot_start, slot_at, query_at, board_in, short_board, is_board, board_answer}
 use Rattle.board_laws.proofs.Placing.{each_long}
 use Rattle.board_laws.proofs.Answers.{no_query}
-use Rattle.board_judge.specs.Slots.{refusal_of}
+use Rattle.refusal.specs.declared.Refusal.{Refusal}
+use Rattle.refusal.specs.Numbers.{number}
+use Rattle.board_judge.specs.Slots.{turns_away}
 use Rattle.board_judge.proofs.Judging.{turned_away}
 use Rattle.image.specs.Rows.{RowIs}
 use Rattle.image.specs.declared.Row.{Row}
@@ -26,10 +26,9 @@ place (given f) = f.place
 place no_value = record { start = 0; length = 0 }
 place (refused k) = record { start = 0; length = 0 }
 
-module _ (l : Lent) (q k : ℕ) (e : k ≡ refusal_of l) where
-  pub answer_away : (k ≡ 0 → ⊥) → refused k ≡ board_answer l q
-  unfolding board_answer
-  answer_away h = turned_away l k e h Found (watched_answer (board_in l) q)
+pub answer_away : (l : Lent) (q : ℕ) (k : Refusal) → turns_away l k → refused (number k) ≡ board_answer l q
+unfolding board_answer
+answer_away l q k h = turned_away l k h Found (watched_answer (board_in l) q)
 
 pub watched_none : (l : Lent) (q : ℕ) → query_count l ≤ q → no_value ≡ watched_answer (board_in l) q
 unfolding found_in
@@ -62,22 +61,7 @@ module _ (l : Lent) (q : ℕ) (f : Found) where
 
 -- ---- The value of a number
 
-pub slot_long : (l : Lent) → board_words ≤ length l.words → (i : ℕ) → i < most_packs → length (slot_at l i).contents ≡ contents_words
-unfolding slot_at slot_start
-slot_long l h i k =
-    let s = length-slice (slot_start i + 1) (slot_start (suc i)) l.words (omega arith) in
-    omega (arith, s)
-
 pub place_is : (l : Lent) (n : ℕ) (r : Row) → RowIs (slot_at l (n / most_entries)).contents (n % most_entries) r → (p : ℕ) → p ≡ get_or l.words (slot_start (n / most_entries)) 0
     → given (record { pack = p; place = record { start = r.start + r.key; length = r.value } }) ≡ place_of l (given n)
 unfolding place_of slot_at
 place_is l n r e p f = λ t. given (record { pack = f t; place = record { start = key_end (e.is t); length = (e.is t).value_length } })
-
--- which the words alone decide
-pub place_words : (l : Lent) (x y : Reply ℕ) → x ≡ y → {a : Reply Found} → a ≡ place_of (lent l.words []) x → a ≡ place_of l y
-place_words l x y e z = z ∙ at x ∙ ap (place_of l) e
-  where
-    at : (x : Reply ℕ) → place_of (lent l.words []) x ≡ place_of l x
-    at (given n) = unfold place_of slot_at in refl
-    at no_value = unfold place_of in refl
-    at (refused k) = unfold place_of in refl

@@ -1,61 +1,58 @@
 // The answer of a watched query. Document 02 (ix).
 #![tactic(auto)]
 
-ghost use Rattle.std.specs.Prelude.{true, ◌≡◌, [], ◌≤◌, ◌<◌, ◌*◌, length};
-ghost use Rattle.definition.specs.Limits.{most_entries, most_packs, board_words};
+ghost use Rattle.std.specs.Prelude.{◌≡◌, Ok, Some};
 ghost use Rattle.definition.specs.Lookup.{given};
-ghost use Rattle.definition.specs.Board.{watched_answer, lent, board_in, is_board, board_answer};
-ghost use Rattle.board_search.specs.Slots.{place_of};
+ghost use Rattle.definition.specs.Board.{watched_answer, lent, board_in, board_answer};
+ghost use Rattle.board_layout.specs.Laid.{lent_of};
+ghost use Rattle.board_search.specs.Slots.{Named, place_of};
 ghost use Rattle.board_answer.specs.Replies.{answered};
 
-use board_judge::refusal;
-use board_layout::{pack_number, slot_contents};
-use board_search::{Spot, find};
-use image::row_at;
-use limits::{MOST_ENTRIES, MOST_PACKS};
+use board_judge::Board;
+use board_search::find;
+use limits::MOST_ENTRIES;
+use lookup::Place;
+use refusal::Refusal;
 
-// What a watched query gets: the pack's number, the value's place in that pack's bodies and its length, none, or the number that refuses it.
-#[derive(Drop)]
-pub enum Reply {
-    Found(u16, usize, usize),
-    Nothing,
-    Refused(u8),
+// What a watched query finds: the pack's number, and where the value lies in that pack's bodies.
+#[derive(Clone, Copy)]
+pub struct Found {
+    pub pack: u16,
+    pub place: Place,
 }
 
 // The value of the entry of that number.
-fn place_of(words: &[u16], number: usize) -> Reply
-    requires { (number < most_entries * most_packs) × (board_words ≤ length words.now) }
-    ensures { answered result ≡ place_of (lent words.now []) (given number) }
+fn place_of(board: Board<'_>, number: usize) -> Found
+    requires { Named (lent_of board.buffers) number }
+    ensures { answered (Ok (Some result)) ≡ place_of (lent_of board.entry.buffers) (given number) }
 {
     let slot = number / MOST_ENTRIES;
-    let i = number % MOST_ENTRIES;
-    let row = row_at(slot_contents(words, slot), i);
-    Reply::Found(pack_number(words, slot), row.start + row.key, row.value)
+    let row = board.image(slot).row(number % MOST_ENTRIES);
+    Found {
+        pack: board.buffers.slot_at(slot).number,
+        place: Place {
+            start: row.start + row.key,
+            size: row.value,
+        },
+    }
 }
 
 // What watched query `q` of a board gets. A number with no query gets none.
-pub fn watched(words: &[u16], bytes: &[u8], q: usize) -> Reply
-    requires { is_board (lent words.now bytes.now) ≡ true }
-    ensures { answered result ≡ watched_answer (board_in (lent words.now bytes.now)) q }
+pub fn watched(board: Board<'_>, q: usize) -> Option<Found>
+    ensures { answered (Ok result) ≡ watched_answer (board_in (lent_of board.entry.buffers)) q }
 {
-    let queries = words[1] as usize;
+    let queries = board.buffers.query_count();
     if queries <= q {
-        return Reply::Nothing;
+        return None;
     }
-    let spot = find(words, bytes, q, MOST_PACKS);
-    match spot {
-        Spot::Nothing => Reply::Nothing,
-        Spot::At(number) => place_of(words, number),
-    }
+    let number = find(board, q, None)?;
+    Some(place_of(board, number))
 }
 
 // What watched query `q` gets: 1, 8.
-pub fn answer(words: &[u16], bytes: &[u8], q: usize) -> Reply
+pub fn answer(words: &[u16], bytes: &[u8], q: usize) -> Result<Option<Found>, Refusal>
     ensures { answered result ≡ board_answer (lent words.now bytes.now) q }
 {
-    let k = refusal(words, bytes);
-    if k != 0 {
-        return Reply::Refused(k);
-    }
-    watched(words, bytes, q)
+    let board = Board::new(words, bytes)?;
+    Ok(watched(board, q))
 }

@@ -1,4 +1,5 @@
 -- All watched answers, written number by number, are those that the call for one gives and leaves. Assumes nothing.
+use Rattle.std.specs.Prelude.{Option, Some, None, Result, Ok, Err}
 use mathlib.Core.Bool.{true}
 use mathlib.Core.List.{List, ◌∷◌, ◌++◌, append-nil}
 use mathlib.Core.Path.{◌≡◌, refl, sym, ap, ◌∙◌}
@@ -14,20 +15,21 @@ use Rattle.board_laws.proofs.Placing.{each_long, each_at, each_more}
 use Rattle.board_laws.proofs.Calls.{laid}
 use Rattle.board_laws.proofs.Histories.{queries_held, answered, all_answered_lem}
 use Rattle.board_laws.proofs.Answers.{among_all}
-use Rattle.board_judge.specs.Slots.{refusal_of}
-use Rattle.board_judge.proofs.Judging.{turned_away, goes_on}
+use Rattle.refusal.specs.declared.Refusal.{Refusal}
+use Rattle.refusal.specs.Numbers.{number}
+use Rattle.board_judge.specs.Slots.{turns_away}
+use Rattle.board_judge.proofs.Judging.{turned_away}
 use Rattle.codes.specs.Codes.{from16}
-use Rattle.board_answer.specs.declared.Reply.{Reply as Answer}
-use Rattle.board_answer.specs.declared.Reply.TheVariants as answer
-use Rattle.board_answer.specs.Replies.{answered as replied}
+use Rattle.board_answer.specs.declared.Found as answer
+use Rattle.board_answer.specs.Replies.{found_of, answered as replied}
 use Rattle.board_answer.proofs.Answering.{answer_placed}
 use Rattle.board_codes.specs.Codes.{Answering, answering, answer_numbers, Placed}
 use Rattle.board_answers.specs.Numbers.{numbers_at, answers_of, packs_of, all_answered, all_numbers}
 
-pub answer_small : (l : Lent) (q : ℕ) (r : Answer) → replied r ≡ board_answer l q → Placed r
-answer_small l q (answer.Found n start size) e = answer_placed l q (record { pack = n; place = record { start = start; length = size } }) e
-answer_small l q answer.Nothing e = tt
-answer_small l q (answer.Refused k) e = tt
+pub answer_small : (l : Lent) (q : ℕ) (r : Result (Option answer.Found) Refusal) → replied r ≡ board_answer l q → Placed r
+answer_small l q (Ok (Some f)) e = answer_placed l q (found_of f) e
+answer_small l q (Ok None) e = tt
+answer_small l q (Err k) e = tt
 
 -- ---- A list written from its front on
 
@@ -89,7 +91,7 @@ module _ (l : Lent) (answers₀ packs₀ : List ℕ) (e : length answers₀ ≡ 
         (written_long _ answers₀ q answers h.codes (omega (arith, h.most)) ∙ e, written_long _ packs₀ q packs h.numbers (omega (arith, h.most)) ∙ g)
 
     -- what the call for one gives and leaves
-    pub put_more : q < most_queries → (r : Answer) → replied r ≡ watched_answer (board_in l) q → (x p : ℕ)
+    pub put_more : q < most_queries → (r : Result (Option answer.Found) Refusal) → replied r ≡ watched_answer (board_in l) q → (x p : ℕ)
         → answering x p ≡ answer_numbers (replied r) (get_or packs q 0) → Put l answers₀ packs₀ (set answers q x) (set packs q p) (q + 1)
     put_more k r f x p z =
         let one : answering x p ≡ numbers_at (all l) packs₀ q =
@@ -107,15 +109,14 @@ module _ (l : Lent) (answers₀ packs₀ : List ℕ) (e : length answers₀ ≡ 
 
 -- ---- The call
 
-module _ (l : Lent) (k : ℕ) (e : k ≡ refusal_of l) (answers packs : List ℕ) where
-  pub all_away : (k ≡ 0 → ⊥) → all_answered k answers packs ≡ all_numbers (board_answers l) answers packs
+module _ (l : Lent) (answers packs : List ℕ) where
+  pub all_away : (k : Refusal) → turns_away l k → all_answered (number k) answers packs ≡ all_numbers (board_answers l) answers packs
   unfolding board_answers
-  all_away h = ap (λ (r : Reply (List (Reply Found))). all_numbers r answers packs) (turned_away l k e h (List (Reply Found)) (given (watched_answers (board_in l))))
+  all_away k h = ap (λ (r : Reply (List (Reply Found))). all_numbers r answers packs) (turned_away l k h (List (Reply Found)) (given (watched_answers (board_in l))))
 
-  pub all_given : k ≡ 0 → (answers' packs' : List ℕ) → answers' ≡ answers_of (watched_answers (board_in l)) packs → packs' ≡ packs_of (watched_answers (board_in l)) packs
+  pub all_given : is_board l ≡ true → (answers' packs' : List ℕ) → answers' ≡ answers_of (watched_answers (board_in l)) packs → packs' ≡ packs_of (watched_answers (board_in l)) packs
       → all_answered (from16 * query_count l) answers' packs' ≡ all_numbers (board_answers l) answers packs
-  all_given z answers' packs' g h =
-      let is = goes_on l k e z in
+  all_given is answers' packs' g h =
       let long : query_count l ≡ length (watched_answers (board_in l)) =
       sym (queries_held l (laid l is)) ∙ sym (each_long (watched_answer (board_in l)) 0 (length (board_in l).queries)) in
       (λ t. all_answered (from16 * long t) (g t) (h t)) ∙ sym (ap (λ (r : Reply (List (Reply Found))). all_numbers r answers packs) (all_answered_lem l is))

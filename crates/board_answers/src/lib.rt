@@ -1,27 +1,25 @@
 // All watched answers by one call, which judges the board once. Document 02 (ix).
 #![tactic(auto)]
 
-ghost use Rattle.std.specs.Prelude.{true, ◌≡◌, length};
+ghost use Rattle.std.specs.Prelude.{◌≡◌, length};
 ghost use Rattle.definition.specs.Limits.{most_queries};
-ghost use Rattle.definition.specs.Board.{watched_answers, lent, board_in, is_board, board_answers};
+ghost use Rattle.definition.specs.Board.{watched_answers, lent, board_in, board_answers};
+ghost use Rattle.board_layout.specs.Laid.{lent_of};
 ghost use Rattle.board_answers.specs.Numbers.{answers_of, packs_of, all_answered, all_numbers};
 
 use board_answer::watched;
 use board_codes::answer_code;
-use board_judge::refusal;
+use board_judge::Board;
 use codes::FROM_16;
 use limits::MOST_QUERIES;
 
 // An answer for each of the 32 numbers, with the pack's number in its own place of `packs`.
-fn put_answers(words: &[u16], bytes: &[u8], answers: &mut [u64], packs: &mut [u16])
-    requires { (is_board (lent words.now bytes.now) ≡ true) × (length answers.old ≡ most_queries) × (length packs.old ≡ most_queries) }
-    ensures { (answers.new ≡ answers_of (watched_answers (board_in (lent words.now bytes.now))) packs.old) × (packs.new ≡ packs_of (watched_answers (board_in (lent words.now bytes.now))) packs.old) }
+fn put_answers(board: Board<'_>, answers: &mut [u64], packs: &mut [u16])
+    requires { (length answers.old ≡ most_queries) × (length packs.old ≡ most_queries) }
+    ensures { (answers.new ≡ answers_of (watched_answers (board_in (lent_of board.entry.buffers))) packs.old) × (packs.new ≡ packs_of (watched_answers (board_in (lent_of board.entry.buffers))) packs.old) }
 {
-    let mut q = 0;
-    while q < MOST_QUERIES {
-        let found = watched(words, bytes, q);
-        answers[q] = answer_code(found, &mut packs[q]);
-        q += 1;
+    for q in 0..MOST_QUERIES {
+        answers[q] = answer_code(Ok(watched(board, q)), &mut packs[q]);
     }
 }
 
@@ -30,10 +28,11 @@ pub fn answer_all(words: &[u16], bytes: &[u8], answers: &mut [u64], packs: &mut 
     requires { (length answers.old ≡ most_queries) × (length packs.old ≡ most_queries) }
     ensures { all_answered result answers.new packs.new ≡ all_numbers (board_answers (lent words.now bytes.now)) answers.old packs.old }
 {
-    let k = refusal(words, bytes);
-    if k != 0 {
-        return k as u64;
+    match Board::new(words, bytes) {
+        Ok(board) => {
+            put_answers(board, answers, packs);
+            FROM_16 * (board.buffers.query_count() as u64)
+        }
+        Err(refusal) => u64::from(refusal),
     }
-    put_answers(words, bytes, answers, packs);
-    FROM_16 * (words[1] as u64)
 }

@@ -1,13 +1,11 @@
 -- The answers of a board's calls as numbers of 64 bits: a status in the low 16 bits, and what goes with 0 above it.
-use Rattle.std.specs.Prelude.{ℕ, ◌+◌, ◌*◌, ◌≤◌, ◌<◌}
+use Rattle.std.specs.Prelude.{ℕ, ◌+◌, ◌*◌, ◌≤◌, ◌<◌, Option, IfSome, Result, IfOk}
 use Rattle.definition.specs.Limits.{body_bytes, most_queries}
 use Rattle.definition.specs.Lookup.{Reply, given, no_value, refused}
 use Rattle.definition.specs.Board.{Found}
 use Rattle.codes.specs.Codes.{from16, from32, none_code}
-use Rattle.board.specs.declared.Changed.{Changed}
-use Rattle.board.specs.declared.Changed.TheVariants as changed
-use Rattle.board_answer.specs.declared.Reply.{Reply as Answer}
-use Rattle.board_answer.specs.declared.Reply.TheVariants as answer
+use Rattle.refusal.specs.declared.Refusal.{Refusal}
+use Rattle.board_answer.specs.declared.Found as answer
 
 -- the number of a query from bit 16 on, 0 for a pack that arrived or left, or the number of the refusal
 abbrev pub call_code : Reply ℕ → ℕ
@@ -16,9 +14,8 @@ call_code no_value = none_code
 call_code (refused k) = k
 
 -- the number of a query, so that its code fits
-abbrev pub Numbered : Changed → Type 0
-Numbered (changed.Done n) = n < most_queries
-Numbered (changed.Refused k) = Unit {0}
+abbrev pub Numbered : Result ℕ Refusal → Type 0
+Numbered r = IfOk r (λ n. n < most_queries)
 
 -- ---- Watched answers
 
@@ -37,10 +34,8 @@ answer_numbers no_value lent = answering none_code lent
 answer_numbers (refused k) lent = answering k lent
 
 -- a place in a pack's bodies, so that its code fits
-abbrev pub Placed : Answer → Type 0
-Placed (answer.Found n start size) = start + size ≤ body_bytes
-Placed answer.Nothing = Unit {0}
-Placed (answer.Refused k) = Unit {0}
+abbrev pub Placed : Result (Option answer.Found) Refusal → Type 0
+Placed r = IfOk r (λ o. IfSome o (λ f. f.place.start + f.place.size ≤ body_bytes))
 
 -- ---- The report
 

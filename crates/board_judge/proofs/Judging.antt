@@ -1,20 +1,26 @@
 -- How a board is judged, slot by slot and query by query. Assumes nothing.
-use Rattle.std.specs.Prelude.{if◌then◌else◌}
+use Rattle.std.specs.Prelude.{if◌then◌else◌, Result, Ok, Err, MatchResult}
+use Rattle.std.specs.Result.{is_ok}
 use mathlib.Core.Bool.{Bool, true, false, ◌&&◌, ◌||◌, not, and-false}
 use mathlib.Core.List.{List, [], ◌∷◌}
 use mathlib.Core.Path.{◌≡◌, refl, sym, ap, ◌∙◌}
 use Prim.Native.Nat.{ℕ, zero, suc, ◌+◌, ◌-◌, ◌≤◌, ◌<◌}
 use native.Mathlib.Numerals.{add-one}
 use native.Mathlib.Omega.{arith}
-use lib.Dec.{eqb, leb, ltb}
+use lib.Dec.{eqb, leb}
 use lib.ListN.{length}
-use borrow.Author.Tests.{eq-eqb, ne_eqb, lt-ltb, le-ltb, le-leb, lt-leb}
+use borrow.Author.Tests.{eq-eqb, ne_eqb, le-ltb, le-leb, lt-leb}
 use Rattle.definition.specs.Lists.{any, all}
 use Rattle.definition.specs.Limits.{query_bytes, most_packs, most_queries, board_words, board_bytes}
 use Rattle.definition.specs.Image.{is_image}
 use Rattle.definition.specs.Lookup.{Reply, refused}
-use Rattle.definition.specs.Board.{each, Lent, lent, pack_count, query_count, slot_at, name_length, class_length, slots_in, short_board, are_slots, have_room, is_board}
-use Rattle.board_judge.specs.Slots.{number_at, has_number_from, slot_holds, refusal_of}
+use Rattle.refusal.specs.declared.Refusal.{Refusal}
+use Rattle.refusal.specs.Numbers.{number as refusal_number}
+use Rattle.definition.specs.Board.{each, Lent, pack_count, query_count, slot_at, name_length, class_length, slots_in, short_board, are_slots, have_room, is_board}
+use Rattle.board_layout.specs.declared.Buffers.{Buffers}
+use Rattle.board_layout.specs.Laid.{lent_of}
+use Rattle.board_judge.specs.declared.Board.{Board}
+use Rattle.board_judge.specs.Slots.{number_at, has_number_from, slot_holds, turns_away}
 
 -- ---- From a number on
 
@@ -126,13 +132,10 @@ module _ (l : Lent) (i count : ℕ) where
 
 -- ---- The board
 
+pub buffers_long : (b : Buffers) → short_board (lent_of b) ≡ false
+buffers_long b = rw (le-ltb (length b.words.now) board_words b.words_long, le-ltb (length b.bytes.now) board_bytes b.bytes_long) refl
+
 module _ (l : Lent) where
-  pub short_words : length l.words < board_words → short_board l ≡ true
-  short_words h = rw (lt-ltb (length l.words) board_words h) refl
-
-  pub short_bytes : board_words ≤ length l.words → short_board l ≡ ltb (length l.bytes) board_bytes
-  short_bytes h = rw (le-ltb (length l.words) board_words h) refl
-
   pub board_short : short_board l ≡ true → is_board l ≡ false
   unfolding is_board
   board_short e = rw e refl
@@ -152,41 +155,25 @@ module _ (l : Lent) where
         unfolding is_board
         board_slots e = rw (long, le-leb (pack_count l) most_packs packs, le-leb (query_count l) most_queries queries, e) refl
 
-        pub board_rooms : are_slots (slots_in l) ≡ true → is_board l ≡ all (have_room (lent l.words [])) (each (λ q. q) 0 (query_count l))
-        unfolding is_board have_room
+        pub board_rooms : are_slots (slots_in l) ≡ true → is_board l ≡ all (have_room l) (each (λ q. q) 0 (query_count l))
+        unfolding is_board
         board_rooms e = rw (long, le-leb (pack_count l) most_packs packs, le-leb (query_count l) most_queries queries, e) refl
 
--- ---- The number that turns a call away
+-- ---- A call that is turned away
 
-module _ (l : Lent) where
-  pub refuses_short : short_board l ≡ true → 1 ≡ refusal_of l
-  unfolding refusal_of
-  refuses_short e = rw e refl
+pub turned_away : (l : Lent) (k : Refusal) → turns_away l k → (A : Type 0) (r : Reply A)
+    → refused (refusal_number k) ≡ (if short_board l then refused 1 else if not (is_board l) then refused 8 else r)
+turned_away l k h A r = rw (h.1, h.0) (at (short_board l))
+  where
+    at : (s : Bool) → ◌≡◌ {A = Reply A} (refused (if s then 1 else 8)) (if s then refused 1 else refused 8)
+    at true = refl
+    at false = refl
 
-  pub refuses_other : short_board l ≡ false → is_board l ≡ false → 8 ≡ refusal_of l
-  unfolding refusal_of
-  refuses_other e f = rw (e, f) refl
+-- ---- A board that is judged
 
-  pub refuses_none : short_board l ≡ false → is_board l ≡ true → 0 ≡ refusal_of l
-  unfolding refusal_of
-  refuses_none e f = rw (e, f) refl
+pub held : (b : Board) (l : Lent) → lent_of b.buffers ≡ l → is_board l ≡ true
+held b l e = rw e at b.is_one
 
-  -- what it says of the call
-  pub turned_away : (k : ℕ) → k ≡ refusal_of l → (k ≡ 0 → ⊥) → (A : Type 0) (r : Reply A)
-      → refused k ≡ (if short_board l then refused 1 else if not (is_board l) then refused 8 else r)
-  unfolding refusal_of
-  turned_away k e h A r = at (short_board l) (is_board l) e
-    where
-      at : (s b : Bool) → k ≡ (if s then 1 else if b then 0 else 8) → refused k ≡ (if s then refused 1 else if not b then refused 8 else r)
-      at true b z = ap (λ (n : ℕ). refused n) z
-      at false true z = absurd (h z)
-      at false false z = ap (λ (n : ℕ). refused n) z
-
-  pub goes_on : (k : ℕ) → k ≡ refusal_of l → k ≡ 0 → is_board l ≡ true
-  unfolding refusal_of
-  goes_on k e h = at (short_board l) (is_board l) (sym e ∙ h)
-    where
-      at : (s b : Bool) → ◌≡◌ {A = ℕ} (if s then 1 else if b then 0 else 8) 0 → b ≡ true
-      at true b z = absurd (omega (arith, z))
-      at false true z = refl
-      at false false z = absurd (omega (arith, z))
+pub judged_board : (l : Lent) (r : Result Board Refusal) → MatchResult r (λ b. lent_of b.buffers ≡ l) (turns_away l) → is_ok r ≡ is_board l
+judged_board l (Ok b) h = sym (held b l h)
+judged_board l (Err k) h = sym h.1

@@ -1,2 +1,3 @@
 -- Laws of the judging of a board.
 pub mod Judging
+pub mod Images

@@ -1,7 +1,9 @@
 -- The slots of a board by their words, and what is judged of one.
-use Rattle.std.specs.Prelude.{Bool, ◌&&◌, not, List, ℕ, ◌+◌, ◌-◌, eqb, get_or, if◌then◌else◌}
+use Rattle.std.specs.Prelude.{Bool, false, ◌&&◌, not, ◌≡◌, List, ℕ, ◌+◌, ◌-◌, eqb, get_or, if◌then◌else◌}
 use Rattle.definition.specs.Lists.{any}
 use Rattle.definition.specs.Image.{is_image}
+use Rattle.refusal.specs.declared.Refusal.{Refusal}
+use Rattle.refusal.specs.Numbers.{number}
 use Rattle.definition.specs.Board.{each, Lent, slot_start, slot_at, short_board, is_board}
 
 -- the number of the pack in slot i
@@ -18,6 +20,6 @@ slot_holds l i count =
     not (eqb (number_at l.words i) 0) && not (has_number_from l.words (number_at l.words i) (i + 1) count)
     && is_image (slot_at l i).contents (slot_at l i).bodies
 
--- the number that turns a call away, or 0
-unfoldable pub refusal_of : Lent → ℕ
-refusal_of l = if short_board l then 1 else if is_board l then 0 else 8
+-- why a call is turned away: the buffers are too short, or hold no board
+abbrev pub turns_away : Lent → Refusal → Type 0
+turns_away l k = (number k ≡ (if short_board l then 1 else 8)) × (is_board l ≡ false)

@@ -13,7 +13,6 @@ use Rattle.definition.specs.Limits.{most_packs, most_queries, most_entries}
 use Rattle.definition.specs.Query.{Query}
 use Rattle.definition.specs.Lookup.{Reply, given, no_value, refused, answer_of}
 use Rattle.definition.specs.Board.{Arrival, Pack, kept, leave, has_number, reply_to, changed, if_given, joined, Found, query_number, watched_answer, answer_bytes, same_answer, each, changes, bits_of, reported, Lent, pack_count, query_count, slot_at, slots_in, board_in, short_board, is_board, done, writing, board_call, board_report}
-use Rattle.laws.proofs.Lists.{both_ways, same_eq, eq_same}
 use Rattle.board_laws.proofs.Slots.{is_other, own_number, kept_without}
 use Rattle.board_laws.proofs.Calls.{laid}
 use Rattle.board_laws.proofs.Histories.{refused_given, queries_held, reports}
@@ -110,10 +109,6 @@ module _ (l : Lent) (is : is_board l ≡ true) (i : ℕ) (inside : i < pack_coun
       → not (same (spot_value l n) (spot_value l m)) ≡ changes number (board_in l) q
   unfolding spot_bytes same_answer
   changed_value n m e f = changes_by (given n) (given m) e f
-
--- two values compared
-pub values_differ : (v w : List ℕ) (r : Bool) → (r ≡ true → v ≡ w) × (v ≡ w → r ≡ true) → not r ≡ not (same v w)
-values_differ v w r h = ap not (both_ways r (same v w) (λ e. eq_same v w (h.0 e)) (λ e. h.1 (same_eq v w e)))
 
 -- ---- The bits, from the last query on
 

@@ -30,7 +30,7 @@ use Rattle.image_judge.proofs.Judged.{Judged, judged}
 use Rattle.lookup.specs.Searches.{numbered}
 use Rattle.board_search.specs.Slots.{best_slots, passing, spot_of, row_of, place_of, Named, spot_value, spot_bytes}
 use Rattle.board_search.proofs.Numbering.{Agrees, agrees_from}
-use Rattle.board_search.proofs.Searching.{slot_image}
+use Rattle.board_judge.proofs.Images.{slot_image}
 
 abbrev entry_of : Brought → Entry
 entry_of x = x.entry

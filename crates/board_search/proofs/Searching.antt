@@ -1,41 +1,23 @@
 -- The search through the slots of a board. Assumes nothing.
-use Rattle.std.specs.Prelude.{if◌then◌else◌}
-use mathlib.Core.Bool.{true}
+use Rattle.std.specs.Prelude.{if◌then◌else◌, Option, None, Some}
+use Rattle.std.specs.Option.{option_eq, unwrap_or}
+use mathlib.Core.Bool.{Bool, true, false, not}
 use mathlib.Core.List.{List}
 use mathlib.Core.Path.{◌≡◌, refl, sym, ap, ◌∙◌}
-use Prim.Native.Nat.{ℕ, zero, suc, ◌+◌, ◌*◌, ◌-◌, ◌≤◌, ◌<◌}
+use Prim.Native.Nat.{ℕ, suc, ◌+◌, ◌*◌, ◌-◌, ◌≤◌, ◌<◌}
 use native.Mathlib.Numerals.{add-one}
 use native.Mathlib.Nat.{sub-zero}
 use native.Mathlib.Omega.{arith}
 use lib.Dec.{eqb}
-use borrow.Author.Tests.{eq-eqb, ne_eqb}
-use Rattle.definition.specs.Limits.{most_entries}
-use Rattle.definition.specs.Image.{is_image}
+use borrow.Author.Tests.{eqb-true, eq-eqb, ne_eqb}
+use Rattle.definition.specs.Limits.{most_entries, most_packs}
 use Rattle.definition.specs.Query.{Position}
 use Rattle.definition.specs.Ranking.{Best, no_entry, best_from}
 use Rattle.definition.specs.Lookup.{keys_of}
 use Rattle.definition.specs.Writing.{entries_of_image}
-use Rattle.definition.specs.Board.{Arrival, each, Lent, pack_count, slot_at, are_slots, is_board}
-use Rattle.laws.proofs.Lists.{Order, below, equal, above, order}
-use Rattle.board_laws.proofs.Slots.{slots_are}
-use Rattle.board_laws.proofs.Calls.{laid}
+use Rattle.definition.specs.Board.{Lent, pack_count, slot_at}
+use Rattle.laws.proofs.Lists.{not_both}
 use Rattle.board_search.specs.Slots.{best_slots}
-
--- each slot of a board holds an image
-slots_image : (f : ℕ → Arrival) (i n : ℕ) → are_slots (each f i n) ≡ true → (j : ℕ) → i ≤ j → j < i + n → is_image (f j).contents (f j).bodies ≡ true
-unfolding each
-slots_image f i zero h j a b = absurd (omega arith)
-slots_image f i (suc n) h j a b =
-    let s = slots_are (f i) (each f (suc i) n) h in
-    at (order i j) s.image (λ z. slots_image f (suc i) n s.others j z (omega arith))
-  where
-    at : Order i j → is_image (f i).contents (f i).bodies ≡ true → (i < j → is_image (f j).contents (f j).bodies ≡ true) → is_image (f j).contents (f j).bodies ≡ true
-    at (below z) here later = later z
-    at (equal z) here later = rw (← z) here
-    at (above z) here later = absurd (omega arith)
-
-pub slot_image : (l : Lent) → is_board l ≡ true → (i : ℕ) → i < pack_count l → is_image (slot_at l i).contents (slot_at l i).bodies ≡ true
-slot_image l is i h = slots_image (slot_at l) 0 (pack_count l) (laid l is).slots i (omega arith) (omega arith)
 
 module _ (l : Lent) (skip : ℕ) (qs : List Position) where
   -- going on from slot i with the best so far comes to what is looked for
@@ -66,3 +48,18 @@ module _ (l : Lent) (skip : ℕ) (qs : List Position) where
     pub passing_end : pack_count l ≤ i → b ≡ best_slots l skip qs 0 (pack_count l) no_entry
     unfolding best_slots
     passing_end h = let e : pack_count l - i ≡ 0 = omega arith in sym (sym p.same ∙ rw e refl)
+
+-- ---- The slot that is passed over; the packs' most stands for none, which is no slot's
+
+module _ {r : Bool} where
+  pub passed : (skip : Option ℕ) (i : ℕ) → i < most_packs → r ≡ not (option_eq eqb skip (Some i)) → r ≡ true → i ≡ unwrap_or skip most_packs → ⊥
+  passed None i h e t z = omega arith
+  passed (Some s) i h e t z = not_both t (e ∙ ap not (eq-eqb s i (sym z)))
+
+  pub skipped : (skip : Option ℕ) (i : ℕ) → r ≡ not (option_eq eqb skip (Some i)) → r ≡ false → i ≡ unwrap_or skip most_packs
+  skipped None i e f = absurd (not_both e f)
+  skipped (Some s) i e f = sym (eqb-true s i (not_false (eqb s i) (sym e ∙ f)))
+    where
+      not_false : (b : Bool) → not b ≡ false → b ≡ true
+      not_false true z = refl
+      not_false false z = absurd (not_both refl z)

@@ -1,5 +1,6 @@
 -- The search over the slots of a board. An entry has the number of its slot times 512, and of its row.
-use Rattle.std.specs.Prelude.{List, [], ◌∷◌, ℕ, zero, suc, ◌+◌, ◌*◌, ◌/◌, ◌%◌, ◌<◌, eqb, ltb, if◌then◌else◌}
+use Rattle.std.specs.Prelude.{List, [], ◌∷◌, ℕ, zero, suc, ◌+◌, ◌*◌, ◌/◌, ◌%◌, ◌<◌, eqb, if◌then◌else◌, Some, None}
+use Rattle.std.specs.Prelude as std
 use Rattle.std.proofs.Math.Option.{Option, some, none}
 use Rattle.definition.specs.Limits.{most_entries}
 use Rattle.definition.specs.Image.{Row, count_of, key_end, value_at}
@@ -18,9 +19,10 @@ best_slots l skip qs i (suc n) b =
     best_slots l skip qs (suc i) n
     (if eqb i skip then b else best_from (keys_of (entries_of_image (slot_at l i).contents (slot_at l i).bodies)) qs (most_entries * i) b)
 
--- the number of the best entry after those of a slot, of which `last` stands for none
-unfoldable pub number_after : ℕ → ℕ → ℕ → ℕ → ℕ
-number_after found slot entry last = if ltb entry last then most_entries * slot + entry else found
+-- the best entry after those of a slot, of which `entry` is the one that wins, or none
+abbrev pub found_after : std.Option ℕ → ℕ → std.Option ℕ → std.Option ℕ
+found_after found slot (Some i) = Some (most_entries * slot + i)
+found_after found slot None = found
 
 -- the packs of n slots from slot i on, but for slot `skip`
 unfoldable pub passing : Lent → ℕ → ℕ → ℕ → List Arrival

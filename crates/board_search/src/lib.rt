@@ -1,140 +1,70 @@
 // A watched query looked for in the packs of a board. Each image was judged with the board, and is not judged again.
 #![tactic(auto)]
 
-ghost use Rattle.std.specs.Prelude.{◌≡◌, true, ◌≤◌, ◌<◌};
+ghost use Rattle.std.specs.Prelude.{◌≡◌, ◌≤◌, ◌<◌, unwrap_or, IfSome};
 ghost use Rattle.definition.specs.Limits.{most_entries, most_packs};
 ghost use Rattle.definition.specs.Ranking.{no_entry};
-ghost use Rattle.definition.specs.Board.{query_number, lent, pack_count, query_count, board_in, is_board};
-ghost use Rattle.query.specs.Splits.{Inside};
-ghost use Rattle.positions.specs.Parts.{queried};
-ghost use Rattle.lookup.specs.Searches.{starts_of, lengths_of, SplitIn, numbered};
-ghost use Rattle.board_search.specs.Slots.{best_slots, number_after, spot_of};
+ghost use Rattle.definition.specs.Board.{query_number, pack_count, query_count, board_in};
+ghost use Rattle.board_layout.specs.Laid.{lent_of};
+ghost use Rattle.positions.specs.Parts.{positions_in};
+ghost use Rattle.lookup.specs.Searches.{numbered};
+ghost use Rattle.board_search.specs.Slots.{best_slots, found_after, spot_of};
 ghost use Rattle.board_search.specs.Spots.{spot_replied};
 
-use board_layout::{query_class, query_name, slot_bodies, slot_contents};
-use limits::MOST_ENTRIES;
+use board_judge::Board;
+use board_layout::Watched;
+use limits::{MOST_ENTRIES, QUERY_BYTES, QUERY_PARTS};
 use lookup::search;
-use query::{Shape, Split, both, parse_query};
+use marks::no_row;
+use query::{Names, parse_both};
 
-// An entry of a board, by the number of its slot times 512 and of its row; or none.
-#[derive(Drop)]
-pub enum Spot {
-    At(usize),
-    Nothing,
+// An entry of a board is told by one number, that of its slot times 512 and of its row: a pair would be no plainer, since the definition's ranking,
+// to which all contracts tie it, numbers entries.
+
+// The best entry after those of slot `slot`: `entry`, if one of these wins.
+fn number_of(found: Option<usize>, slot: usize, entry: Option<usize>) -> Option<usize>
+    requires { (slot < most_packs) × IfSome entry (λ i. i < most_entries) }
+    ensures { result ≡ found_after found slot entry }
+{
+    match entry {
+        Some(i) => Some(MOST_ENTRIES * slot + i),
+        None => found,
+    }
 }
 
-// The number of the best entry after those of slot `slot`, where `entry` is `last` if none of these wins.
-fn number_of(found: usize, slot: usize, entry: usize, last: usize) -> usize
-    requires { (slot < most_packs) × (last ≤ most_entries) }
-    ensures { result ≡ number_after found slot entry last }
+// The entries of the packs in their order, but for the pack in slot `skip` (none: of all), one best row for all: the one that beats the rest.
+fn search_board(board: Board<'_>, skip: Option<usize>, name: &Names, class: &Names) -> Option<usize>
+    ensures { spot_replied result ≡ numbered (best_slots (lent_of board.entry.buffers) (unwrap_or skip most_packs) (positions_in name.now class.now) 0 (pack_count (lent_of board.entry.buffers)) no_entry) }
 {
-    if entry < last {
-        return MOST_ENTRIES * slot + entry;
+    let count = board.buffers.pack_count();
+    let mut held = no_row();
+    let mut found = None;
+    for i in 0..count {
+        if skip != Some(i) {
+            let image = board.image(i);
+            let last = image.count();
+            let entry = search(&image, name, class, 0, last, false, &mut held);
+            found = number_of(found, i, entry);
+        }
     }
     found
 }
 
-// The entries of the packs in their order, but for the pack in slot `skip`, one best row for all: the one that beats the rest, by the number of its
-// slot times 512 and of its row.
-fn search_board(
-    words: &[u16],
-    bytes: &[u8],
-    skip: usize,
-    name: &[u8],
-    starts: &[u16],
-    lengths: &[u16],
-    class: &[u8],
-    class_starts: &[u16],
-    class_lengths: &[u16],
-) -> Spot
-    requires { (is_board (lent words.now bytes.now) ≡ true) × Inside name.now starts.now lengths.now × Inside class.now class_starts.now class_lengths.now }
-    ensures { spot_replied result ≡ numbered (best_slots (lent words.now bytes.now) skip (queried name.now starts.now lengths.now class.now class_starts.now class_lengths.now) 0 (pack_count (lent words.now bytes.now)) no_entry) }
+// The entry that watched query `q` finds in the packs, but for the pack in slot `skip` (none: in all).
+pub fn find(board: Board<'_>, q: usize, skip: Option<usize>) -> Option<usize>
+    requires { q < query_count (lent_of board.buffers) }
+    ensures { spot_replied result ≡ spot_of (lent_of board.entry.buffers) (unwrap_or skip most_packs) (query_number (board_in (lent_of board.entry.buffers)).queries q) }
 {
-    let count = words[0] as usize;
-    let mut held = [0; 3];
-    let mut found: usize = 0;
-    let mut i: usize = 0;
-    while i < count {
-        if i != skip {
-            let contents = slot_contents(words, i);
-            let last = contents[0] as usize;
-            let entry = search(
-                contents,
-                slot_bodies(bytes, i),
-                name,
-                starts,
-                lengths,
-                class,
-                class_starts,
-                class_lengths,
-                0,
-                last,
-                false,
-                &mut held,
-            );
-            found = number_of(found, i, entry, last);
+    let Watched { name, class } = board.buffers.query_at(q);
+    match parse_both::<QUERY_BYTES, QUERY_PARTS>(name, class) {
+        Ok(Some((names, classes))) => {
+            let name = names.names(name);
+            let class = classes.names(class);
+            search_board(board, skip, &name, &class)
         }
-        i += 1;
-    }
-    // Where no entry aligns no row is held.
-    if 0 < held[2] {
-        return Spot::At(found);
-    }
-    Spot::Nothing
-}
-
-// The same for a split query, whose parts are held by value.
-fn search_split(
-    words: &[u16],
-    bytes: &[u8],
-    skip: usize,
-    name: &[u8],
-    names: Split,
-    class: &[u8],
-    classes: Split,
-) -> Spot
-    requires { (is_board (lent words.now bytes.now) ≡ true) × SplitIn name.now names × SplitIn class.now classes }
-    ensures { spot_replied result ≡ numbered (best_slots (lent words.now bytes.now) skip (queried name.now (starts_of names) (lengths_of names) class.now (starts_of classes) (lengths_of classes)) 0 (pack_count (lent words.now bytes.now)) no_entry) }
-{
-    let i = names.count;
-    let j = classes.count;
-    let starts = names.starts;
-    let lengths = names.lengths;
-    let class_starts = classes.starts;
-    let class_lengths = classes.lengths;
-    search_board(
-        words,
-        bytes,
-        skip,
-        name,
-        &starts[..i],
-        &lengths[..i],
-        class,
-        &class_starts[..j],
-        &class_lengths[..j],
-    )
-}
-
-// The entry that watched query `q` finds in the packs, but for the pack in slot `skip`.
-pub fn find(words: &[u16], bytes: &[u8], q: usize, skip: usize) -> Spot
-    requires { (is_board (lent words.now bytes.now) ≡ true) × (q < query_count (lent words.now bytes.now)) }
-    ensures { spot_replied result ≡ spot_of (lent words.now bytes.now) skip (query_number (board_in (lent words.now bytes.now)).queries q) }
-{
-    let name = query_name(words, bytes, q);
-    let class = query_class(words, bytes, q);
-    let instances = parse_query(name);
-    let classes = parse_query(class);
-    let a = instances.shape;
-    let b = classes.shape;
-    let shape = both(a, b);
-    match shape {
-        Shape::Long => Spot::Nothing,
-        Shape::Malformed => Spot::Nothing,
-        Shape::Many => Spot::Nothing,
-        Shape::Good => {
-            let n = instances.split;
-            let c = classes.split;
-            search_split(words, bytes, skip, name, n, class, c)
-        }
+        // A malformed query finds nothing.
+        Ok(None) => None,
+        // None past a limit is watched.
+        Err(_) => None,
     }
 }

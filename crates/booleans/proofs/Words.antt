@@ -1,68 +1,60 @@
 -- How the code reads a word. Assumes nothing.
-use mathlib.Core.Bool.{Bool, true, false, ◌&&◌, ◌||◌, not}
+use mathlib.Core.Bool.{Bool, true, false, ◌||◌, not}
 use mathlib.Core.List.{List, [], ◌∷◌, map}
 use mathlib.Core.Option.{some}
 use mathlib.Core.Path.{◌≡◌, refl, sym, ap, ◌∙◌}
-use Prim.Native.Nat.{ℕ, suc, ◌+◌, ◌≤◌, ◌<◌}
-use native.Mathlib.Numerals.{add-one}
+use Prim.Native.Nat.{ℕ, suc}
 use native.Mathlib.Omega.{arith}
 use lib.Dec.{eqb}
 use lib.IntN.{ℤ, pos, negsuc, nat_abs}
-use lib.ListN.{length, get_or, drop, drop_of_length-le}
-use lib.Seq.{drop-cons}
-use borrow.Author.Tests.{eq-eqb, ne_eqb}
+use borrow.Author.Tests.{ne_eqb}
 use mir.Syntax.{w64}
 use mir.Val.{SFits, to_z, of_z}
 use mir.Facts.{to_z-of_z}
+use Rattle.std.specs.Prelude.{◌↔◌, IsTrue, Some, None}
+use Rattle.std.specs.Char.{to_ascii_lowercase}
+use mathlib.Core.Logic.{inl, inr}
+use Rattle.std.proofs.lemmas.Str.Ascii.{lowercase_is}
+use Rattle.std.proofs.lemmas.Bool.{cases_lt, false≢true}
+use Rattle.std.proofs.lemmas.Bool.Decides.{eqb_tells}
+use mathlib.Core.Logic.{◌⊎◌}
+use Rattle.std.specs.Prelude.{◌≢◌}
 use Rattle.definition.specs.Lists.{ascii, any, or_else, same}
 use Rattle.definition.specs.Value.{lowercase, word_of, non_zero, i64_of, to_bool}
-use Rattle.laws.proofs.Lists.{in_range, below_range, above_range}
+use Rattle.laws.proofs.Lists.{in_range, below_range, above_range, same_eq, same_refl}
 use Rattle.integers.specs.Readings.{number_in}
 use Rattle.booleans.specs.Readings.{boolean_in}
-use Rattle.integers.specs.declared.Number.TheVariants.{Is, NotANumber}
-use Rattle.booleans.specs.declared.Boolean.TheVariants.{True, False, Neither}
 
 -- ---- A byte's case
 
-module _ (c : ℕ) where
-  pub lower_upper : 65 ≤ c → c ≤ 90 → c + 32 ≡ lowercase c
-  unfolding lowercase
-  lower_upper h k = rw (in_range 65 90 c h k) refl
+-- std's word for it and the definition's
+lower_is : (c : ℕ) → to_ascii_lowercase c ≡ lowercase c
+unfolding lowercase
+lower_is c = elim (cases_lt c 65) [
+  | inl h ↦ (lowercase_is c).1 h ∙ sym (rw (below_range 65 90 c h) refl)
+  | inr h ↦ elim (cases_lt 90 c) [
+    | inl k ↦ (lowercase_is c).2 k ∙ sym (rw (above_range 65 90 c k) refl)
+    | inr k ↦ (lowercase_is c).0 (h, k) ∙ sym (rw (in_range 65 90 c h k) refl)
+  ]
+]
 
-  pub lower_below : c < 65 → c ≡ lowercase c
-  unfolding lowercase
-  lower_below h = rw (below_range 65 90 c h) refl
-
-  pub lower_above : 90 < c → c ≡ lowercase c
-  unfolding lowercase
-  lower_above h = rw (above_range 65 90 c h) refl
+lowers_are : (t : List ℕ) → map to_ascii_lowercase t ≡ map lowercase t
+lowers_are [] = refl
+lowers_are (c ∷ t) = rw (lower_is c, lowers_are t) refl
 
 -- ---- A text and a word
 
-pub same_length : (t w : List ℕ) → (length t ≡ length w → ⊥) → same (map lowercase t) w ≡ false
-unfolding same
-same_length [] [] h = absurd (h refl)
-same_length [] (y ∷ w) h = refl
-same_length (c ∷ t) [] h = refl
-same_length (c ∷ t) (y ∷ w) h = at (eqb (lowercase c) y) (same_length t w (λ e. h (ap suc e)))
+same_of : (s u : List ℕ) → s ≡ u → same s u ≡ true
+same_of s u e = rw e (same_refl u)
+
+pub same_words : (t w : List ℕ) (r : Bool) → IsTrue r ↔ (map to_ascii_lowercase t ≡ map to_ascii_lowercase w) → r ≡ same (map lowercase t) (map lowercase w)
+same_words t w r e = at r (same (map lowercase t) (map lowercase w)) refl (rw (lowers_are t, lowers_are w) at e)
   where
-    at : (b : Bool) → same (map lowercase t) w ≡ false → (b && same (map lowercase t) w) ≡ false
-    at true ih = ih
-    at false ih = refl
-
-module _ (t w : List ℕ) (i : ℕ) (h : i < length t) (k : i < length w) where
-  pub word_more : lowercase (get_or t i 0) ≡ get_or w i 0
-      → same (map lowercase (drop i t)) (drop i w) ≡ same (map lowercase (drop (i + 1) t)) (drop (i + 1) w)
-  unfolding same
-  word_more e = rw (add-one i, drop-cons t i 0 h, drop-cons w i 0 k, eq-eqb (lowercase (get_or t i 0)) (get_or w i 0) e) refl
-
-  pub word_stop : (lowercase (get_or t i 0) ≡ get_or w i 0 → ⊥) → same (map lowercase (drop i t)) (drop i w) ≡ false
-  unfolding same
-  word_stop e = rw (drop-cons t i 0 h, drop-cons w i 0 k, ne_eqb (lowercase (get_or t i 0)) (get_or w i 0) e) refl
-
-pub word_end : (t w : List ℕ) (i : ℕ) → length t ≤ i → length t ≡ length w → same (map lowercase (drop i t)) (drop i w) ≡ true
-unfolding same
-word_end t w i h e = let k : length w ≤ i = omega arith in rw (drop_of_length-le t h, drop_of_length-le w k) refl
+    at : (r b : Bool) → same (map lowercase t) (map lowercase w) ≡ b → IsTrue r ↔ (map lowercase t ≡ map lowercase w) → r ≡ b
+    at true true k e = refl
+    at true false k e = sym (same_of (map lowercase t) (map lowercase w) (e.0 refl)) ∙ k
+    at false true k e = absurd (false≢true (e.1 (same_eq (map lowercase t) (map lowercase w) k)))
+    at false false k e = refl
 
 -- ---- One of three
 
@@ -86,41 +78,49 @@ module _ (p : List ℕ → Bool) (a b c : List ℕ) where
 -- ---- What a word says
 
 module _ (t : List ℕ) where
+  -- the words are lowercase
+  lowers : (a b c : List ℕ) → map lowercase a ≡ a → map lowercase b ≡ b → map lowercase c ≡ c
+      → any (λ w. same t (map lowercase w)) (a ∷ b ∷ c ∷ []) ≡ any (same t) (a ∷ b ∷ c ∷ [])
+  unfolding any
+  lowers a b c p q r = rw (p, q, r) refl
+
+  yes_is : any (λ w. same t (map lowercase w)) (ascii "true" ∷ ascii "on" ∷ ascii "yes" ∷ []) ≡ any (same t) (ascii "true" ∷ ascii "on" ∷ ascii "yes" ∷ [])
+  yes_is = lowers (ascii "true") (ascii "on") (ascii "yes") (sym (lowers_are (ascii "true"))) (sym (lowers_are (ascii "on"))) (sym (lowers_are (ascii "yes")))
+
+  no_is : any (λ w. same t (map lowercase w)) (ascii "false" ∷ ascii "off" ∷ ascii "no" ∷ []) ≡ any (same t) (ascii "false" ∷ ascii "off" ∷ ascii "no" ∷ [])
+  no_is = lowers (ascii "false") (ascii "off") (ascii "no") (sym (lowers_are (ascii "false"))) (sym (lowers_are (ascii "off"))) (sym (lowers_are (ascii "no")))
+
   abbrev yes : Bool
-  yes = any (same t) (ascii "true" ∷ ascii "on" ∷ ascii "yes" ∷ [])
+  yes = any (λ w. same t (map lowercase w)) (ascii "true" ∷ ascii "on" ∷ ascii "yes" ∷ [])
 
   abbrev no : Bool
-  no = any (same t) (ascii "false" ∷ ascii "off" ∷ ascii "no" ∷ [])
+  no = any (λ w. same t (map lowercase w)) (ascii "false" ∷ ascii "off" ∷ ascii "no" ∷ [])
 
-  pub word_yes : yes ≡ true → boolean_in True ≡ word_of t
+  pub word_yes : yes ≡ true → boolean_in (Some true) ≡ word_of t
   unfolding boolean_in word_of
-  word_yes e = rw e refl
+  word_yes e = rw (sym yes_is ∙ e) refl
 
-  pub word_no : yes ≡ false → no ≡ true → boolean_in False ≡ word_of t
+  pub word_no : yes ≡ false → no ≡ true → boolean_in (Some false) ≡ word_of t
   unfolding boolean_in word_of
-  word_no e f = rw (e, f) refl
+  word_no e f = rw (sym yes_is ∙ e, sym no_is ∙ f) refl
 
-  pub word_neither : yes ≡ false → no ≡ false → boolean_in Neither ≡ word_of t
+  pub word_neither : yes ≡ false → no ≡ false → boolean_in None ≡ word_of t
   unfolding boolean_in word_of
-  word_neither e f = rw (e, f) refl
+  word_neither e f = rw (sym yes_is ∙ e, sym no_is ∙ f) refl
 
 -- ---- A number first
 
 module _ (t : List ℕ) where
-  pub truth_word : number_in NotANumber ≡ i64_of t → word_of (map lowercase t) ≡ to_bool t
+  pub truth_word : number_in None ≡ i64_of t → word_of (map lowercase t) ≡ to_bool t
   unfolding number_in to_bool non_zero or_else
   truth_word e = rw (← e) refl
 
   -- the code compares a number's bits
-  module _ (z : ℤ) (e : number_in (Is z) ≡ i64_of t) where
-    pub truth_zero : SFits w64 z → of_z w64 z ≡ 0 → boolean_in False ≡ to_bool t
-    unfolding number_in boolean_in to_bool non_zero or_else
-    truth_zero f k = let zero_is : z ≡ pos 0 = sym (to_z-of_z f) ∙ ap (to_z w64) k in rw (← e, zero_is) refl
-
-    pub truth_other : (of_z w64 z ≡ 0 → ⊥) → boolean_in True ≡ to_bool t
-    unfolding number_in boolean_in to_bool non_zero or_else
-    truth_other k = rw (← e) (at z k)
-      where
-        at : (z : ℤ) → (of_z w64 z ≡ 0 → ⊥) → some true ≡ some (not (eqb (nat_abs z) 0))
-        at (pos n) k = rw (ne_eqb n 0 k) refl
-        at (negsuc n) k = rw (ne_eqb (suc n) 0 (λ e. omega arith)) refl
+  pub truth_number : (z : ℤ) → SFits w64 z → number_in (Some z) ≡ i64_of t → boolean_in (Some (not (eqb (of_z w64 z) 0))) ≡ to_bool t
+  unfolding number_in boolean_in to_bool non_zero or_else
+  truth_number z f e = rw (← e) (ap (λ b. some (not b)) (at z f (eqb_tells (of_z w64 z) 0)))
+    where
+      at : (z : ℤ) → SFits w64 z → ((eqb (of_z w64 z) 0 ≡ true) × (of_z w64 z ≡ 0)) ⊎ ((eqb (of_z w64 z) 0 ≡ false) × (of_z w64 z ≢ 0)) → eqb (of_z w64 z) 0 ≡ eqb (nat_abs z) 0
+      at z f (inl h) = let zero_is : z ≡ pos 0 = sym (to_z-of_z f) ∙ ap (to_z w64) h.1 in rw zero_is refl
+      at (pos n) f (inr h) = refl
+      at (negsuc n) f (inr h) = h.0 ∙ sym (ne_eqb (suc n) 0 (λ e. omega arith))

@@ -6,75 +6,38 @@ ghost use Rattle.definition.specs.Lists.{any, same};
 ghost use Rattle.definition.specs.Value.{lowercase, word_of, to_bool};
 ghost use Rattle.booleans.specs.Readings.{boolean_in};
 
-use integers::{Number, parse_i64};
-
-// The word or the number that a value is: true, false, or neither.
-#[derive(Drop)]
-pub enum Boolean {
-    True,
-    False,
-    Neither,
-}
-
-fn to_ascii_lowercase(c: u8) -> u8
-    ensures { result ≡ lowercase c }
-{
-    match c {
-        b'A'..=b'Z' => c + 32,
-        _ => c,
-    }
-}
+use integers::parse_i64;
 
 // Is `text` the word, ignoring ASCII case?
 fn is_word(text: &[u8], word: &[u8]) -> bool
-    ensures { result ≡ same (map lowercase text.now) word.now }
+    ensures { result ≡ same (map lowercase text.now) (map lowercase word.now) }
 {
-    if text.len() != word.len() {
-        return false;
-    }
-    let mut i = 0;
-    while i < text.len() {
-        if to_ascii_lowercase(text[i]) != word[i] {
-            return false;
-        }
-        i += 1;
-    }
-    true
+    text.eq_ignore_ascii_case(word)
 }
 
 fn is_one_of(text: &[u8], a: &[u8], b: &[u8], c: &[u8]) -> bool
-    ensures { result ≡ any (same (map lowercase text.now)) (a.now ∷ b.now ∷ c.now ∷ []) }
+    ensures { result ≡ any (λ w. same (map lowercase text.now) (map lowercase w)) (a.now ∷ b.now ∷ c.now ∷ []) }
 {
-    if is_word(text, a) {
-        return true;
-    }
-    if is_word(text, b) {
-        return true;
-    }
-    is_word(text, c)
+    is_word(text, a) || is_word(text, b) || is_word(text, c)
 }
 
-fn word_to_bool(text: &[u8]) -> Boolean
+fn word_to_bool(text: &[u8]) -> Option<bool>
     ensures { boolean_in result ≡ word_of (map lowercase text.now) }
 {
     if is_one_of(text, b"true", b"on", b"yes") {
-        return Boolean::True;
+        return Some(true);
     }
     if is_one_of(text, b"false", b"off", b"no") {
-        return Boolean::False;
+        return Some(false);
     }
-    Boolean::Neither
+    None
 }
 
-pub fn to_bool(text: &[u8]) -> Boolean
+pub fn to_bool(text: &[u8]) -> Option<bool>
     ensures { boolean_in result ≡ to_bool text.now }
 {
-    let number = parse_i64(text);
-    let Number::Is(z) = number else {
-        return word_to_bool(text);
-    };
-    if z == 0 {
-        return Boolean::False;
+    match parse_i64(text) {
+        Some(number) => Some(number != 0),
+        None => word_to_bool(text),
     }
-    Boolean::True
 }

@@ -266,37 +266,50 @@ const BYTE_CLASSES: [u8; 256] = [
     0, // 0xff
 ];
 
-// The table.
+// The table, by value.
 pub fn byte_classes() -> [u8; 256]
     ensures { result ≡ byte_classes }
 {
     BYTE_CLASSES
 }
 
-pub fn allowed_in_quark_name(classes: &[u8; 256], c: u8) -> bool
-    requires { classes.now ≡ byte_classes }
-    ensures { result ≡ is_name c }
-{
-    classes[c as usize] % 2 == 1
+// The table of bytes: made once for a reading, and lent to all that judge its bytes.
+#[derive(Drop)]
+pub struct Classes {
+    table: [u8; 256],
+    ghost is_table: { table ≡ byte_classes },
 }
 
-pub fn is_octal_digit(classes: &[u8; 256], c: u8) -> bool
-    requires { classes.now ≡ byte_classes }
-    ensures { result ≡ is_octal c }
-{
-    classes[c as usize] / 2 % 2 == 1
-}
+impl Classes {
+    pub fn new() -> Classes
+        ensures { result.table ≡ byte_classes }
+    {
+        Classes {
+            table: byte_classes(),
+        }
+    }
 
-pub fn is_blank(classes: &[u8; 256], c: u8) -> bool
-    requires { classes.now ≡ byte_classes }
-    ensures { result ≡ is_blank c }
-{
-    classes[c as usize] / 4 % 2 == 1
-}
+    pub fn allowed_in_quark_name(&self, c: u8) -> bool
+        ensures { result ≡ is_name c }
+    {
+        self.table[c as usize] % 2 == 1
+    }
 
-pub fn is_binding(classes: &[u8; 256], c: u8) -> bool
-    requires { classes.now ≡ byte_classes }
-    ensures { result ≡ is_binding c }
-{
-    classes[c as usize] / 8 % 2 == 1
+    pub fn is_octal_digit(&self, c: u8) -> bool
+        ensures { result ≡ is_octal c }
+    {
+        self.table[c as usize] / 2 % 2 == 1
+    }
+
+    pub fn is_blank(&self, c: u8) -> bool
+        ensures { result ≡ is_blank c }
+    {
+        self.table[c as usize] / 4 % 2 == 1
+    }
+
+    pub fn is_binding(&self, c: u8) -> bool
+        ensures { result ≡ is_binding c }
+    {
+        self.table[c as usize] / 8 % 2 == 1
+    }
 }

@@ -1,5 +1,5 @@
 -- Answers as numbers of 64 bits: a status in the low 16 bits, 0 or document 01's number or one of two more, and what goes with 0 above it.
-use Rattle.std.specs.Prelude.{Bool, true, false, ℕ, ◌+◌, ◌*◌, ◌≤◌, ◌<◌, ℤ}
+use Rattle.std.specs.Prelude.{Bool, true, false, ℕ, ◌+◌, ◌*◌, ◌≤◌, ◌<◌, ℤ, Option, Some, None, Result, Ok, Err}
 use Rattle.definition.specs.Limits.{body_bytes, most_entries, most_opens, written_bytes}
 use Rattle.definition.specs.Reading.{Answer, accepted, refused}
 use Rattle.definition.specs.Lookup.{Reply, given, no_value, refused as refused_by, Place}
@@ -7,18 +7,11 @@ use Rattle.definition.specs.Value.{Number, number, not_a_number}
 use Rattle.definition.specs.Walking.{Walk, after_step}
 use Rattle.definition.specs.Writing.{Extent, written, refused as refusedText}
 use Rattle.comparison.specs.Answering.{Comparison, both, no_file, refused_by as refusedAs}
-use Rattle.comparison.specs.declared.Compared.{Compared}
-use Rattle.comparison.specs.declared.Compared.TheVariants.{Both, NoFile, Refused}
-use Rattle.lookup.specs.declared.Lookup.{Lookup}
+use Rattle.comparison.specs.declared.Both.{Both}
 use Rattle.lookup.specs.Replies.{LiesIn}
-use Rattle.reader.specs.declared.Answer as reader
-use Rattle.reader.specs.declared.Answer.TheVariants as reader-answer
-use Rattle.walk.specs.declared.Stepped.{Stepped}
-use Rattle.walk.specs.declared.Stepped.TheVariants as walk_step
-use Rattle.writer.specs.declared.Written.{Written}
-use Rattle.writer.specs.declared.Written.TheVariants as writer-answer
-use Rattle.adding.specs.declared.Added.{Added}
-use Rattle.adding.specs.declared.Added.TheVariants as adding-answer
+use Rattle.lookup.specs.declared.Place as code
+use Rattle.reader.specs.declared.Accepted.{Accepted}
+use Rattle.refusal.specs.declared.Refusal.{Refusal}
 
 -- the parts of an answer above its status, from bit 16 on and from bit 32 on
 abbrev pub from16 : ℕ
@@ -42,9 +35,9 @@ read_code (accepted entries opens) = from16 * entries + from32 * opens
 read_code (refused k) = k
 
 -- within the limits of an accepted reading, so that its code fits
-abbrev pub Few : reader.Answer → Type 0
-Few (reader-answer.Accepted entries opens) = (entries ≤ most_entries) × (opens ≤ most_opens)
-Few (reader-answer.Refused k) = Unit {0}
+abbrev pub Few : Result Accepted Refusal → Type 0
+Few (Ok a) = (a.entries ≤ most_entries) × (a.opens ≤ most_opens)
+Few (Err k) = Unit {0}
 
 -- ---- Lookups
 
@@ -55,7 +48,7 @@ place_code no_value = none_code
 place_code (refused_by k) = k
 
 -- a place in an image's bodies, so that its code fits
-abbrev pub Small : Lookup → Type 0
+abbrev pub Small : Result (Option code.Place) Refusal → Type 0
 Small found = LiesIn found body_bytes
 
 -- 65536 for true and 0 for false
@@ -115,10 +108,10 @@ abbrev pub step_numbers : Reply ℕ → Walk → Stepping
 step_numbers r w = stepping (step_code r) (after_step w r).next
 
 -- the number of an image's entry, so that its code and the next number fit
-abbrev pub Numbered : Stepped → Type 0
-Numbered (walk_step.Listed i) = i < most_entries
-Numbered walk_step.End = Unit {0}
-Numbered (walk_step.Refused k) = Unit {0}
+abbrev pub Numbered : Result (Option ℕ) Refusal → Type 0
+Numbered (Ok (Some i)) = i < most_entries
+Numbered (Ok None) = Unit {0}
+Numbered (Err k) = Unit {0}
 
 -- ---- Comparisons
 
@@ -138,10 +131,10 @@ comparison_numbers no_file w o = numbers none_code w o
 comparison_numbers (refusedAs k) w o = numbers k w o
 
 -- both places are in an image's bodies
-abbrev pub SmallBoth : Compared → Type 0
-SmallBoth (Both a b second) = Small a × Small b
-SmallBoth NoFile = Unit {0}
-SmallBoth (Refused k) = Unit {0}
+abbrev pub SmallBoth : Result (Option Both) Refusal → Type 0
+SmallBoth (Ok (Some b)) = Small (Ok b.with_it) × Small b.without
+SmallBoth (Ok None) = Unit {0}
+SmallBoth (Err k) = Unit {0}
 
 -- ---- Texts
 
@@ -151,9 +144,9 @@ write_code (written n) = from32 * n
 write_code (refusedText k) = k
 
 -- no longer than an image's text may be, so that its code fits
-abbrev pub Bounded : Written → Type 0
-Bounded (writer-answer.Done n) = n ≤ written_bytes
-Bounded (writer-answer.Refused k) = Unit {0}
+abbrev pub Bounded : Result ℕ Refusal → Type 0
+Bounded (Ok n) = n ≤ written_bytes
+Bounded (Err k) = Unit {0}
 
 -- ---- Additions
 
@@ -164,6 +157,6 @@ add_code no_value = none_code
 add_code (refused_by k) = k
 
 -- a number that an image has room for, so that its code fits
-abbrev pub Addable : Added → Type 0
-Addable (adding-answer.Number i) = i ≤ most_entries
-Addable (adding-answer.Refused k) = Unit {0}
+abbrev pub Addable : Result ℕ Refusal → Type 0
+Addable (Ok i) = i ≤ most_entries
+Addable (Err k) = Unit {0}

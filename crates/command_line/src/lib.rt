@@ -1,20 +1,20 @@
 // The arguments of the process, and the plan that they make.
 #![tactic(auto)]
 
-ghost use Rattle.io.specs.Counts.{IsPrefixLen};
+ghost use Rattle.std.specs.Prelude.{◌≤◌, length};
 
 use arguments::with_argument;
-use plans::{Plan, nothing_asked, settled};
+use plans::{Plan, settled};
 use std::env::{Env, FillError};
 
-// Puts an argument at the start of `buffer`; of one that is longer, its first bytes.
-pub fn argument(rt: &HostRuntime, i: usize, buffer: &mut [u8]) -> usize
-    ensures { IsPrefixLen result buffer.new }
+// An argument, in `buffer`; of one that is longer, its first bytes.
+pub fn argument<'a>(rt: &HostRuntime, i: usize, buffer: &'a mut [u8]) -> &'a [u8]
+    ensures { length result.now ≤ length buffer.old }
 {
     match rt.arg(i, buffer) {
-        Ok(n) => n,
-        Err(FillError::TooLong) => buffer.len(),
-        Err(FillError::NotPresent) => 0,
+        Ok(n) => &buffer[..n],
+        Err(FillError::TooLong) => buffer,
+        Err(FillError::NotPresent) => &buffer[..0],
     }
 }
 
@@ -32,13 +32,12 @@ pub fn argument_count(rt: &HostRuntime) -> usize {
 // The plan with argument `i` of the process.
 pub fn next_argument(rt: &HostRuntime, plan: Plan, i: usize) -> Plan {
     let mut buffer = io::buffer();
-    let n = argument(rt, i, &mut buffer);
-    with_argument(plan, &buffer[..n], i)
+    with_argument(plan, argument(rt, i, &mut buffer), i)
 }
 
 // What all arguments of the process ask for.
 pub fn read_arguments(rt: &HostRuntime) -> Plan {
-    let mut plan = nothing_asked();
+    let mut plan = Plan::default();
     for i in 1..argument_count(rt) {
         plan = next_argument(rt, plan, i);
     }

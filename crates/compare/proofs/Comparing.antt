@@ -1,5 +1,5 @@
 -- What the comparing call leaves, case by case, and the third term of it. Assumes nothing.
-use Rattle.std.specs.Prelude.{if◌then◌else◌}
+use Rattle.std.specs.Prelude.{if◌then◌else◌, Option, Result, Ok, Err}
 use mathlib.Core.Bool.{Bool, true, false}
 use mathlib.Core.List.{List}
 use mathlib.Core.Path.{◌≡◌, refl, sym, ap, ◌∙◌}
@@ -18,16 +18,14 @@ use Rattle.laws.proofs.Lists.{not_both}
 use Rattle.laws.proofs.Reading.{accepted_reads}
 use Rattle.laws.proofs.ThirdTerm.{third_term}
 use Rattle.reader.specs.Said.{said}
-use Rattle.reader.specs.declared.Answer as reader
+use Rattle.refusal.specs.Numbers.{number}
+use Rattle.refusal.specs.declared.Refusal.{Refusal}
+use Rattle.reader.specs.declared.Accepted.{Accepted}
 use Rattle.reader_without.specs.Second.{SecondOf}
-use Rattle.comparison.specs.declared.Compared.{Compared}
+use Rattle.comparison.specs.declared.Both.{Both}
 use Rattle.comparison.specs.Answering.{Comparison, both, no_file, refused_by, answering, compared}
-use Rattle.comparison.proofs.Both.{answering_both, answers_both}
+use Rattle.comparison.proofs.Answered.{answering_both, answers_both}
 use Rattle.compare.specs.Comparing.{Left, no_room, only_first, both_read, after_first, comparing, Promise, leaving}
-
--- a reading's answer, once it is told
-pub read_is : (r s : reader.Answer) (c b : List ℕ) (o : Outcome) → outcome (said r) c b ≡ o → r ≡ s → outcome (said s) c b ≡ o
-read_is r s c b o e f = rw f at e
 
 -- an archive that was read with is laid out
 pub read_laid_out : (depth : ℕ) (texts : List (List ℕ)) (archive contents bodies c b : List ℕ) (n o : ℕ) → outcome (accepted n o) c b ≡ reading depth texts archive contents bodies → laid_out archive ≡ true
@@ -73,7 +71,7 @@ module _ (c : Case) (struck : List ℕ) where
           rw (ap (λ (x : Outcome). x.contents) e, ap (λ (x : Outcome). x.bodies) e, ← first_done, ← ap (λ (x : Outcome). x.answer) e, le-ltb c.file (length (files_of c.archive)) h) refl
 
       pub both_left : c.file < length (files_of c.archive)
-          → (r : Compared) (second : reader.Answer) (s₂ c₂ b₂ : List ℕ)
+          → (r : Result (Option Both) Refusal) (second : Result Accepted Refusal) (s₂ c₂ b₂ : List ℕ)
           → SecondOf second c.depth c.texts c.archive c.file struck c.contents' c.bodies' s₂ c₂ b₂
           → compared r ≡ answering (get_bytes_within c.bounds c₁ b₁ c.name c.class) (get_bytes_within c.bounds c₂ b₂ c.name c.class) (said second)
           → leaving r s₂ c₁ b₁ c₂ b₂ ≡ comparing c struck

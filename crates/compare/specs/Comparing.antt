@@ -1,12 +1,13 @@
 -- The comparing call: a query looked up in what is read with a file on the archive (document 01's shelf), and with it struck off.
-use Rattle.std.specs.Prelude.{List, ◌≡◌, ℕ, ◌≤◌, ltb, length, if◌then◌else◌}
+use Rattle.std.specs.Prelude.{List, ◌≡◌, ℕ, ◌≤◌, ltb, length, if◌then◌else◌, Option, Result}
 use Rattle.std.proofs.Math.Seq.{paste}
 use Rattle.definition.specs.Archive.{files_of, struck_off}
 use Rattle.definition.specs.Image.{too_short}
 use Rattle.definition.specs.Reading.{Answer, accepted, refused}
 use Rattle.definition.specs.Query.{shell}
 use Rattle.definition.specs.ThirdTerm.{Case, with_file, without_file, lookup, Given, ThirdTerm}
-use Rattle.comparison.specs.declared.Compared.{Compared}
+use Rattle.refusal.specs.declared.Refusal.{Refusal}
+use Rattle.comparison.specs.declared.Both.{Both}
 use Rattle.comparison.specs.Answering.{Comparison, both, no_file, refused_by, answering, compared}
 
 -- the answer, and each lent buffer afterwards
@@ -60,7 +61,7 @@ module _ (c : Case) (struck : List ℕ) where
     pub equals : after ≡ comparing
     pub third_term : Given c → length c.archive ≤ length struck → Term after
 
-abbrev pub leaving : Compared → List ℕ → List ℕ → List ℕ → List ℕ → List ℕ → Left
+abbrev pub leaving : Result (Option Both) Refusal → List ℕ → List ℕ → List ℕ → List ℕ → List ℕ → Left
 leaving r s c b c' b' = record { answer = compared r; struck = s; contents = c; bodies = b; contents' = c'; bodies' = b' }
 
 abbrev pub asked : ℕ → List (List ℕ) → List ℕ → ℕ → List ℕ → List ℕ → List ℕ → List ℕ → List ℕ → List ℕ → Case

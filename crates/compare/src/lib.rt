@@ -4,15 +4,16 @@
 ghost use Rattle.std.specs.Prelude.{map};
 ghost use Rattle.compare.specs.Comparing.{asked, leaving, Promise};
 
-use archive::file_count;
-use comparison::{Compared, look_up_both};
+use archive::Archive;
+use comparison::{Both, look_up_both};
 use limits::{BODY_BYTES, CONTENTS_WORDS};
-use reader::{Answer, read_texts};
+use reader::read_texts;
 use reader_without::read_without;
+use refusal::Refusal;
 
 // Reads the texts with the archive, and again at the same depth with one file struck off (files are counted from 0), and looks the query up
 // in both.
-// `struck` is room for the archive without the file.
+// `struck` is room for the archive without the file. `None`: the archive has no such file.
 pub fn compare_without(
     texts: &[&[u8]],
     archive: &[u8],
@@ -25,43 +26,41 @@ pub fn compare_without(
     bodies: &mut [u8],
     contents_without: &mut [u16],
     bodies_without: &mut [u8],
-) -> Compared
+) -> Result<Option<Both>, Refusal>
     ensures { Promise (asked depth (map (λ x. x.now) texts.now) archive.now file name.now class.now contents.old bodies.old contents_without.old bodies_without.old) struck.old (leaving result struck.new contents.new bodies.new contents_without.new bodies_without.new) }
 {
     if struck.len() < archive.len() {
-        return Compared::Refused(1);
+        return Err(Refusal::ShortBuffers);
     }
     if contents_without.len() < CONTENTS_WORDS {
-        return Compared::Refused(1);
+        return Err(Refusal::ShortBuffers);
     }
     if bodies_without.len() < BODY_BYTES {
-        return Compared::Refused(1);
+        return Err(Refusal::ShortBuffers);
     }
-    let first = read_texts(texts, archive, depth, contents, bodies);
-    match first {
-        Answer::Refused(number) => Compared::Refused(number),
-        Answer::Accepted(_, _) => {
-            if file >= file_count(archive) {
-                return Compared::NoFile;
-            }
-            let second = read_without(
-                texts,
-                archive,
-                depth,
-                file,
-                struck,
-                contents_without,
-                bodies_without,
-            );
-            look_up_both(
-                contents,
-                bodies,
-                contents_without,
-                bodies_without,
-                name,
-                class,
-                second,
-            )
-        }
+    read_texts(texts, archive, depth, contents, bodies)?;
+    // what was read with is an archive
+    let judged = Archive { bytes: archive };
+    if file >= judged.count() {
+        return Ok(None);
     }
+    let second = read_without(
+        texts,
+        judged,
+        depth,
+        file,
+        struck,
+        contents_without,
+        bodies_without,
+    );
+    let both = look_up_both(
+        contents,
+        bodies,
+        contents_without,
+        bodies_without,
+        name,
+        class,
+        second,
+    )?;
+    Ok(Some(both))
 }

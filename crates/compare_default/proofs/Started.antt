@@ -26,7 +26,6 @@ module _ (depth : ℕ) (archive : List ℕ) (file : ℕ) (name class contents bo
     unfolding comparing
     same_left = rw (e archive contents bodies, same_after (reading depth us archive contents bodies).answer) refl
 
-  pub started : (s : StartUp) (t u : List ℕ) → t ≡ or_empty (first_text s.format s.property s.xresources s.xdefaults)
-      → u ≡ or_empty (second_text s.is_set s.xenvironment s.host) → (after : Left)
-      → Promise (over (t ∷ u ∷ [])) struck after → Promise (over (texts_used s)) struck after
-  started s t u e f after p = promised (over (texts_used s)) struck after (p.equals ∙ same_left (t ∷ u ∷ []) (texts_used s) (reads_start s depth t u e f))
+  pub started : (s : StartUp) (texts : List (List ℕ)) → texts ≡ or_empty (first_text s.format s.property s.xresources s.xdefaults) ∷ or_empty (second_text s.is_set s.xenvironment s.host) ∷ []
+      → (after : Left) → Promise (over texts) struck after → Promise (over (texts_used s)) struck after
+  started s texts e after p = promised (over (texts_used s)) struck after (p.equals ∙ same_left texts (texts_used s) (reads_start s depth texts e))

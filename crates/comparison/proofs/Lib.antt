@@ -1,2 +1,2 @@
 -- Laws of the comparing call's answer.
-pub mod Both
+pub mod Answered

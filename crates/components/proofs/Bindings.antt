@@ -41,8 +41,10 @@ module _ {t : List ℕ} {l : Bool} {i : ℕ} (b : Binding-at t l i) where
     len = e;
   }
 
-  pub binding_end : length t ≤ i → Bound t (record { loose = l; len = i })
-  binding_end h = over (passed_end is_binding t b.run h)
+  pub binding_end : length t ≤ i → Bound t (record { loose = l; len = length t })
+  binding_end h =
+      let e : i ≡ length t = omega (arith, b.run) in
+      rw e at (over (passed_end is_binding t b.run h))
 
   module _ (h : i < length t) where
     pub binding_stop : is_binding (get_or t i 0) ≡ false → Bound t (record { loose = l; len = i })

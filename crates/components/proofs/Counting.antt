@@ -2,13 +2,13 @@
 use mathlib.Core.Bool.{Bool, true, false, ◌&&◌, and-true, and_assoc}
 use mathlib.Core.List.{List, [], ◌∷◌}
 use mathlib.Core.Path.{◌≡◌, refl, sym, ap, ◌∙◌}
-use Prim.Native.Nat.{ℕ, ◌+◌, ◌*◌, ◌-◌, ◌≤◌, ◌<◌}
+use Prim.Native.Nat.{ℕ, ◌+◌, ◌*◌, ◌-◌, ◌≤◌}
 use native.Mathlib.Omega.{arith}
 use lib.ListN.{length, length-append}
-use Rattle.definition.specs.Parsing.{Parsed, many}
+use Rattle.definition.specs.Parsing.{nothing, Parsed, many}
 use Rattle.definition.specs.Text.{Part, part_at, is_named, ends_in_name}
 use Rattle.laws.proofs.Lists.{Suffix, suffix_whole, suffix_part, length_part_rest}
-use Rattle.components.specs.Parts.{parts_of, key_first, component_if, part_of, component_text, Parted, is_verbatim, components_at}
+use Rattle.components.specs.Parts.{parts_of, key_first, component_if, part_of, component_text, FirstPart, is_verbatim, components_at}
 use Rattle.components.specs.declared.Next.{Next}
 use Rattle.components.proofs.Turns.{past, parts_over, key_over, parts_turn, key_turn, bytes_length}
 use Rattle.components.proofs.Verbatim.{passes, verbatim_from, verbatim_turn, verbatim_over}
@@ -58,16 +58,16 @@ counting_first t = record {
   size_most = omega arith;
 }
 
-module _ {t u : List ℕ} {count size : ℕ} {named verbatim : Bool} (c : Counting t u count size named verbatim) {r : Next} (p : Parted u r) where
-  pub counting_next : r.start < r.end → (flag : Bool) → flag ≡ (verbatim && passes count r.start)
+module _ {t u : List ℕ} {count size : ℕ} {named verbatim : Bool} (c : Counting t u count size named verbatim) where
+  pub counting_next : {r : Next} → FirstPart u r → (flag : Bool) → flag ≡ (verbatim && passes count r.start)
       → Counting t (past u r) (count + 1) (size + (1 + (r.end - r.start))) r.named flag
   unfolding ends_after part_of
-  counting_next h flag f =
-      let turn = parts_turn p h in
+  counting_next {r} p flag f =
+      let turn = parts_turn p in
       let left = length_part_rest u r.end in
       record {
         count_is = omega (arith, c.count_is, ap (λ (m : Parsed Part). length m.items) turn);
-        size_is = omega (arith, c.size_is, ap length (key_turn p h), length-append (component_text u r) (key_first (past u r)), bytes_length p h);
+        size_is = omega (arith, c.size_is, ap length (key_turn p), length-append (component_text u r) (key_first (past u r)), bytes_length p);
         named_is =
             c.named_is
             ∙ ap (λ (m : Parsed Part). ends_after named m.items) turn
@@ -75,7 +75,7 @@ module _ {t u : List ℕ} {count size : ℕ} {named verbatim : Bool} (c : Counti
             ∙ ap (λ (b : Bool). ends_after b (parts_of (past u r))) (is_named_lem r.named (component_text u r));
         verbatim_is =
             c.verbatim_is
-            ∙ ap (λ (b : Bool). verbatim && b) (verbatim_turn p h count)
+            ∙ ap (λ (b : Bool). verbatim && b) (verbatim_turn p count)
             ∙ sym (and_assoc verbatim (passes count r.start) (verbatim_from (count + 1) (past u r)))
             ∙ ap (λ (b : Bool). b && verbatim_from (count + 1) (past u r)) (sym f);
         rest_is = c.rest_is ∙ ap (λ (m : Parsed Part). m.rest) turn;
@@ -84,13 +84,13 @@ module _ {t u : List ℕ} {count size : ℕ} {named verbatim : Bool} (c : Counti
         size_most = omega (arith, c.size_most, left, p.inside);
       }
 
-  pub counting_done : r.end ≤ r.start → (record { count = count; size = size; named = named; end = length t - length u; verbatim = verbatim }) ≡ components_at t
+  pub counting_done : part_at u ≡ nothing → (record { count = count; size = size; named = named; end = length t - length u; verbatim = verbatim }) ≡ components_at t
   unfolding ends_after components_at
   counting_done h =
-      let over = parts_over p h in
+      let over = parts_over u h in
       let a : length (parts_of t) ≡ count = omega (arith, c.count_is, ap (λ (m : Parsed Part). length m.items) over) in
-      let b : length (key_first t) ≡ size = omega (arith, c.size_is, ap length (key_over p h)) in
+      let b : length (key_first t) ≡ size = omega (arith, c.size_is, ap length (key_over u h)) in
       let d : ends_in_name (parts_of t) ≡ named = c.named_is ∙ ap (λ (m : Parsed Part). ends_after named m.items) over in
       let e : (many part_at t).rest ≡ u = c.rest_is ∙ ap (λ (m : Parsed Part). m.rest) over in
-      let f : is_verbatim t ≡ verbatim = c.verbatim_is ∙ ap (λ (x : Bool). verbatim && x) (verbatim_over p h count) ∙ and-true verbatim in
+      let f : is_verbatim t ≡ verbatim = c.verbatim_is ∙ ap (λ (x : Bool). verbatim && x) (verbatim_over u h count) ∙ and-true verbatim in
       rw (a, b, d, e, f) refl

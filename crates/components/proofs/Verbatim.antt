@@ -11,12 +11,12 @@ use lib.ListN.{length, get_or, take, drop, length-append, take-append-drop, get_
 use lib.Seq.{take-append_seam, drop-drop}
 use borrow.Author.Tests.{ne_eqb, eqb-true, lt-leb}
 use Rattle.definition.specs.Lists.{all, any, take_while, drop_while, is_empty, same}
-use Rattle.definition.specs.Parsing.{Parsed, many}
+use Rattle.definition.specs.Parsing.{nothing, Parsed, many}
 use Rattle.definition.specs.Bytes.{dot, star, is_binding}
 use Rattle.definition.specs.Text.{Part, part_at}
 use Rattle.definition.specs.Image.{binding_byte, key_of}
 use Rattle.laws.proofs.Lists.{not_both, eqb_sym, and_true, and_both, same_refl, same_eq, same_append, take_while_drop_while, all_take_while, drop_run, part_rest}
-use Rattle.components.specs.Parts.{parts_of, key_first, binding_if, component_text, Parted, bound_first, is_verbatim}
+use Rattle.components.specs.Parts.{parts_of, key_first, binding_if, component_text, FirstPart, bound_first, is_verbatim}
 use Rattle.components.specs.declared.Next.{Next}
 use Rattle.components.proofs.Turns.{past, parts_over, parts_turn, key_turn, bytes_length}
 
@@ -98,11 +98,11 @@ stops p (x ∷ xs) h = at (p x) refl h (stops p xs)
     at true e g ih = ih g
     at false e g ih = e
 
-module _ {u : List ℕ} {r : Next} (p : Parted u r) (h : r.start < r.end) where
+module _ {u : List ℕ} {r : Next} (p : FirstPart u r) where
   written_turn : written u ≡ binding_byte (binding_if (any (eqb star) (take_while is_binding u))) ∷ component_text u r ++ written (past u r)
   written_turn =
-      ap (λ (l : List ℕ). l ++ (many part_at u).rest) (key_turn p h)
-      ∙ ap (λ (m : Parsed Part). (binding_byte (binding_if r.loose) ∷ component_text u r ++ key_first (past u r)) ++ m.rest) (parts_turn p h)
+      ap (λ (l : List ℕ). l ++ (many part_at u).rest) (key_turn p)
+      ∙ ap (λ (m : Parsed Part). (binding_byte (binding_if r.loose) ∷ component_text u r ++ key_first (past u r)) ++ m.rest) (parts_turn p)
       ∙ rw p.loose (ap (λ (l : List ℕ). binding_byte (binding_if (any (eqb star) (take_while is_binding u))) ∷ l)
       (append_assoc (component_text u r) (key_first (past u r)) (many part_at (past u r)).rest))
 
@@ -117,7 +117,7 @@ module _ {u : List ℕ} {r : Next} (p : Parted u r) (h : r.start < r.end) where
       ∙ ap (λ (l : List ℕ). component_text u r ++ l) left
 
   component_some : 0 < length (component_text u r)
-  component_some = omega (arith, bytes_length p h)
+  component_some = omega (arith, bytes_length p)
 
   component_first : is_binding (get_or (component_text u r) 0 0) ≡ false
   component_first =
@@ -140,7 +140,7 @@ module _ {u : List ℕ} {r : Next} (p : Parted u r) (h : r.start < r.end) where
   pub first_turn : is_verbatim u ≡ (leb r.start 1 && same (written (past u r)) (past u r))
   unfolding is_verbatim is_empty
   first_turn =
-      ap (λ (m : Parsed Part). is_empty m.items || same (written u) (bound_first u)) (parts_turn p h)
+      ap (λ (m : Parsed Part). is_empty m.items || same (written u) (bound_first u)) (parts_turn p)
       ∙ ap (λ (l : List ℕ). same l (bound_first u)) written_turn
       ∙ first_step u (component_text u r) (written (past u r)) (past u r) after_bindings component_some component_first
       ∙ ap (λ (n : ℕ). leb n 1 && same (written (past u r)) (past u r)) (sym p.bindings)
@@ -163,18 +163,18 @@ few (suc (suc n)) =
     lt-leb (suc (suc n)) 1 (omega arith)
     ∙ sym (rw (ne_eqb (suc (suc n)) 1 (λ e. omega arith), ne_eqb (suc (suc n)) 0 (λ e. omega arith)) refl)
 
-module _ {u : List ℕ} {r : Next} (p : Parted u r) where
-  pub verbatim_turn : r.start < r.end → (count : ℕ) → verbatim_from count u ≡ (passes count r.start && verbatim_from (count + 1) (past u r))
+module _ {u : List ℕ} {r : Next} (p : FirstPart u r) where
+  pub verbatim_turn : (count : ℕ) → verbatim_from count u ≡ (passes count r.start && verbatim_from (count + 1) (past u r))
   unfolding verbatim_from
-  verbatim_turn h zero = first_turn p h ∙ ap (λ (b : Bool). b && same (written (past u r)) (past u r)) (few r.start)
-  verbatim_turn h (suc n) =
-      same_turn p h
+  verbatim_turn zero = first_turn p ∙ ap (λ (b : Bool). b && same (written (past u r)) (past u r)) (few r.start)
+  verbatim_turn (suc n) =
+      same_turn p
       ∙ rw (add-one (suc n), ne_eqb (suc n) 0 (λ e. omega arith), and-false, or-false) refl
 
-  pub verbatim_over : r.end ≤ r.start → (count : ℕ) → verbatim_from count u ≡ true
-  unfolding verbatim_from is_verbatim is_empty key_of
-  verbatim_over h zero = ap (λ (m : Parsed Part). is_empty m.items || same (key_of m.items ++ m.rest) (bound_first u)) (parts_over p h)
-  verbatim_over h (suc n) = ap (λ (m : Parsed Part). same (key_of m.items ++ m.rest) u) (parts_over p h) ∙ same_refl u
+pub verbatim_over : (u : List ℕ) → part_at u ≡ nothing → (count : ℕ) → verbatim_from count u ≡ true
+unfolding verbatim_from is_verbatim is_empty key_of
+verbatim_over u e zero = ap (λ (m : Parsed Part). is_empty m.items || same (key_of m.items ++ m.rest) (bound_first u)) (parts_over u e)
+verbatim_over u e (suc n) = ap (λ (m : Parsed Part). same (key_of m.items ++ m.rest) u) (parts_over u e) ∙ same_refl u
 
 -- what the loop makes of its flag
 pub flag_odd : (verbatim : Bool) (count start : ℕ) → (start ≡ 1 → ⊥) → (verbatim && eqb start 0 && eqb count 0) ≡ (verbatim && passes count start)

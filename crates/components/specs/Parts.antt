@@ -1,5 +1,5 @@
 -- What an answer of the code says of a text.
-use Rattle.std.specs.Prelude.{Bool, ◌||◌, List, [], ◌∷◌, ◌++◌, ◌≡◌, ℕ, ◌-◌, ◌≤◌, ◌<◌, eqb, length, take, drop, if◌then◌else◌}
+use Rattle.std.specs.Prelude.{Option, Some, None, Bool, ◌||◌, List, [], ◌∷◌, ◌++◌, ◌≡◌, ℕ, ◌-◌, ◌≤◌, ◌<◌, eqb, length, take, drop, if◌then◌else◌}
 use Rattle.definition.specs.Lists.{any, take_while, is_empty, same}
 use Rattle.definition.specs.Parsing.{nothing, found, many}
 use Rattle.definition.specs.Bytes.{dot, star, is_binding}
@@ -23,12 +23,15 @@ unfoldable pub component_if : Bool → List ℕ → Component
 component_if named w = if named then name w else wildcard
 
 -- the component at the front of t, whatever binds it
-pub record Begun (t : List ℕ) (r : code.Component) : Type 0 where
-  pub none : r.len ≤ 0 → (b : Binding) → component_at b t ≡ nothing
-  pub some : 0 < r.len → (b : Binding)
-      → component_at b t ≡ found (record { binding = b; component = component_if r.named (take r.len t) }) (drop r.len t)
-  pub bytes : 0 < r.len → component_bytes (component_if r.named (take r.len t)) ≡ take r.len t
+pub record Begins (t : List ℕ) (r : code.Component) : Type 0 where
+  pub is : (b : Binding) → component_at b t ≡ found (record { binding = b; component = component_if r.named (take r.len t) }) (drop r.len t)
+  pub bytes : component_bytes (component_if r.named (take r.len t)) ≡ take r.len t
+  pub some : 0 < r.len
   pub inside : r.len ≤ length t
+
+abbrev pub Begun : List ℕ → Option code.Component → Type 0
+Begun t (Some r) = Begins t r
+Begun t None = (b : Binding) → component_at b t ≡ nothing
 
 -- the bytes of the component
 abbrev pub component_text : List ℕ → Next → List ℕ
@@ -38,13 +41,17 @@ unfoldable pub part_of : List ℕ → Next → Part
 part_of t r = record { binding = binding_if r.loose; component = component_if r.named (component_text t r) }
 
 -- the part at the front of t
-pub record Parted (t : List ℕ) (r : Next) : Type 0 where
+pub record FirstPart (t : List ℕ) (r : Next) : Type 0 where
   pub loose : r.loose ≡ any (eqb star) (take_while is_binding t)
   pub bindings : r.start ≡ length (take_while is_binding t)
-  pub none : r.end ≤ r.start → part_at t ≡ nothing
-  pub some : r.start < r.end → part_at t ≡ found (part_of t r) (drop r.end t)
-  pub bytes : r.start < r.end → component_bytes (part_of t r).component ≡ component_text t r
+  pub is : part_at t ≡ found (part_of t r) (drop r.end t)
+  pub bytes : component_bytes (part_of t r).component ≡ component_text t r
+  pub some : r.start < r.end
   pub inside : r.end ≤ length t
+
+abbrev pub Parted : List ℕ → Option Next → Type 0
+Parted t (Some r) = FirstPart t r
+Parted t None = part_at t ≡ nothing
 
 -- the parts at the front of a text, and the key that writes them
 abbrev pub parts_of : List ℕ → List Part

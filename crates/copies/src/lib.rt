@@ -8,12 +8,16 @@ ghost use Rattle.copies.specs.Plain.{is_plain, stepped};
 
 use blocks::{BLOCK, block_has, copy_block};
 
+// A store is lent whole with a place in it, here and above: the place is a number of the image's rows or of its text, and with a slice from
+// there on each answer would have to be counted from the front again.
+
 // Copies whole blocks of `source` into `store` from `at` on: how many bytes.
 fn copy_blocks(source: &[u8], store: &mut [u8], at: usize) -> usize
     requires { at + length source.now ≤ length store.old }
     ensures { (store.new ≡ paste store.old at source.now result) × (result ≤ length source.now) × (length source.now - result < 8) }
 {
     let mut i: usize = 0;
+    // A turn takes a block: a range by steps of eight says no more, and hides that what is left is less than a block.
     while BLOCK <= source.len() - i {
         copy_block(source, i, BLOCK, store, at + i);
         i += BLOCK;
@@ -50,6 +54,7 @@ fn copy_plain_blocks(text: &[u8], store: &mut [u8], at: usize) -> usize
     ensures { (store.new ≡ paste store.old at text.now result) × (result ≤ length text.now) × (length (take_while is_plain text.now) ≡ result + length (take_while is_plain (drop result text.now))) }
 {
     let mut i: usize = 0;
+    // A turn takes a block, as in `copy_blocks`.
     while BLOCK <= text.len() - i {
         if block_has(text, i, b'\n', b'\\') {
             return i;
@@ -65,8 +70,8 @@ pub fn copy_plain(text: &[u8], store: &mut [u8], at: usize) -> usize
     requires { at + length text.now ≤ length store.old }
     ensures { (result ≡ length (take_while is_plain text.now)) × (store.new ≡ paste store.old at text.now result) }
 {
-    let mut i = copy_plain_blocks(text, store, at);
-    while i < text.len() {
+    let whole = copy_plain_blocks(text, store, at);
+    for i in whole..text.len() {
         let c = text[i];
         if c == b'\n' {
             return i;
@@ -75,7 +80,6 @@ pub fn copy_plain(text: &[u8], store: &mut [u8], at: usize) -> usize
             return i;
         }
         store[at + i] = c;
-        i += 1;
     }
-    i
+    text.len()
 }

@@ -1,7 +1,9 @@
 -- What `parse_include` learns on its way, and what its answer says. Assumes nothing.
+use Rattle.std.specs.Prelude as rattle
+use Rattle.std.specs.Prelude.{Some, None}
 use mathlib.Core.List.{List}
 use mathlib.Core.Option.{Option, some, none}
-use mathlib.Core.Path.{◌≡◌, refl, sym, ap, ◌∙◌}
+use mathlib.Core.Path.{◌≡◌, refl, ap, ◌∙◌}
 use Prim.Native.Nat.{ℕ, ◌+◌, ◌-◌, ◌≤◌}
 use native.Mathlib.Omega.{arith}
 use lib.ListN.{length, take, drop}
@@ -11,8 +13,7 @@ use Rattle.definition.specs.Bytes.{is_space}
 use Rattle.definition.specs.Text.{in_quotes, include_of}
 use Rattle.laws.proofs.Lists.{part_rest, take_run, length_take_while_le, Suffix, suffix_whole, suffix_part, suffix_run}
 use Rattle.directives.specs.Directives.{name_on, named_in, include_at}
-use Rattle.directives.specs.declared.Include.{Include}
-use Rattle.directives.specs.declared.Include.TheVariants.{Named, Other}
+use Rattle.directives.specs.declared.Named.{Named}
 use Rattle.scan.proofs.Beginnings.{after_suffix}
 use Rattle.scan.proofs.Runs.{run_rest}
 
@@ -33,7 +34,7 @@ pub record Opened (t v : List ℕ) : Type 0 where
   pub left : Suffix v t
 
 module _ (t line : List ℕ) (e : line ≡ drop_while is_space t) where
-  pub no_word : after (ascii "include") line ≡ none → Other ≡ include_at t
+  pub no_word : after (ascii "include") line ≡ none → ◌≡◌ {A = rattle.Option Named} None (include_at t)
   unfolding include_at name_on named_in
   no_word h = rw (← e, h) refl
 
@@ -45,7 +46,7 @@ module _ (t line : List ℕ) (e : line ≡ drop_while is_space t) where
   }
 
 module _ {t u : List ℕ} (d : Worded t u) (quoted : List ℕ) (e : quoted ≡ drop_while is_space u) where
-  pub no_quote : after (ascii "\"") quoted ≡ none → Other ≡ include_at t
+  pub no_quote : after (ascii "\"") quoted ≡ none → ◌≡◌ {A = rattle.Option Named} None (include_at t)
   unfolding include_at named_in
   no_quote h = rw (d.is, ← e, h) refl
 
@@ -56,28 +57,28 @@ module _ {t u : List ℕ} (d : Worded t u) (quoted : List ℕ) (e : quoted ≡ d
   }
 
 module _ {t v : List ℕ} (d : Opened t v) (n : ℕ) (e : n ≡ length (take_while in_quotes v)) where
-  pub no_end : after (ascii "\"") (from n v) ≡ none → Other ≡ include_at t
+  pub no_end : after (ascii "\"") (from n v) ≡ none → ◌≡◌ {A = rattle.Option Named} None (include_at t)
   unfolding include_at named_in
   no_end h = rw (d.is, ← run_rest in_quotes v n e, h) refl
 
-  pub named : (w : List ℕ) → after (ascii "\"") (from n v) ≡ some w → Named (length t - length v) n ≡ include_at t
+  pub named : (w : List ℕ) → after (ascii "\"") (from n v) ≡ some w → Some (record { start = length t - length v; size = n }) ≡ include_at t
   unfolding include_at named_in
   named w h = rw (d.is, ← run_rest in_quotes v n e, h, ← e) refl
 
 -- ---- The answer
 
 -- the name that an answer points at
-unfoldable pub included_name : List ℕ → Include → Option (List ℕ)
-included_name t (Named s n) = some (take n (drop s t))
-included_name t Other = none
+unfoldable pub included_name : List ℕ → rattle.Option Named → Option (List ℕ)
+included_name t (Some r) = some (take r.size (drop r.start t))
+included_name t None = none
 
 -- the place lies within a text of length m
-abbrev pub NamedWithin : Include → ℕ → Type 0
-NamedWithin (Named s n) m = s + n ≤ m
-NamedWithin Other m = Unit {0}
+abbrev pub NamedWithin : rattle.Option Named → ℕ → Type 0
+NamedWithin (Some r) m = r.start + r.size ≤ m
+NamedWithin None m = Unit {0}
 
 -- r is the include that the definition has after the `#`
-pub record IncludeFound (t : List ℕ) (r : Include) : Type 0 where
+pub record IncludeFound (t : List ℕ) (r : rattle.Option Named) : Type 0 where
   pub name : included_name t r ≡ include_of t
   pub inside : NamedWithin r (length t)
 

@@ -1,19 +1,19 @@
 -- The bytes between quotes. Assumes nothing.
-use mathlib.Core.Bool.{true, false}
+use mathlib.Core.Bool.{Bool, true, false, ◌||◌, ◌&&◌, not}
 use mathlib.Core.Path.{◌≡◌, refl}
 use Prim.Native.Nat.{ℕ}
-use borrow.Author.Tests.{ne_eqb}
+use lib.Dec.{eqb}
 use Rattle.definition.specs.Bytes.{newline, quote, not_newline}
 use Rattle.definition.specs.Text.{in_quotes}
-use Rattle.skips.proofs.Texts.{line_on}
 
-module _ (c : ℕ) where
-  pub quoted : (c ≡ quote → ⊥) → (c ≡ newline → ⊥) → in_quotes c ≡ true
-  quoted p q = rw (ne_eqb c quote p, line_on c q) refl
+-- the code's test of the byte that ends a name
+abbrev pub ends_quoted : ℕ → Bool
+ends_quoted c = eqb c quote || eqb c newline
 
-  pub unquoted : c ≡ quote → in_quotes c ≡ false
-  unquoted e = rw e refl
-
-  pub quote_over : c ≡ newline → in_quotes c ≡ false
-  unfolding not_newline
-  quote_over e = rw e refl
+pub quoted : (c : ℕ) → in_quotes c ≡ not (ends_quoted c)
+unfolding not_newline
+quoted c = at (eqb c quote) (eqb c newline)
+  where
+    at : (a b : Bool) → (not a && not b) ≡ not (a || b)
+    at true b = refl
+    at false b = refl

@@ -1,13 +1,13 @@
 -- A value's text: byte by byte, run by run, and how long it is. Assumes nothing.
 use Rattle.std.specs.Prelude.{if◌then◌else◌}
 use mathlib.Core.Bool.{Bool, true, false, ◌||◌, not}
-use mathlib.Core.List.{List, [], ◌∷◌, ◌++◌, flatten}
+use mathlib.Core.List.{List, [], ◌∷◌, ◌++◌, flatten, append_assoc}
 use mathlib.Core.Path.{◌≡◌, refl, sym, ap, ◌∙◌}
-use Prim.Native.Nat.{ℕ, suc, ◌+◌, ◌-◌, ◌≤◌, ◌<◌}
+use Prim.Native.Nat.{ℕ, suc, ◌+◌, ◌-◌, ◌*◌, ◌≤◌, ◌<◌}
 use native.Mathlib.Numerals.{add-one}
 use native.Mathlib.Omega.{arith}
 use lib.Dec.{eqb}
-use lib.ListN.{length, take, drop, get_or, length-append, drop_of_length-le, length-drop}
+use lib.ListN.{length, take, drop, get_or, set, length-append, drop_of_length-le, length-drop}
 use lib.Seq.{paste, drop-cons, drop-drop, get_or-drop}
 use borrow.Author.Tests.{ne_eqb}
 use Rattle.definition.specs.Lists.{ascii, take_while}
@@ -15,12 +15,12 @@ use Rattle.definition.specs.Bytes.{newline, backslash, letter_n, space, tab, is_
 use Rattle.definition.specs.Writing.{escaped, begins_blank, value_text}
 use Rattle.laws.proofs.Lists.{not_both, part_rest, length_take_while_le}
 use Rattle.blocks.specs.Either.{either}
-use Rattle.blocks.proofs.Blocks.{bit_of}
+use mir.Val.{bool_byte}
 use Rattle.copies.specs.Appended.{Appends}
 use Rattle.copies.specs.Plain.{is_plain}
 use Rattle.copies.proofs.Copying.{plain_byte, newline_ends, backslash_ends}
-use Rattle.copies.proofs.Pieces.{piece_of, piece_first, then_piece, Walk, walk_begun, walk_next, walk_room, walk_ended}
-use Rattle.entry_text.specs.Lines.{leading_escape, bytes_of, Escapes, line_of}
+use Rattle.copies.proofs.Pieces.{piece_of, piece_long, piece_byte, piece_two, piece_first, then_piece, Walk, walk_begun, walk_next, walk_room, walk_ended}
+use Rattle.entry_text.specs.Lines.{leading_escape, bytes_of, line_of}
 
 -- ---- A byte
 
@@ -44,11 +44,11 @@ module _ (c : ℕ) where
       at false e = absurd (not_both (plain_byte c n (λ f. not_both (rw f refl) e)) h)
 
   -- a backslash more, or none
-  pub escaped_size : length (escaped c) ≡ 1 + bit_of (eqb c newline || eqb c backslash)
+  pub escaped_size : length (escaped c) ≡ 1 + bool_byte (eqb c newline || eqb c backslash)
   unfolding escaped
   escaped_size = at (eqb c backslash) (eqb c newline)
     where
-      at : (a b : Bool) → length (if a then backslash ∷ backslash ∷ [] else if b then backslash ∷ letter_n ∷ [] else c ∷ []) ≡ 1 + bit_of (b || a)
+      at : (a b : Bool) → length (if a then backslash ∷ backslash ∷ [] else if b then backslash ∷ letter_n ∷ [] else c ∷ []) ≡ 1 + bool_byte (b || a)
       at true true = refl
       at true false = refl
       at false true = refl
@@ -58,9 +58,13 @@ module _ (c : ℕ) where
   unfolding is_plain either
   escaped_two h = escaped_size ∙ at (eqb c newline || eqb c backslash) h
     where
-      at : (b : Bool) → not b ≡ false → 1 + bit_of b ≡ 2
+      at : (b : Bool) → not b ≡ false → 1 + bool_byte b ≡ 2
       at true e = refl
       at false e = absurd (not_both refl e)
+
+escape_small : (b : Bool) → bool_byte b ≤ 1
+escape_small true = omega arith
+escape_small false = omega arith
 
 -- ---- The bytes of a value
 
@@ -81,29 +85,6 @@ bytes_run (c ∷ t) = at (is_plain c) refl (bytes_run t)
         → let n = length (if b then c ∷ take_while is_plain t else []) in bytes_of (c ∷ t) ≡ take n (c ∷ t) ++ bytes_of (drop n (c ∷ t))
     at true e ih = rw (plain_escaped c e) (ap (λ (l : List ℕ). c ∷ l) ih)
     at false e ih = refl
-
-module _ (v : List ℕ) where
-  pub escapes_none : (i : ℕ) → i ≤ length v → Escapes v i i 0
-  escapes_none i h = record { begun = omega arith; inside = h; few = omega arith; same = omega arith }
-
-  pub escapes_next : {from i n : ℕ} → Escapes v from i n → i < length v → (b : ℕ) → b ≡ bit_of (eqb (get_or v i 0) newline || eqb (get_or v i 0) backslash)
-      → Escapes v from (i + 1) (n + b)
-  escapes_next {from} {i} {n} p h b e = record {
-    begun = omega (arith, p.begun);
-    inside = omega arith;
-    few = omega (arith, p.begun, p.few, bit_small (eqb (get_or v i 0) newline || eqb (get_or v i 0) backslash));
-    same = omega (
-      arith,
-      p.begun,
-      p.same,
-      ap length (bytes_next v i h) ∙ length-append (escaped (get_or v i 0)) (bytes_of (drop (i + 1) v)),
-      escaped_size (get_or v i 0),
-    );
-  }
-    where
-      bit_small : (b : Bool) → bit_of b ≤ 1
-      bit_small true = omega arith
-      bit_small false = omega arith
 
 -- what follows a run does not pass
 run_stops : (p : ℕ → Bool) (t : List ℕ) → let n = length (take_while p t) in n < length t → p (get_or t n 0) ≡ false
@@ -136,11 +117,11 @@ module _ (v : List ℕ) where
   unfolding leading_escape
   no_leading_escape e = rw e refl
 
-  pub leading_escape_long : length (leading_escape v) ≡ bit_of (begins_blank v)
+  pub leading_escape_long : length (leading_escape v) ≡ bool_byte (begins_blank v)
   unfolding leading_escape
   leading_escape_long = at (begins_blank v)
     where
-      at : (b : Bool) → length (if b then backslash ∷ [] else []) ≡ bit_of b
+      at : (b : Bool) → length (if b then backslash ∷ [] else []) ≡ bool_byte b
       at true = refl
       at false = refl
 
@@ -159,17 +140,57 @@ first_begins (c ∷ v) h = refl
 
 -- ---- Counted
 
-module _ {v : List ℕ} {i n : ℕ} (c : Escapes v 0 i n) where
-  pub escapes_then : {j b : ℕ} → Escapes v i j b → Escapes v 0 j (n + b)
-  escapes_then p = record {
-    begun = omega arith;
-    inside = p.inside;
-    few = omega (arith, c.few, p.few, p.begun);
-    same = omega (arith, c.same, p.begun, p.same);
+bytes_most : (t : List ℕ) → length (bytes_of t) ≤ 2 * length t
+unfolding bytes_of flatten
+bytes_most [] = omega arith
+bytes_most (c ∷ t) = omega (arith, escaped_size c, escape_small (eqb c newline || eqb c backslash), length-append (escaped c) (bytes_of t), bytes_most t)
+
+bytes_append : (s t : List ℕ) → bytes_of (s ++ t) ≡ bytes_of s ++ bytes_of t
+unfolding bytes_of flatten
+bytes_append [] t = refl
+bytes_append (c ∷ s) t = ap (λ (l : List ℕ). escaped c ++ l) (bytes_append s t) ∙ sym (append_assoc (escaped c) (bytes_of s) (bytes_of t))
+
+-- n of the bytes of v before its end `rest` are written as two
+pub record Counted (v rest : List ℕ) (n : ℕ) : Type 0 where
+  pub same : n + length v + length (bytes_of rest) ≡ length (bytes_of v) + length rest
+
+pub counted_none : (v : List ℕ) → Counted v v 0
+counted_none v = record { same = omega arith }
+
+module _ {v rest : List ℕ} {n : ℕ} (c : Counted v rest n) where
+  -- a part more is counted
+  pub counted_part : (part left : List ℕ) → rest ≡ part ++ left → (k : ℕ) → k ≡ length (bytes_of part) - length part → Counted v left (n + k)
+  counted_part part left e k f = record {
+    same = omega (
+      arith,
+      c.same,
+      f,
+      bytes_least part,
+      ap length e ∙ length-append part left,
+      ap (λ (l : List ℕ). length (bytes_of l)) e ∙ ap length (bytes_append part left) ∙ length-append (bytes_of part) (bytes_of left),
+    );
   }
 
-  pub escapes_all : length v ≤ i → n ≡ length (bytes_of v) - length v
-  escapes_all h = omega (arith, c.inside, c.same, ap length (bytes_none v i h))
+  pub counted_few : n ≤ length v
+  counted_few = omega (arith, c.same, bytes_least rest, bytes_most v)
+
+  pub counted_all : length rest ≡ 0 → n ≡ length (bytes_of v) - length v
+  counted_all z = omega (arith, c.same, z, ap length (bytes_none rest 0 (omega (arith, z))))
+
+-- a byte more
+pub counted_byte : {v : List ℕ} {i n : ℕ} → Counted v (drop i v) n → i < length v → (k : ℕ)
+    → k ≡ bool_byte (eqb (get_or v i 0) newline || eqb (get_or v i 0) backslash) → Counted v (drop (i + 1) v) (n + k)
+counted_byte {v} {i} {n} c h k e = record {
+  same = omega (
+    arith,
+    c.same,
+    e,
+    length-drop i v,
+    length-drop (i + 1) v,
+    ap length (bytes_next v i h) ∙ length-append (escaped (get_or v i 0)) (bytes_of (drop (i + 1) v)),
+    escaped_size (get_or v i 0),
+  );
+}
 
 -- ---- Written
 
@@ -224,11 +245,46 @@ module _ {v text₀ : List ℕ} {at : ℕ} {text : List ℕ} {end i : ℕ} (w : 
 -- ---- The entry
 
 module _ (key value : List ℕ) where
-  pub line_long : length (line_of key value) ≡ length key + 2 + length (value_text value) + 1
+  line_long : length (line_of key value) ≡ length key + 2 + length (value_text value) + 1
   unfolding line_of
   line_long = simp length-append
 
-  pub line_put : {out o₁ o₂ o₃ o₄ o₅ : List ℕ} {at e₁ e₂ e₃ e₄ e₅ : ℕ} → Appends key out at o₁ e₁ → Appends (ascii ": ") o₁ e₁ o₂ e₂ → Appends (leading_escape value) o₂ e₂ o₃ e₃
+  line_put : {out o₁ o₂ o₃ o₄ o₅ : List ℕ} {at e₁ e₂ e₃ e₄ e₅ : ℕ} → Appends key out at o₁ e₁ → Appends (ascii ": ") o₁ e₁ o₂ e₂ → Appends (leading_escape value) o₂ e₂ o₃ e₃
       → Appends (bytes_of value) o₃ e₃ o₄ e₄ → Appends (newline ∷ []) o₄ e₄ o₅ e₅ → Appends (line_of key value) out at o₅ e₅
   unfolding line_of
   line_put k c m b n = then_piece (then_piece (then_piece k c) (piece_of (value_parts value) (then_piece m b))) n
+
+-- an entry's text, piece by piece: its key and `: `, a leading escape, the value, a newline
+module _ (key value text₀ : List ℕ) (at : ℕ) (fits : at + length (line_of key value) ≤ length text₀) where
+  abbrev colon : ℕ
+  colon = at + length key
+
+  pub line_room : colon + 2 + length (leading_escape value) + length (bytes_of value) + 1 ≤ length text₀
+  line_room = omega (arith, line_long key value, value_long value)
+
+  module _ (text : List ℕ) (put : text ≡ paste text₀ at key (length key)) where
+    key_put : Appends key text₀ at text colon
+    key_put = record { fits = omega (arith, line_room); ends = refl; leaves = put }
+
+    pub colon_left : colon + 2 ≤ length text
+    colon_left = omega (arith, line_room, piece_long key_put)
+
+    abbrev led : List ℕ
+    led = set (set text colon 58) (colon + 1) 32
+
+    colon_put : Appends (ascii ": ") text colon led (colon + 2)
+    colon_put = piece_two _ _ _ _ colon_left
+
+    pub lead_room : colon + 2 + length (leading_escape value) ≤ length led
+    lead_room = omega (arith, line_room, piece_long key_put, piece_long colon_put)
+
+    module _ {text₁ : List ℕ} {start : ℕ} (e : Appends (leading_escape value) led (colon + 2) text₁ start) where
+      pub bytes_room : start + length (bytes_of value) ≤ length text₁
+      bytes_room = omega (arith, line_room, piece_long key_put, piece_long colon_put, e.ends, piece_long e)
+
+      module _ {text₂ : List ℕ} {end : ℕ} (b : Appends (bytes_of value) text₁ start text₂ end) where
+        pub end_room : end < length text₂
+        end_room = omega (arith, line_room, piece_long key_put, piece_long colon_put, e.ends, piece_long e, b.ends, piece_long b)
+
+        pub entry_put : Appends (line_of key value) text₀ at (set text₂ end 10) (end + 1)
+        entry_put = line_put key value key_put colon_put e b (piece_byte _ _ _ end_room)

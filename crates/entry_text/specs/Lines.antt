@@ -1,6 +1,6 @@
 -- The text of an entry, from its key and its value.
 use mathlib.Core.List.{List, [], ◌∷◌, ◌++◌, flatten, map}
-use Rattle.std.specs.Prelude.{◌≡◌, ℕ, ◌+◌, ◌-◌, ◌≤◌, length, drop, if◌then◌else◌}
+use Rattle.std.specs.Prelude.{ℕ, if◌then◌else◌}
 use Rattle.definition.specs.Lists.{ascii}
 use Rattle.definition.specs.Bytes.{newline, backslash}
 use Rattle.definition.specs.Writing.{escaped, begins_blank, value_text}
@@ -12,13 +12,6 @@ leading_escape v = if begins_blank v then backslash ∷ [] else []
 -- its bytes, each as it is written
 unfoldable pub bytes_of : List ℕ → List ℕ
 bytes_of v = flatten (map escaped v)
-
--- of the bytes from `from` up to `to`, n are written as two and the rest as they are
-pub record Escapes (v : List ℕ) (from to n : ℕ) : Type 0 where
-  pub begun : from ≤ to
-  pub inside : to ≤ length v
-  pub few : n ≤ to - from
-  pub same : length (bytes_of (drop from v)) ≡ n + (to - from) + length (bytes_of (drop to v))
 
 unfoldable pub line_of : List ℕ → List ℕ → List ℕ
 line_of key value = key ++ ascii ": " ++ value_text value ++ newline ∷ []

@@ -5,9 +5,8 @@ ghost use Rattle.std.specs.Prelude.{◌≡◌, false, ◌+◌, ◌-◌, ◌≤�
 ghost use Rattle.definition.specs.Writing.{escaped, begins_blank};
 ghost use Rattle.copies.specs.Appended.{Appends};
 ghost use Rattle.copies.specs.Plain.{is_plain};
-ghost use Rattle.entry_text.specs.Lines.{leading_escape, bytes_of, Escapes, line_of};
+ghost use Rattle.entry_text.specs.Lines.{leading_escape, bytes_of, line_of};
 
-use blocks::bit;
 use copies::{copy_in, copy_plain};
 
 // Does a space or tab begin the value?
@@ -21,17 +20,17 @@ pub fn begins_blank(value: &[u8]) -> bool
     (c == b' ') | (c == b'\t')
 }
 
-// How many bytes from `from` up to `to` are written as two.
-fn escapes_from(bytes: &[u8], from: usize, to: usize) -> u8
-    requires { (from ≤ to) × (to ≤ length bytes.now) × (to - from ≤ 255) }
-    ensures { Escapes bytes.now from to result }
+// A part is short enough for a count of one byte, so that a machine may count many of its bytes at once.
+const PART: usize = 224;
+
+// How many bytes of a part are written as two.
+fn escapes_of(part: &[u8]) -> u8
+    requires { length part.now ≤ 255 }
+    ensures { result ≡ length (bytes_of part.now) - length part.now }
 {
     let mut n: u8 = 0;
-    let mut i = from;
-    while i < to {
-        let c = bytes[i];
-        n += bit((c == b'\n') | (c == b'\\'));
-        i += 1;
+    for c in part {
+        n += u8::from((*c == b'\n') | (*c == b'\\'));
     }
     n
 }
@@ -41,16 +40,14 @@ pub fn escapes_in(bytes: &[u8]) -> usize
     ensures { result ≡ length (bytes_of bytes.now) - length bytes.now }
 {
     let mut n: usize = 0;
-    let mut i = 0;
-    while i < bytes.len() {
-        // few enough for a count of one byte, so that a machine may count many of them at once
-        let left = bytes.len() - i;
-        let end = if left < 224 { bytes.len() } else { i + 224 };
-        n += escapes_from(bytes, i, end) as usize;
-        i = end;
+    for part in bytes.chunks(PART) {
+        n += usize::from(escapes_of(part));
     }
     n
 }
+
+// What is written goes into the whole text at a place, and the answer is the next one: with a slice from there on each length would be added up
+// by the caller, which is no plainer.
 
 // Writes the backslash before a value, if there is one, at `at`: where the value begins.
 fn write_leading_escape(value: &[u8], text: &mut [u8], at: usize) -> usize
@@ -81,6 +78,7 @@ fn write_bytes(value: &[u8], text: &mut [u8], at: usize) -> usize
 {
     let mut end = at;
     let mut i = 0;
+    // runs differ in length, so the index moves on by each run's own
     loop {
         // most bytes are plain
         let n = copy_plain(&value[i..], text, end);

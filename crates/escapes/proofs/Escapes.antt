@@ -1,24 +1,14 @@
 -- Octal digits and escapes, as the code tells them apart. Assumes nothing.
-use Rattle.std.proofs.Common.{◌≡◌, ℕ, suc, ◌+◌, ◌-◌, ◌*◌, ◌%◌, ◌<◌, ◌≤◌, Bool, true, false, ◌||◌, eqb, leb, ◌⊎◌, List, [], ◌∷◌, length, get_or, take, drop, sym, refl, ◌∙◌, inl, inr, ⊎_elim, mod-eq_of_lt, zero-add, arith, drop_of_length-le, length-take, drop-cons, get_or-take, take-take, eq-eqb, ne_eqb, leb-true}
-use native.Mathlib.Nat.{add-mod, mod-add-mod}
+use Rattle.std.proofs.Common.{◌≡◌, ℕ, suc, ◌+◌, ◌-◌, min, ◌*◌, ◌%◌, ◌<◌, ◌≤◌, Bool, true, false, ◌||◌, eqb, leb, ◌⊎◌, List, [], ◌∷◌, length, get_or, take, drop, sym, refl, ◌∙◌, inl, inr, ⊎_elim, mod-eq_of_lt, zero-add, arith, drop_of_length-le, length-take, drop-cons, take-take, eq-eqb, ne_eqb, leb-true}
+use native.Mathlib.Nat.{mod-add-mod}
+use lib.Seq.{take-length}
 use Rattle.definition.specs.Lists.{all, take_while}
 use Rattle.definition.specs.Bytes.{tab, space, newline, backslash, letter_n, is_blank, is_octal}
 use Rattle.definition.specs.Text.{positional, line_ends}
 use Rattle.laws.proofs.Lists.{and_true, all_take_while, take_run, length_take_while_le}
-use Rattle.scan.proofs.Runs.{Passed, passed_more, passed_stop, passed_end}
-use Rattle.escapes.specs.declared.Piece.TheVariants.{Byte, Drop}
-use Rattle.escapes.specs.Pieces.{digits, octal_in, escape_in}
+use Rattle.escapes.specs.Pieces.{piece_of, no_byte, digits, octal_in, escape_in}
 
--- ---- Eight times a byte, and a number of three digits
-
-doubled : (n : ℕ) → (n % 256 + n % 256) % 256 ≡ (n + n) % 256
-doubled n = sym (add-mod n n 256)
-
-pub eight_times : (x two four r : ℕ) → two ≡ (x + x) % 256 → four ≡ (two + two) % 256 → r ≡ (four + four) % 256 → r ≡ (x * 8) % 256
-eight_times x two four r e f g =
-    let s : x + x + (x + x) + (x + x + (x + x)) ≡ x * 8 = omega arith in
-    let k : four ≡ (x + x + (x + x)) % 256 = f ∙ rw e (doubled (x + x)) in
-    g ∙ rw (k, doubled (x + x + (x + x)), s) refl
+-- ---- A number of three digits
 
 pub octal_range : (c : ℕ) → is_octal c ≡ true → (48 ≤ c) × (c ≤ 55)
 unfolding is_octal
@@ -44,23 +34,12 @@ octal_number a b c x y ha hb hc e f =
 
 -- ---- Octal digits at the front of a text
 
--- n of them are passed
-module _ (t : List ℕ) {n : ℕ} (d : Passed is_octal (take 3 t) n) where
-  pub digits_end : 3 ≤ n → n ≡ length (digits t)
-  digits_end h = passed_end is_octal (take 3 t) d (simp length-take (omega arith))
-
-  pub digits_short : length t ≤ n → n ≡ length (digits t)
-  digits_short h = passed_end is_octal (take 3 t) d (simp length-take (omega arith))
-
-  module _ (h : n < 3) (k : n < length t) where
-    in_three : n < length (take 3 t)
-    in_three = simp length-take (omega arith)
-
-    pub digits_stop : is_octal (get_or t n 0) ≡ false → n ≡ length (digits t)
-    digits_stop e = passed_stop is_octal (take 3 t) d in_three (rw (get_or-take 3 t n 0 h) e)
-
-    pub digits_more : is_octal (get_or t n 0) ≡ true → Passed is_octal (take 3 t) (n + 1)
-    digits_more e = passed_more is_octal (take 3 t) d in_three (rw (get_or-take 3 t n 0 h) e)
+-- three bytes at most, as the code takes them
+pub three_most : (t : List ℕ) → take (min (length t) 3) t ≡ take 3 t
+three_most t =
+    let n = min (length t) 3 in
+    let e : n ≡ length (take 3 t) = omega (arith, length-take 3 t) in
+    sym (take-take n 3 t (omega arith)) ∙ rw e (take-length (take 3 t))
 
 module _ (t : List ℕ) where
   pub digits_few : length (digits t) ≤ 3
@@ -90,7 +69,7 @@ three_octal t n e f =
 
 -- ---- Escapes: t follows the backslash
 
-pub escape_end : (t : List ℕ) → length t ≡ 0 → Byte backslash 1 ≡ escape_in t
+pub escape_end : (t : List ℕ) → length t ≡ 0 → piece_of backslash 1 ≡ escape_in t
 unfolding escape_in
 escape_end [] h = refl
 escape_end (c ∷ t) h = absurd (omega arith)
@@ -110,28 +89,28 @@ unfolding is_blank
 not_escaped_test c h =
     rw (ne_eqb c space (λ e. h (inr (inl e))), ne_eqb c tab (λ e. h (inl e)), ne_eqb c backslash (λ e. h (inr (inr e)))) refl
 
-pub escape_itself : (t : List ℕ) → 0 < length t → Escaped (get_or t 0 0) → Byte (get_or t 0 0) 2 ≡ escape_in t
+pub escape_itself : (t : List ℕ) → 0 < length t → Escaped (get_or t 0 0) → piece_of (get_or t 0 0) 2 ≡ escape_in t
 unfolding escape_in
 escape_itself [] h e = absurd (omega arith)
 escape_itself (c ∷ t) h e = rw (escaped_test c e) refl
 
-pub escape_newline : (t : List ℕ) → 0 < length t → get_or t 0 0 ≡ letter_n → Byte newline 2 ≡ escape_in t
+pub escape_newline : (t : List ℕ) → 0 < length t → get_or t 0 0 ≡ letter_n → piece_of newline 2 ≡ escape_in t
 unfolding escape_in is_blank
 escape_newline [] h e = absurd (omega arith)
 escape_newline (c ∷ t) h e = rw e refl
 
-pub escape_joined : (t : List ℕ) → 0 < length t → get_or t 0 0 ≡ newline → Drop 2 ≡ escape_in t
+pub escape_joined : (t : List ℕ) → 0 < length t → get_or t 0 0 ≡ newline → no_byte 2 ≡ escape_in t
 unfolding escape_in is_blank
 escape_joined [] h e = absurd (omega arith)
 escape_joined (c ∷ t) h e = rw e refl
 
 pub escape_other : (t : List ℕ) (n : ℕ) → 0 < length t → (Escaped (get_or t 0 0) → ⊥) → (get_or t 0 0 ≡ letter_n → ⊥)
-    → (get_or t 0 0 ≡ newline → ⊥) → n ≡ length (digits t) → n ≡ 0 → Byte backslash 1 ≡ escape_in t
+    → (get_or t 0 0 ≡ newline → ⊥) → n ≡ length (digits t) → n ≡ 0 → piece_of backslash 1 ≡ escape_in t
 unfolding escape_in take_while
 escape_other [] n h e f g d z = absurd (omega arith)
 escape_other (c ∷ t) n h e f g d z = at (is_octal c) refl
   where
-    at : (o : Bool) → is_octal c ≡ o → Byte backslash 1 ≡ escape_in (c ∷ t)
+    at : (o : Bool) → is_octal c ≡ o → piece_of backslash 1 ≡ escape_in (c ∷ t)
     at true k = absurd (let m : n ≡ suc (length (take_while is_octal (take 2 t))) = d ∙ rw k refl in omega arith)
     at false k = rw (not_escaped_test c e, ne_eqb c letter_n f, ne_eqb c newline g, k) refl
 
@@ -149,17 +128,17 @@ escape_octals (c ∷ t) n e h = at (is_octal c) refl
     at false k = absurd (h (e ∙ rw k refl))
 
 module _ (t : List ℕ) (n : ℕ) (e : n ≡ length (digits t)) where
-  pub escape_octal : (b : ℕ) → n ≡ 3 → b ≡ positional 8 0 (get_or t 0 0 ∷ get_or t 1 0 ∷ get_or t 2 0 ∷ []) % 256 → Byte b 4 ≡ escape_in t
+  pub escape_octal : (b : ℕ) → n ≡ 3 → b ≡ positional 8 0 (get_or t 0 0 ∷ get_or t 1 0 ∷ get_or t 2 0 ∷ []) % 256 → piece_of b 4 ≡ escape_in t
   unfolding octal_in
   escape_octal b f g = rw (escape_octals t n e (omega arith), three_digits t n e f, g) refl
 
   module _ (h : n ≡ 0 → ⊥) (k : n ≡ 3 → ⊥) where
-    pub escape_dropped : line_ends (drop n t) ≡ true → Drop (1 + n) ≡ escape_in t
+    pub escape_dropped : line_ends (drop n t) ≡ true → no_byte (1 + n) ≡ escape_in t
     unfolding octal_in
     escape_dropped l = rw (escape_octals t n e h, ← e, ne_eqb n 3 k, l) refl
 
     -- the backslash stands for itself, and so do the digits
-    pub escape_kept : line_ends (drop n t) ≡ false → Byte backslash 1 ≡ escape_in t
+    pub escape_kept : line_ends (drop n t) ≡ false → piece_of backslash 1 ≡ escape_in t
     unfolding octal_in
     escape_kept l = rw (escape_octals t n e h, ← e, ne_eqb n 3 k, l) refl
 

@@ -5,27 +5,39 @@ ghost use Rattle.std.specs.Prelude.{◌≡◌, ◌*◌, ◌%◌, true, [], ◌�
 ghost use Rattle.definition.specs.Lists.{take_while};
 ghost use Rattle.definition.specs.Bytes.{is_octal};
 ghost use Rattle.definition.specs.Text.{positional};
-ghost use Rattle.byte_classes.specs.Classes.{byte_classes};
-ghost use Rattle.escapes.specs.Pieces.{escape_in};
+ghost use Rattle.escapes.specs.Pieces.{piece_of, no_byte, escape_in};
 
-use byte_classes::is_octal_digit;
+use byte_classes::Classes;
 
-// What an escape gives. Its number counts bytes of text from the backslash on.
-#[derive(Drop)]
-pub enum Piece {
-    // So many bytes give this one.
-    Byte(u8, usize),
-    // So many bytes give nothing.
-    Drop(usize),
+// What an escape gives: a byte or none, and how many bytes of text give it, the backslash among them.
+#[derive(Clone, Copy)]
+pub struct Piece {
+    pub byte: Option<u8>,
+    pub len: usize,
 }
 
-// The low eight bits of x * 8, by three doublings that wrap.
+impl Piece {
+    fn of(byte: u8, len: usize) -> Piece
+        ensures { result ≡ piece_of byte len }
+    {
+        Piece {
+            byte: Some(byte),
+            len,
+        }
+    }
+
+    fn nothing(len: usize) -> Piece
+        ensures { result ≡ no_byte len }
+    {
+        Piece { byte: None, len }
+    }
+}
+
+// The low eight bits of x * 8.
 fn times_eight(x: u8) -> u8
     ensures { result ≡ (x * 8) % 256 }
 {
-    let two = std::num::wrapping_add_u8(x, x);
-    let four = std::num::wrapping_add_u8(two, two);
-    std::num::wrapping_add_u8(four, four)
+    x.wrapping_mul(8)
 }
 
 // The low eight bits of the number of three octal digits, as the Rust's release build has them.
@@ -40,41 +52,39 @@ fn octal(a: u8, b: u8, c: u8) -> u8
 }
 
 // How many octal digits the text begins with, three at most.
-fn octal_digits(classes: &[u8; 256], text: &[u8]) -> usize
-    requires { classes.now ≡ byte_classes }
+fn octal_digits(classes: &Classes, text: &[u8]) -> usize
     ensures { result ≡ length (take_while is_octal (take 3 text.now)) }
 {
-    let mut n = 0;
-    while n < 3 && n < text.len() && is_octal_digit(classes, text[n]) {
-        n += 1;
-    }
-    n
+    let first = &text[..text.len().min(3)];
+    first
+        .iter()
+        .position(|c| !classes.is_octal_digit(*c))
+        .unwrap_or(first.len())
 }
 
 // The escape whose backslash stands before `text`. A backslash that stands for itself is the whole piece: the bytes after it are plain.
-pub fn parse_escape(classes: &[u8; 256], text: &[u8]) -> Piece
-    requires { classes.now ≡ byte_classes }
+pub fn parse_escape(classes: &Classes, text: &[u8]) -> Piece
     ensures { result ≡ escape_in text.now }
 {
     if text.len() == 0 {
-        return Piece::Byte(b'\\', 1);
+        return Piece::of(b'\\', 1);
     }
     let c = text[0];
     match c {
-        b' ' | b'\t' | b'\\' => return Piece::Byte(c, 2),
-        b'n' => return Piece::Byte(b'\n', 2),
-        b'\n' => return Piece::Drop(2),
+        b' ' | b'\t' | b'\\' => return Piece::of(c, 2),
+        b'n' => return Piece::of(b'\n', 2),
+        b'\n' => return Piece::nothing(2),
         _ => {}
     }
     let n = octal_digits(classes, text);
     if n == 0 {
-        return Piece::Byte(b'\\', 1);
+        return Piece::of(b'\\', 1);
     }
     if n == 3 {
-        return Piece::Byte(octal(c, text[1], text[2]), 4);
+        return Piece::of(octal(c, text[1], text[2]), 4);
     }
     if n == text.len() || text[n] == b'\n' {
-        return Piece::Drop(1 + n);
+        return Piece::nothing(1 + n);
     }
-    Piece::Byte(b'\\', 1)
+    Piece::of(b'\\', 1)
 }

@@ -1,5 +1,6 @@
 -- The rows of an image, passed one by one. Assumes nothing.
-use mathlib.Core.Bool.{true, false}
+use Rattle.std.specs.Prelude.{Option, Some, None}
+use mathlib.Core.Bool.{Bool, true, false}
 use mathlib.Core.List.{List, [], ◌∷◌, ◌++◌}
 use mathlib.Core.Path.{◌≡◌, refl, sym, ap, ◌∙◌}
 use Prim.Native.Nat.{ℕ, ◌+◌, ◌-◌, ◌≤◌, ◌<◌}
@@ -10,15 +11,13 @@ use lib.ListN.{length, take, drop}
 use borrow.Author.Tests.{ne_eqb}
 use Rattle.definition.specs.Lists.{is_empty, ascii}
 use Rattle.definition.specs.Image as image
-use Rattle.definition.specs.Image.{rows_from, rows_in, count_of, key_at, value_at, value_end, is_image}
-use Rattle.laws.proofs.Lists.{part_slice}
-use Rattle.image.specs.Rows.{row_start, row_at, rows_left, RowIs}
+use Rattle.definition.specs.Image.{rows_from, rows_in, count_of, key_at, value_at, is_image}
+use Rattle.image.specs.Rows.{row_at, rows_left}
 use Rattle.image.specs.declared.Row.{Row}
 use Rattle.image.proofs.Rows.{rows_turn}
-use Rattle.image_judge.proofs.Judged.{judged}
 use Rattle.printing.specs.Putting.{decimal}
 use Rattle.fields.specs.Fields.{passed, bytes_end, followed, are_rows, is_reading}
-use Rattle.fields.proofs.Passing.{followed_none, followed_on}
+use Rattle.fields.proofs.Passing.{followed_on}
 
 module _ (contents bodies line : List ℕ) where
   -- i entries were passed, and `rest` is left of the line
@@ -40,50 +39,30 @@ module _ (contents bodies line : List ℕ) where
         empty [] = refl
         empty (c ∷ t) = ne_eqb (length (c ∷ t)) 0 (λ e. omega arith)
 
-    -- the row at hand, as the code takes its key and value
-    module _ (h : i < count_of contents) (r : Row) (e : RowIs contents i r) where
-      abbrev key : List ℕ
-      key = take (r.start + r.key - r.start) (drop r.start bodies)
+    -- the row at hand, by its key and its value
+    module _ (h : i < count_of contents) (key : List ℕ) (is_key : key ≡ key_at bodies (row_at contents i)) where
+      abbrev next : List ℕ → Bool
+      next u = followed (bytes_end (value_at bodies (row_at contents i)) u) (are_rows (rows_left contents (count_of contents) (i + 1)) bodies) u
 
-      abbrev value : List ℕ
-      value = take (r.start + r.key + r.value - (r.start + r.key)) (drop (r.start + r.key) bodies)
-
-      turn : are_rows (rows_in contents) bodies line
-          ≡ followed (bytes_end key rest) (λ u. followed (bytes_end value u) (are_rows (rows_left contents (count_of contents) (i + 1)) bodies) u) rest
+      turn : are_rows (rows_in contents) bodies line ≡ followed (bytes_end key rest) next rest
       unfolding are_rows
-      turn =
-          let k : key ≡ key_at bodies (row_at contents i) = part_slice bodies r.start (r.start + r.key) ∙ ap (key_at bodies) e.is in
-          let v : value ≡ value_at bodies (row_at contents i) = part_slice bodies (r.start + r.key) (r.start + r.key + r.value) ∙ ap (value_at bodies) e.is in
-          sym w.same ∙ ap (λ (rs : List image.Row). are_rows rs bodies rest) (rows_turn contents (count_of contents) i h) ∙ rw (k, v) refl
+      turn = sym w.same ∙ ap (λ (rs : List image.Row). are_rows rs bodies rest) (rows_turn contents (count_of contents) i h) ∙ rw (← is_key) refl
 
-      module _ (k : ℕ) (is_key : k ≡ bytes_end key rest) where
-        pub key_differs : k ≡ 0 → false ≡ are_rows (rows_in contents) bodies line
-        key_differs z = sym (turn ∙ followed_none _ _ _ (sym is_key ∙ z))
+      pub key_differs : None ≡ bytes_end key rest → false ≡ are_rows (rows_in contents) bodies line
+      key_differs e = sym (turn ∙ rw (← e) refl)
 
-        module _ (some : k ≡ 0 → ⊥) (v : ℕ) (is-value : v ≡ bytes_end value (take (length rest - k) (drop k rest))) where
-          turned : are_rows (rows_in contents) bodies line ≡ followed v (are_rows (rows_left contents (count_of contents) (i + 1)) bodies) (take (length rest - k) (drop k rest))
-          turned =
-              let t : are_rows (rows_in contents) bodies line
-              ≡ followed k (λ u. followed (bytes_end value u) (are_rows (rows_left contents (count_of contents) (i + 1)) bodies) u) rest =
-              rw is_key turn in
-              rw is-value (t ∙ followed_on k _ rest some)
+      module _ (k : ℕ) (ends : Some k ≡ bytes_end key rest) (value : List ℕ) (is_value : value ≡ value_at bodies (row_at contents i)) where
+        abbrev pub u : List ℕ
+        u = take (length rest - k) (drop k rest)
 
-          pub value_differs : v ≡ 0 → false ≡ are_rows (rows_in contents) bodies line
-          value_differs z = sym (turned ∙ followed_none v _ _ z)
+        turned : are_rows (rows_in contents) bodies line ≡ followed (bytes_end value u) (are_rows (rows_left contents (count_of contents) (i + 1)) bodies) u
+        turned = rw is_value (turn ∙ ap (λ (o : Option ℕ). followed o next rest) (sym ends) ∙ followed_on k next rest)
 
-          pub walk_next : (v ≡ 0 → ⊥)
-              → Walk (take (length (take (length rest - k) (drop k rest)) - v) (drop v (take (length rest - k) (drop k rest)))) (i + 1)
-          walk_next z = record { most = omega arith; same = sym (turned ∙ followed_on v _ _ z) }
+        pub value_differs : None ≡ bytes_end value u → false ≡ are_rows (rows_in contents) bodies line
+        value_differs e = sym (turned ∙ rw (← e) refl)
 
--- where the rows of an image lie
-module _ (contents bodies : List ℕ) (image : is_image contents bodies ≡ true) (i : ℕ) (h : i < count_of contents) where
-  pub row_there : row_start (i + 1) ≤ length contents
-  row_there = omega (arith, (judged contents bodies image).rows_within)
-
-  pub row_inside : (r : Row) → RowIs contents i r → r.start + r.key + r.value ≤ length bodies
-  row_inside r e =
-      let j = judged contents bodies image in
-      omega (arith, j.row_inside i h, j.used_most, j.bodies_long, ap value_end e.is)
+        pub walk_next : (v : ℕ) → Some v ≡ bytes_end value u → Walk (take (length u - v) (drop v u)) (i + 1)
+        walk_next v e = record { most = omega arith; same = sym (turned ∙ rw (← e) (followed_on v (are_rows (rows_left contents (count_of contents) (i + 1)) bodies) u)) }
 
 -- ---- A reading: its opens, its entries, and its rows
 
@@ -92,21 +71,21 @@ module _ (opens entries : ℕ) (contents bodies t : List ℕ) where
   unfolding is_reading
   no_image e = rw e refl
 
-  module _ (image : is_image contents bodies ≡ true) (a : ℕ) (is-opens : a ≡ passed (ascii " " ++ decimal opens) t) where
-    begins : is_reading opens entries contents bodies t ≡ followed a (λ u. followed (passed (ascii " " ++ decimal entries) u) (are_rows (rows_in contents) bodies) u) t
+  module _ (image : is_image contents bodies ≡ true) where
+    pub other_opens : None ≡ passed (ascii " " ++ decimal opens) t → false ≡ is_reading opens entries contents bodies t
     unfolding is_reading
-    begins = rw (image, ← is-opens) refl
+    other_opens e = rw (image, ← e) refl
 
-    pub other_opens : a ≡ 0 → false ≡ is_reading opens entries contents bodies t
-    other_opens z = sym (begins ∙ followed_none a _ t z)
+    module _ (a : ℕ) (is_opens : Some a ≡ passed (ascii " " ++ decimal opens) t) where
+      abbrev pub after : List ℕ
+      after = take (length t - a) (drop a t)
 
-    module _ (some : a ≡ 0 → ⊥) (b : ℕ) (is-entries : b ≡ passed (ascii " " ++ decimal entries) (take (length t - a) (drop a t))) where
-      goes_on : is_reading opens entries contents bodies t ≡ followed b (are_rows (rows_in contents) bodies) (take (length t - a) (drop a t))
-      goes_on = rw is-entries (begins ∙ followed_on a _ t some)
+      goes_on : is_reading opens entries contents bodies t ≡ followed (passed (ascii " " ++ decimal entries) after) (are_rows (rows_in contents) bodies) after
+      unfolding is_reading
+      goes_on = rw (image, ← is_opens) (followed_on a (λ u. followed (passed (ascii " " ++ decimal entries) u) (are_rows (rows_in contents) bodies) u) t)
 
-      pub other_entries : b ≡ 0 → false ≡ is_reading opens entries contents bodies t
-      other_entries z = sym (goes_on ∙ followed_none b _ _ z)
+      pub other_entries : None ≡ passed (ascii " " ++ decimal entries) after → false ≡ is_reading opens entries contents bodies t
+      other_entries e = sym (goes_on ∙ rw (← e) refl)
 
-      pub has_rows : (b ≡ 0 → ⊥) → let u = take (length t - a) (drop a t) in
-          are_rows (rows_in contents) bodies (take (length u - b) (drop b u)) ≡ is_reading opens entries contents bodies t
-      has_rows z = sym (goes_on ∙ followed_on b _ _ z)
+      pub has_rows : (b : ℕ) → Some b ≡ passed (ascii " " ++ decimal entries) after → are_rows (rows_in contents) bodies (take (length after - b) (drop b after)) ≡ is_reading opens entries contents bodies t
+      has_rows b e = sym (goes_on ∙ rw (← e) (followed_on b (are_rows (rows_in contents) bodies) after))

@@ -1,2 +1,3 @@
 -- Laws that the proofs of this crate lean on.
 pub mod Names
+pub mod Below

@@ -4,14 +4,13 @@
 ghost use Rattle.std.specs.Prelude.{◌≡◌};
 ghost use Rattle.definition.specs.Lists.{lower};
 ghost use Rattle.definition.specs.Archive.{is_file_name};
-ghost use Rattle.byte_classes.specs.Classes.{byte_classes};
 ghost use Rattle.file_names.specs.Names.{ended, dotted, lettered, next, passes};
 
-use byte_classes::{allowed_in_quark_name, byte_classes};
+use byte_classes::Classes;
 use limits::FILE_NAME_BYTES;
 
 // What a name has since its last `/`.
-#[derive(Drop)]
+#[derive(Clone, Copy, PartialEq, Eq)]
 enum Part {
     Empty,
     Dot,
@@ -26,20 +25,7 @@ enum Part {
 pub fn lower(a: &[u8], b: &[u8]) -> bool
     ensures { result ≡ lower a.now b.now }
 {
-    let mut i = 0;
-    while i < a.len() {
-        if b.len() <= i {
-            return false;
-        }
-        if a[i] < b[i] {
-            return true;
-        }
-        if b[i] < a[i] {
-            return false;
-        }
-        i += 1;
-    }
-    i < b.len()
+    a < b
 }
 
 // After a `/`, which ends a part that may stand.
@@ -48,10 +34,7 @@ fn ended(part: Part) -> Part
 {
     match part {
         Part::Good => Part::Empty,
-        Part::Empty => Part::Bad,
-        Part::Dot => Part::Bad,
-        Part::DotDot => Part::Bad,
-        Part::Bad => Part::Bad,
+        _ => Part::Bad,
     }
 }
 
@@ -62,8 +45,7 @@ fn dotted(part: Part) -> Part
     match part {
         Part::Empty => Part::Dot,
         Part::Dot => Part::DotDot,
-        Part::DotDot => Part::Good,
-        Part::Good => Part::Good,
+        Part::DotDot | Part::Good => Part::Good,
         Part::Bad => Part::Bad,
     }
 }
@@ -73,17 +55,13 @@ fn lettered(part: Part) -> Part
     ensures { result ≡ lettered part }
 {
     match part {
-        Part::Empty => Part::Good,
-        Part::Dot => Part::Good,
-        Part::DotDot => Part::Good,
-        Part::Good => Part::Good,
         Part::Bad => Part::Bad,
+        _ => Part::Good,
     }
 }
 
 // What one more byte makes of a part.
-fn next(classes: &[u8; 256], part: Part, c: u8) -> Part
-    requires { classes.now ≡ byte_classes }
+fn next(classes: &Classes, part: Part, c: u8) -> Part
     ensures { result ≡ next part c }
 {
     if c == b'/' {
@@ -92,7 +70,7 @@ fn next(classes: &[u8; 256], part: Part, c: u8) -> Part
     if c == b'.' {
         return dotted(part);
     }
-    if allowed_in_quark_name(classes, c) {
+    if classes.allowed_in_quark_name(c) {
         return lettered(part);
     }
     Part::Bad
@@ -102,13 +80,7 @@ fn next(classes: &[u8; 256], part: Part, c: u8) -> Part
 fn passes(part: Part) -> bool
     ensures { result ≡ passes part }
 {
-    match part {
-        Part::Good => true,
-        Part::Empty => false,
-        Part::Dot => false,
-        Part::DotDot => false,
-        Part::Bad => false,
-    }
+    part == Part::Good
 }
 
 // One to 96 bytes, parts joined by single `/`.
@@ -118,12 +90,10 @@ pub fn is_file_name(name: &[u8]) -> bool
     if FILE_NAME_BYTES < name.len() {
         return false;
     }
-    let classes = byte_classes();
+    let classes = Classes::new();
     let mut part = Part::Empty;
-    let mut i = 0;
-    while i < name.len() {
-        part = next(&classes, part, name[i]);
-        i += 1;
+    for c in name {
+        part = next(&classes, part, *c);
     }
     passes(part)
 }

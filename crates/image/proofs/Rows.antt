@@ -8,7 +8,7 @@ use lib.ListN.{get_or, drop}
 use lib.Seq.{get_or-drop, drop-drop}
 use Rattle.definition.specs.Limits.{row_words}
 use Rattle.definition.specs.Image.{Row, rows_from, origins_from, rows_in, count_of, origins_in}
-use Rattle.image.specs.Rows.{row_start_by, row_start, row_at_by, row_at, origin_at, rows_left_by, rows_left, origins_left}
+use Rattle.image.specs.Rows.{row_start_by, row_at_by, row_at, origin_at, rows_left_by, rows_left, origins_left}
 
 -- the next row begins where a row ends
 pub next_start : (width i : ℕ) → row_start_by width i + width ≡ row_start_by width (i + 1)

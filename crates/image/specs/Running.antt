@@ -1,5 +1,5 @@
 -- What an event does to the totals and the two buffers. proofs/Images.antt shows that a run leaves what the definition says.
-use Rattle.std.specs.Prelude.{List, [], ◌∷◌, ◌++◌, ◌≡◌, ℕ, ◌+◌, ◌-◌, ◌≤◌, leb, ltb, length, take, set, if◌then◌else◌}
+use Rattle.std.specs.Prelude.{List, [], ◌∷◌, ◌++◌, ◌≡◌, ℕ, ◌+◌, ◌-◌, ◌≤◌, leb, ltb, length, take, set, if◌then◌else◌, Result, Ok, Err}
 use Rattle.std.proofs.Math.Seq.{paste}
 use Rattle.definition.specs.Lists.{zeroes}
 use Rattle.definition.specs.Limits.{most_opens, most_entries, most_parts, body_bytes, contents_words}
@@ -10,8 +10,8 @@ use Rattle.definition.specs.Image.{Row, key_of}
 use Rattle.definition.specs.Reading.{size_of, Outcome, outcome, accepted, refused}
 use Rattle.image.specs.Rows.{row_start, with_row}
 use Rattle.image.specs.declared.Totals.{Totals}
-use Rattle.image.specs.declared.Step.{Step}
-use Rattle.image.specs.declared.Step.TheVariants.{Go, Stop}
+use Rattle.refusal.specs.Numbers.{number}
+use Rattle.refusal.specs.declared.Refusal.{Refusal}
 
 -- the totals and the buffers, whose lengths are just those of an image
 pub record World : Type 0 where
@@ -88,9 +88,9 @@ run fs w [] = went w
 run fs w (e ∷ es) = and_then (step fs w e) (λ v. run fs v es)
 
 -- a call's answer, with the buffers as it left them
-unfoldable pub answered : Step → List ℕ → List ℕ → Ran
-answered (Go s) c b = went (world s c b)
-answered (Stop k) c b = stopped k c b
+unfoldable pub answered : Result Totals Refusal → List ℕ → List ℕ → Ran
+answered (Ok s) c b = went (world s c b)
+answered (Err k) c b = stopped (number k) c b
 
 -- ---- The end of a reading
 

@@ -1,7 +1,7 @@
 // The two lent buffers of a database image, as a reading writes them.
 #![tactic(auto)]
 
-ghost use Rattle.std.specs.Prelude.{◌≡◌, ◌++◌, ◌+◌, ◌-◌, ◌≤◌, ◌<◌, length, take, get_or};
+ghost use Rattle.std.specs.Prelude.{◌≡◌, ◌+◌, ◌≤◌, ◌<◌, length, get_or};
 ghost use Rattle.definition.specs.Lists.{zeroes};
 ghost use Rattle.image.specs.Rows.{row_start_by, row_start, origin_at, with_row, row_of, InWords, RowIsBy, RowIs};
 ghost use Rattle.image.specs.Running.{Room, closed_words, closed_bytes};
@@ -14,37 +14,6 @@ pub struct Totals {
     pub opens: usize,
     pub entries: usize,
     pub used: usize,
-}
-
-// A step of a reading: the totals after it, or the number that refuses it.
-#[derive(Drop)]
-pub enum Step {
-    Go(Totals),
-    Stop(u8),
-}
-
-// Zeroes the words from `from` on.
-fn clear_words(words: &mut [u16], from: usize)
-    requires { from ≤ length words.old }
-    ensures { words.new ≡ take from words.old ++ zeroes (length words.old - from) }
-{
-    let mut i = from;
-    while i < words.len() {
-        words[i] = 0;
-        i += 1;
-    }
-}
-
-// Zeroes the bytes from `from` on.
-fn clear_bytes(bytes: &mut [u8], from: usize)
-    requires { from ≤ length bytes.old }
-    ensures { bytes.new ≡ take from bytes.old ++ zeroes (length bytes.old - from) }
-{
-    let mut i = from;
-    while i < bytes.len() {
-        bytes[i] = 0;
-        i += 1;
-    }
 }
 
 // An entry's row: where its key starts among the bodies, and the lengths of key and value. The value stands behind the key.
@@ -115,9 +84,11 @@ pub fn write_row(words: &mut [u16], i: usize, row: Row, origin: u16)
 pub fn empty_image(words: &mut [u16], store: &mut [u8])
     ensures { (words.new ≡ zeroes (length words.old)) × (store.new ≡ zeroes (length store.old)) }
 {
-    clear_words(words, 0);
-    clear_bytes(store, 0);
+    words.fill(0);
+    store.fill(0);
 }
+
+// `Room` stands in each clause: a type would hold both buffers, lent to be written, and each answer speaks of what stands in the two afterwards.
 
 // Closes an image whose rows are written: the entry count and the bytes used stand before the rows, and all behind is zeroed.
 pub fn close_image(totals: Totals, words: &mut [u16], store: &mut [u8])
@@ -128,6 +99,6 @@ pub fn close_image(totals: Totals, words: &mut [u16], store: &mut [u8])
     let used = totals.used;
     words[0] = entries as u16;
     words[1] = used as u16;
-    clear_words(words, row_start(ROW_WORDS, entries));
-    clear_bytes(store, used);
+    words[row_start(ROW_WORDS, entries)..].fill(0);
+    store[used..].fill(0);
 }

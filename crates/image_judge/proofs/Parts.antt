@@ -4,7 +4,8 @@ use mathlib.Core.List.{List}
 use mathlib.Core.Path.{◌≡◌, ap, ◌∙◌}
 use Prim.Native.Nat.{ℕ, ◌+◌, ◌-◌, ◌≤◌, ◌<◌}
 use native.Mathlib.Omega.{arith}
-use lib.ListN.{length, take, drop}
+use lib.ListN.{length, take, drop, length-take}
+use Rattle.definition.specs.Limits.{body_bytes}
 use Rattle.definition.specs.Image.{count_of, value_end, key_at, value_at, is_key, is_image}
 use Rattle.laws.proofs.Lists.{part_slice}
 use Rattle.image.specs.declared.Row.{Row}
@@ -32,3 +33,9 @@ module _ (contents bodies : List ℕ) (i : ℕ) (r : Row) (e : RowIs contents i 
 
     pub key_is : is_key (take (r.start + r.key - r.start) (drop r.start bodies)) ≡ true
     key_is = rw key_part_lem ((judged contents bodies image).row_key i h)
+
+    pub key_short : length (take (r.start + r.key - r.start) (drop r.start bodies)) ≤ body_bytes
+    key_short =
+        let j = judged contents bodies image in
+        let v : r.start + r.key + r.value ≡ value_end (row_at contents i) = ap value_end e.is in
+        omega (arith, length-take (r.start + r.key - r.start) (drop r.start bodies), v, j.row_inside i h, j.used_most)

@@ -1,4 +1,5 @@
 -- The includes by their places are the definition's. Assumes nothing.
+use Rattle.std.specs.Prelude.{Option, Some, None}
 use mathlib.Core.Bool.{Bool, true, false}
 use mathlib.Core.List.{List, [], ◌∷◌, ◌++◌, map, map-append}
 use mathlib.Core.Path.{◌≡◌, refl, sym, ap, ◌∙◌}
@@ -15,12 +16,11 @@ use Rattle.laws.proofs.Parsing.{many_stop, many_more}
 use Rattle.laws.proofs.Keys.{line_shrinks}
 use Rattle.parser.specs.Putting.{entry_from, line_after}
 use Rattle.lines.specs.Places.{line_in}
+use Rattle.lines.specs.declared.Directive.{Directive}
 use Rattle.lines.specs.declared.Line.{Line}
 use Rattle.lines.specs.declared.Line.TheVariants.{Skip, Include, Entry}
 use Rattle.lines.proofs.Lined.{Lined}
 use Rattle.include_lines.specs.Includes.{included_by, includes_of, name_in, taken, placed, includes_from, starting_with, naming}
-use Rattle.include_lines.specs.declared.Next.{Next}
-use Rattle.include_lines.specs.declared.Next.TheVariants.{Include as NextInclude, End}
 use Rattle.include_lines.proofs.Passing.{entry_found, line_is, line_takes, line_turn, looking_first, looking_done}
 
 pub lines_end : lines_of [] ≡ []
@@ -39,10 +39,10 @@ includes_step : (t : List ℕ) (at : ℕ) (l : Line) → Lined (drop at t) (line
     → named at t l ++ includes_of (drop (taken (drop at t) l) (drop at t)) ≡ includes_of (drop at t)
 unfolding named placed taken includes_of included_by
 includes_step t at (Skip n) l = rw (lines_step (drop at t) skipped (drop n (drop at t)) l.is) refl
-includes_step t at (Include a m n) l =
-    rw (lines_step (drop at t) (include (take m (drop a (drop at t)))) (drop n (drop at t)) l.is, drop-drop a at t) refl
-includes_step t at (Entry v count size verbatim) l =
-    rw (lines_step (drop at t) (entry (entry_from (drop at t) v)) (drop (line_after (drop at t) v) (drop at t)) (entry_found (drop at t) v count size l)) refl
+includes_step t at (Include d) l =
+    rw (lines_step (drop at t) (include (take d.size (drop d.start (drop at t)))) (drop d.end (drop at t)) l.is, drop-drop d.start at t) refl
+includes_step t at (Entry r) l =
+    rw (lines_step (drop at t) (entry (entry_from (drop at t) r.value)) (drop (line_after (drop at t) r.value) (drop at t)) (entry_found (drop at t) l)) refl
 
 names_end : (t : List ℕ) (from : ℕ) → length t ≤ from → map (name_in t) (includes_from from t) ≡ includes_of (drop from t)
 unfolding includes_of included_by
@@ -71,6 +71,6 @@ names_in (suc k) t from h = by (ltb from (length t)) refl (names_in k t)
 pub names_are : (t : List ℕ) (from : ℕ) → map (name_in t) (includes_from from t) ≡ includes_of (drop from t)
 names_are t from = names_in (length t) t from (omega arith)
 
-pub names_next : (t : List ℕ) (from : ℕ) (r : Next) → includes_from from t ≡ starting_with t r → includes_of (drop from t) ≡ naming t r
-names_next t from (NextInclude a l n) e = sym (names_are t from) ∙ ap (map (name_in t)) e ∙ ap (λ ns. take l (drop a t) ∷ ns) (names_are t n)
-names_next t from End e = sym (names_are t from) ∙ ap (map (name_in t)) e
+pub names_next : (t : List ℕ) (from : ℕ) (r : Option Directive) → includes_from from t ≡ starting_with t r → includes_of (drop from t) ≡ naming t r
+names_next t from (Some d) e = sym (names_are t from) ∙ ap (map (name_in t)) e ∙ ap (λ ns. take d.size (drop d.start t) ∷ ns) (names_are t d.end)
+names_next t from None e = sym (names_are t from) ∙ ap (map (name_in t)) e

@@ -16,12 +16,14 @@ use Rattle.copies.proofs.Copying.{plain_byte}
 use Rattle.escapes.specs.Pieces.{escape_in}
 use Rattle.escapes.specs.declared.Piece.{Piece}
 use Rattle.values.specs.Decoded.{rest_at}
-use Rattle.values.proofs.Pieces.{Yields, IsPiece, plain_yields, answer_piece}
-use Rattle.values.proofs.Decoding.{over, ended, escaped}
+use Rattle.values.proofs.Pieces.{Yields, plain_yields}
+use Rattle.values.proofs.Decoding.{over, ended, escape_there}
 use Rattle.values.proofs.Values.{rest_suffix}
 use Rattle.parser.specs.Putting.{entry_from, line_after}
 use Rattle.parser.proofs.Entries.{next_line, last_line, after_value, value_inside}
 use Rattle.lines.specs.Places.{line_in}
+use Rattle.lines.specs.declared.Directive.{Directive}
+use Rattle.lines.specs.declared.Resource.{Resource}
 use Rattle.lines.specs.declared.Line.{Line}
 use Rattle.lines.specs.declared.Line.TheVariants.{Skip, Include, Entry}
 use Rattle.lines.proofs.Lined.{Lined, Enters, lined}
@@ -32,18 +34,21 @@ use Rattle.include_lines.specs.Includes.{place, taken, placed, places_in, includ
 stopped : (t : List ℕ) → piece_at t ≡ nothing → rest_at t ≡ t
 stopped t e = ap (λ (r : Parsed (List ℕ)). r.rest) (many_stop piece_at piece_shrinks t e)
 
-pub piece_takes : {t ys : List ℕ} {n : ℕ} → Yields t ys n → 1 ≤ n → PieceTakes t n
-piece_takes g h = record { rest = g.rest; inside = g.inside; ends = λ e. absurd (omega arith) }
+piece_takes : {t ys : List ℕ} {n : ℕ} → Yields t ys n → 1 ≤ n → PieceTakes t n
+piece_takes g h = record { rest = g.rest; some = h; inside = g.inside }
 
-pub takes_none : (t : List ℕ) → 0 < length t → get_or t 0 0 ≡ newline → PieceTakes t 0
-takes_none t h e = record { rest = refl; inside = omega arith; ends = λ z. stopped t (ended t 0 h e) }
+pub ends_over : (t : List ℕ) → length t ≤ 0 → rest_at t ≡ t
+ends_over t h = stopped t (over t 0 h)
+
+pub ends_newline : (t : List ℕ) → 0 < length t → get_or t 0 0 ≡ newline → rest_at t ≡ t
+ends_newline t h e = stopped t (ended t 0 h e)
 
 pub takes_byte : (t : List ℕ) → 0 < length t → (get_or t 0 0 ≡ newline → ⊥) → (get_or t 0 0 ≡ backslash → ⊥) → PieceTakes t 1
 takes_byte [] h e f = absurd (omega arith)
 takes_byte (c ∷ t) h e f = piece_takes (plain_yields c t (plain_byte c e f)) (omega arith)
 
-pub takes_escape : (t : List ℕ) → 0 < length t → get_or t 0 0 ≡ backslash → {p : Piece} → p ≡ escape_in (take (length t - 1) (drop 1 t)) → IsPiece t p
-takes_escape t h e f = rw (escaped t 0 h e) at (answer_piece _ f)
+pub takes_escape : (t : List ℕ) → 0 < length t → get_or t 0 0 ≡ backslash → {p : Piece} → p ≡ escape_in (take (length t - 1) (drop 1 t)) → PieceTakes t p.len
+takes_escape t h e f = let p = escape_there t 0 h e f in piece_takes p.0 p.1
 
 -- ---- The loop over pieces
 
@@ -59,8 +64,10 @@ pub passing_first : (t : List ℕ) → Passing t 0
 passing_first t = record { rest = refl; inside = omega arith }
 
 module _ {t : List ℕ} {i : ℕ} (p : Passing t i) where
-  pub passed_all : length t ≤ i → i ≡ length t - length (rest_at t)
-  passed_all h = omega (arith, p.inside, ap length (p.rest ∙ stopped (drop i t) (over t i h)), length-drop i t)
+  pub passed_value : (let u = take (length t - i) (drop i t) in rest_at u ≡ u) → i ≡ length t - length (rest_at t)
+  passed_value e =
+      let f : rest_at (drop i t) ≡ drop i t = rw (part_rest t i) at e in
+      omega (arith, p.inside, ap length (p.rest ∙ f), length-drop i t)
 
   module _ {n : ℕ} (g : PieceTakes (take (length t - i) (drop i t)) n) where
     here : PieceTakes (drop i t) n
@@ -68,9 +75,6 @@ module _ {t : List ℕ} {i : ℕ} (p : Passing t i) where
 
     pub piece_inside : i + n ≤ length t
     piece_inside = omega (arith, here.inside, length-drop i t, p.inside)
-
-    pub passed_value : n ≡ 0 → i ≡ length t - length (rest_at t)
-    passed_value e = omega (arith, p.inside, ap length (p.rest ∙ here.ends e), length-drop i t)
 
     pub passing_next : Passing t (i + n)
     passing_next = record { rest = p.rest ∙ here.rest ∙ rw (drop-drop n i t) refl; inside = piece_inside }
@@ -106,15 +110,15 @@ pub record Takes (u : List ℕ) (l : Line) : Type 0 where
 less : (u : List ℕ) (x : text.Line) (n : ℕ) → line_at u ≡ found x (drop n u) → 1 ≤ n
 less u x n e = omega (arith, line_shrinks u x (drop n u) e, length-drop n u)
 
-pub entry_found : (u : List ℕ) (v count size : ℕ) {verbatim : _} → Enters u (line_at u) v count size verbatim → line_at u ≡ found (entry (entry_from u v)) (drop (line_after u v) u)
+pub entry_found : (u : List ℕ) {r : Resource} → Enters u (line_at u) r → line_at u ≡ found (entry (entry_from u r.value)) (drop (line_after u r.value) u)
 unfolding resource_of
-entry_found u v count size l = l.is ∙ rw (after_value u v l.inside).same refl
+entry_found u {r} l = l.is ∙ rw (after_value u r.value l.inside).same refl
 
 pub takes : (u : List ℕ) (l : Line) → Lined u (line_at u) l → Takes u l
 unfolding taken
 takes u (Skip n) l = record { some = less u skipped n l.is; inside = l.inside }
-takes u (Include a m n) l = record { some = less u (include (take m (drop a u))) n l.is; inside = l.inside }
-takes u (Entry v count size verbatim) l = record { some = less u (entry (entry_from u v)) (line_after u v) (entry_found u v count size l); inside = omega arith }
+takes u (Include d) l = record { some = less u (include (take d.size (drop d.start u))) d.end l.is; inside = l.inside }
+takes u (Entry r) l = record { some = less u (entry (entry_from u r.value)) (line_after u r.value) (entry_found u l); inside = omega arith }
 
 -- ---- The includes from a line on
 
@@ -194,13 +198,13 @@ module _ {t : List ℕ} {from at : ℕ} (l : Looking t from at) where
       unfolding taken placed
       looking_skip = record { same = l.same ∙ line_turn t at h e; after = omega (arith, l.after) }
 
-    module _ {v count size : ℕ} {verbatim : _} (e : Entry v count size verbatim ≡ line_in (take (length t - at) (drop at t))) where
-      pub value_in : v ≤ length (take (length t - at) (drop at t))
+    module _ {r : Resource} (e : Entry r ≡ line_in (take (length t - at) (drop at t))) where
+      pub value_in : r.value ≤ length (take (length t - at) (drop at t))
       value_in = rw (part_rest t at) (line_is t at h e).inside
 
-      module _ {n : ℕ} (f : n ≡ line_after (take (length t - at) (drop at t)) v) where
-        after_here : n ≡ line_after (drop at t) v
-        after_here = f ∙ ap (λ (u : List ℕ). line_after u v) (part_rest t at)
+      module _ {n : ℕ} (f : n ≡ line_after (take (length t - at) (drop at t)) r.value) where
+        after_here : n ≡ line_after (drop at t) r.value
+        after_here = f ∙ ap (λ (u : List ℕ). line_after u r.value) (part_rest t at)
 
         pub entry_inside : at + n ≤ length t
         unfolding taken
@@ -214,18 +218,18 @@ module _ {t : List ℕ} {from at : ℕ} (l : Looking t from at) where
         unfolding taken placed
         looking_entry = record { same = l.same ∙ (rw (← after_here) at (line_turn t at h e)); after = omega (arith, l.after) }
 
-    module _ {a m n : ℕ} (e : Include a m n ≡ line_in (take (length t - at) (drop at t))) where
-      pub name_inside : at + a + m ≤ length t
+    module _ {d : Directive} (e : Include d ≡ line_in (take (length t - at) (drop at t))) where
+      pub name_inside : at + d.start + d.size ≤ length t
       name_inside = omega (arith, (line_is t at h e).named, length-drop at t)
 
-      pub include_inside : at + n ≤ length t
+      pub include_inside : at + d.end ≤ length t
       unfolding taken
       include_inside = line_inside t at h e
 
-      pub include_after : from < at + n
+      pub include_after : from < at + d.end
       unfolding taken
       include_after = omega (arith, (line_takes t at h e).some, l.after)
 
-      pub looking_found : includes_from from t ≡ place (at + a) m (at + n) ∷ includes_from (at + n) t
+      pub looking_found : includes_from from t ≡ place (at + d.start) d.size (at + d.end) ∷ includes_from (at + d.end) t
       unfolding taken placed
       looking_found = l.same ∙ line_turn t at h e

@@ -1,13 +1,12 @@
 -- The includes of a text, by their places there: what the code answers. proofs/Named.antt shows that they are the definition's.
-use Rattle.std.specs.Prelude.{List, [], ◌∷◌, ◌++◌, ◌≡◌, ℕ, zero, suc, ◌+◌, ◌-◌, ◌≤◌, ◌<◌, length, take, drop}
+use Rattle.std.specs.Prelude.{Option, Some, None, List, [], ◌∷◌, ◌++◌, ◌≡◌, ℕ, zero, suc, ◌+◌, ◌-◌, ◌≤◌, ◌<◌, length, take, drop}
 use Rattle.definition.specs.Text as text
 use Rattle.values.specs.Decoded.{rest_at}
 use Rattle.parser.specs.Putting.{line_after}
 use Rattle.lines.specs.Places.{line_in}
+use Rattle.lines.specs.declared.Directive.{Directive}
 use Rattle.lines.specs.declared.Line.{Line}
 use Rattle.lines.specs.declared.Line.TheVariants.{Skip, Include, Entry}
-use Rattle.include_lines.specs.declared.Next.{Next}
-use Rattle.include_lines.specs.declared.Next.TheVariants.{Include as NextInclude, End}
 
 -- ---- The definition's
 
@@ -33,14 +32,14 @@ name_in t (place start size next) = take size (drop start t)
 -- how many bytes the line at the front of t takes
 unfoldable pub taken : List ℕ → Line → ℕ
 taken t (Skip n) = n
-taken t (Include a l n) = n
-taken t (Entry v count size verbatim) = line_after t v
+taken t (Include d) = d.end
+taken t (Entry r) = line_after t r.value
 
 -- the include that a line which starts at `at` is, if it is one
 unfoldable pub placed : ℕ → Line → List Place
 placed at (Skip n) = []
-placed at (Include a l n) = place (at + a) l (at + n) ∷ []
-placed at (Entry v count size verbatim) = []
+placed at (Include d) = place (at + d.start) d.size (at + d.end) ∷ []
+placed at (Entry r) = []
 
 -- of t, which starts at `at`, without its first s bytes
 unfoldable pub places_in : ℕ → ℕ → List ℕ → List Place
@@ -53,22 +52,27 @@ unfoldable pub includes_from : ℕ → List ℕ → List Place
 includes_from from t = places_in 0 from (drop from t)
 
 -- those that are left: the one that the code answers, and those after its line
-abbrev pub starting_with : List ℕ → Next → List Place
-starting_with t (NextInclude a l n) = place a l n ∷ includes_from n t
-starting_with t End = []
+abbrev pub starting_with : List ℕ → Option Directive → List Place
+starting_with t (Some d) = place d.start d.size d.end ∷ includes_from d.end t
+starting_with t None = []
 
 -- their names
-abbrev pub naming : List ℕ → Next → List (List ℕ)
-naming t (NextInclude a l n) = take l (drop a t) ∷ includes_of (drop n t)
-naming t End = []
+abbrev pub naming : List ℕ → Option Directive → List (List ℕ)
+naming t (Some d) = take d.size (drop d.start t) ∷ includes_of (drop d.end t)
+naming t None = []
 
 -- an include stands in the text, and its line after `from`
-abbrev pub Inside : List ℕ → ℕ → Next → Type 0
-Inside t from (NextInclude a l n) = (a + l ≤ length t) × (from < n) × (n ≤ length t)
-Inside t from End = Unit {0}
+abbrev pub Inside : List ℕ → ℕ → Option Directive → Type 0
+Inside t from (Some d) = (d.start + d.size ≤ length t) × (from < d.end) × (d.end ≤ length t)
+Inside t from None = Unit {0}
 
--- the first piece of a value has n bytes, and 0 if the value ends
+-- n bytes give the first piece of a value
 pub record PieceTakes (t : List ℕ) (n : ℕ) : Type 0 where
   pub rest : rest_at t ≡ rest_at (drop n t)
+  pub some : 1 ≤ n
   pub inside : n ≤ length t
-  pub ends : n ≡ 0 → rest_at t ≡ t
+
+-- how many bytes give it, if the value does not end
+abbrev pub FirstPiece : List ℕ → Option ℕ → Type 0
+FirstPiece t (Some n) = PieceTakes t n
+FirstPiece t None = rest_at t ≡ t

@@ -1,8 +1,8 @@
 -- What is kept of a path stands for the definition's path, part by part, and at the end it is the path that is looked for. Assumes nothing.
 use Rattle.std.specs.Prelude.{if◌then◌else◌}
 use mathlib.Core.Bool.{Bool, true, false, ◌&&◌, ◌||◌, not}
-use mathlib.Core.List.{List, [], ◌∷◌, ◌++◌}
-use mathlib.Core.Option.{Option, some, none}
+use mathlib.Core.List.{List, [], ◌∷◌}
+use mathlib.Core.Option.{Option as Maybe, some, none}
 use mathlib.Core.Path.{◌≡◌, refl, sym, ap, ◌∙◌}
 use Prim.Native.Nat.{ℕ, zero, suc, ◌+◌, ◌-◌, ◌≤◌, ◌<◌}
 use native.Mathlib.Omega.{arith}
@@ -16,8 +16,7 @@ use Rattle.definition.specs.Archive.{folder_of, split, joined, reduced, ends_in_
 use Rattle.laws.proofs.Lists.{not_both, and_true}
 use Rattle.laws.proofs.Archive.{split_some}
 use Rattle.kept_parts.specs.declared.Kept.{Kept}
-use Rattle.kept_parts.specs.declared.Reduced.{Reduced}
-use Rattle.kept_parts.specs.declared.Reduced.TheVariants.{Go, Nothing}
+use Rattle.std.specs.Prelude.{Option, Some, None}
 use Rattle.paths.specs.Parts.{not_slash}
 use Rattle.kept_parts.specs.Keeping.{kept, Fits, end_below, put_below, has_room, with_part, bytes_with, without_part, Did, did, taken_part}
 use Rattle.include_paths.specs.Sought.{root, answering, and_then, taken_parts}
@@ -54,11 +53,11 @@ unfolding beneath Far all
 stands_root b h = record { fits = (omega arith, h); parts = []; path_is = refl; over_is = refl; good = refl; far = tt }
 
 -- a path that the definition has, or has not, and an answer that stands for it
-Reaches : Option (List ℕ) → Reduced → List ℕ → Type 0
-Reaches (some path) (Go k) b = Stands path k b
-Reaches (some path) Nothing b = ⊥
-Reaches none (Go k) b = ⊥
-Reaches none Nothing b = Unit {0}
+Reaches : Maybe (List ℕ) → Option Kept → List ℕ → Type 0
+Reaches (some path) (Some k) b = Stands path k b
+Reaches (some path) None b = ⊥
+Reaches none (Some k) b = ⊥
+Reaches none None b = Unit {0}
 
 -- ---- One part
 
@@ -174,7 +173,7 @@ module _ {path : List ℕ} {k : Kept} {b : List ℕ} (s : Stands path k b) where
 
 -- `..` and a name's part, by what is kept; `next` takes the parts behind, and `rest` is the definition's path after them
 module _ {path : List ℕ} {k : Kept} {b : List ℕ} (s : Stands path k b) where
-  up : (next : Kept → List ℕ → Did) (rest : List ℕ → Option (List ℕ))
+  up : (next : Kept → List ℕ → Did) (rest : List ℕ → Maybe (List ℕ))
       → ((path' : List ℕ) (k' : Kept) → Stands path' k' b → Reaches (rest path') (next k' b).answer (next k' b).bytes)
       → (ps : List (List ℕ)) → s.parts ≡ ps
       → Reaches (if is_empty path then none else rest (folder_of path)) (answering (without_part k b) b next).answer (answering (without_part k b) b next).bytes
@@ -193,7 +192,7 @@ module _ {path : List ℕ} {k : Kept} {b : List ℕ} (s : Stands path k b) where
       rw (path_some s q qs e, ne_eqb k.over 0 (λ z. omega (arith, over_suc s q qs e)))
       (f (folder_of path) (kept k.size (k.over - 1) true) (stands_back s q qs e))
 
-  down : (p : List ℕ) → is_empty p ≡ false → all not_slash p ≡ true → (next : Kept → List ℕ → Did) (rest : List ℕ → Option (List ℕ))
+  down : (p : List ℕ) → is_empty p ≡ false → all not_slash p ≡ true → (next : Kept → List ℕ → Did) (rest : List ℕ → Maybe (List ℕ))
       → ((path' : List ℕ) (k' : Kept) (b' : List ℕ) → Stands path' k' b' → Reaches (rest path') (next k' b').answer (next k' b').bytes)
       → (ps : List (List ℕ)) → s.parts ≡ ps
       → Reaches (rest (joined path p)) (next (with_part p k) (bytes_with p k b)).answer (next (with_part p k) (bytes_with p k b)).bytes
@@ -225,8 +224,8 @@ parts_reach (p ∷ ps) h path k b s =
         → ((path' : List ℕ) (k' : Kept) (b' : List ℕ) → Stands path' k' b' → Reaches (reduced path' ps) (taken_parts ps k' b').answer (taken_parts ps k' b').bytes)
         → Reaches
         (if e then none else if d then reduced path ps else if dd then (if is_empty path then none else reduced (folder_of path) ps) else reduced (joined path p) ps)
-        (and_then (if e then did Nothing b else if d then did (Go (kept k.size k.over true)) b else if dd then did (without_part k b) b else did (Go (with_part p k)) (bytes_with p k b)) (taken_parts ps)).answer
-        (and_then (if e then did Nothing b else if d then did (Go (kept k.size k.over true)) b else if dd then did (without_part k b) b else did (Go (with_part p k)) (bytes_with p k b)) (taken_parts ps)).bytes
+        (and_then (if e then did None b else if d then did (Some (kept k.size k.over true)) b else if dd then did (without_part k b) b else did (Some (with_part p k)) (bytes_with p k b)) (taken_parts ps)).answer
+        (and_then (if e then did None b else if d then did (Some (kept k.size k.over true)) b else if dd then did (without_part k b) b else did (Some (with_part p k)) (bytes_with p k b)) (taken_parts ps)).bytes
     at true g d dd f ih = tt
     at false g true dd f ih = ih path (kept k.size k.over true) b (stands_dot s)
     at false g false true f ih = up s (taken_parts ps) (λ q. reduced q ps) (λ path' k'. ih path' k' b) s.parts refl
@@ -235,16 +234,16 @@ parts_reach (p ∷ ps) h path k b s =
 -- ---- The last part
 
 -- is the last part that was taken `.` or `..`?
-DotsAre : Reduced → Bool → Type 0
-DotsAre (Go k) e = k.dots ≡ e
-DotsAre Nothing e = Unit {0}
+DotsAre : Option Kept → Bool → Type 0
+DotsAre (Some k) e = k.dots ≡ e
+DotsAre None e = Unit {0}
 
 without_dots : (k : Kept) (b : List ℕ) → DotsAre (without_part k b) true
 unfolding without_part DotsAre
 without_dots k b = at (eqb k.over 0) (eqb k.size 0)
   where
     at : (x y : Bool)
-        → DotsAre (if x then (if y then Nothing else Go (kept (length (folder_of (take k.size b))) 0 true)) else Go (kept k.size (k.over - 1) true)) true
+        → DotsAre (if x then (if y then None else Some (kept (length (folder_of (take k.size b))) 0 true)) else Some (kept k.size (k.over - 1) true)) true
     at true true = tt
     at true false = refl
     at false y = refl
@@ -262,7 +261,7 @@ unfolding taken_part DotsAre
 last_dots p k b = at (is_empty p) (same p (ascii ".")) (same p (ascii ".."))
   where
     at : (e d dd : Bool)
-        → DotsAre (if e then did Nothing b else if d then did (Go (kept k.size k.over true)) b else if dd then did (without_part k b) b else did (Go (with_part p k)) (bytes_with p k b)).answer (d || dd)
+        → DotsAre (if e then did None b else if d then did (Some (kept k.size k.over true)) b else if dd then did (without_part k b) b else did (Some (with_part p k)) (bytes_with p k b)).answer (d || dd)
     at true d dd = tt
     at false true dd = refl
     at false false true = without_dots k b
@@ -272,16 +271,16 @@ dots_are : (p : List ℕ) (ps : List (List ℕ)) (k : Kept) (b : List ℕ) → D
 unfolding taken_parts ends_in_dots DotsAre
 dots_are p [] k b = at (taken_part p k b).answer (last_dots p k b)
   where
-    at : (r : Reduced) → DotsAre r (same p (ascii ".") || same p (ascii ".."))
+    at : (r : Option Kept) → DotsAre r (same p (ascii ".") || same p (ascii ".."))
         → DotsAre (answering r (taken_part p k b).bytes (taken_parts [])).answer (same p (ascii ".") || same p (ascii ".."))
-    at (Go k') h = h
-    at Nothing h = tt
+    at (Some k') h = h
+    at None h = tt
 dots_are p (q ∷ qs) k b = at (taken_part p k b).answer (λ k' b'. dots_are q qs k' b')
   where
-    at : (r : Reduced) → ((k' : Kept) (b' : List ℕ) → DotsAre (taken_parts (q ∷ qs) k' b').answer (ends_in_dots (q ∷ qs)))
+    at : (r : Option Kept) → ((k' : Kept) (b' : List ℕ) → DotsAre (taken_parts (q ∷ qs) k' b').answer (ends_in_dots (q ∷ qs)))
         → DotsAre (answering r (taken_part p k b).bytes (taken_parts (q ∷ qs))).answer (ends_in_dots (q ∷ qs))
-    at (Go k') f = f k' (taken_part p k b).bytes
-    at Nothing f = tt
+    at (Some k') f = f k' (taken_part p k b).bytes
+    at None f = tt
 
 -- ---- The end
 
@@ -330,16 +329,16 @@ module _ (folder name b : List ℕ) (h : length b ≡ file_name_bytes) where
   dotted : DotsAre taken.answer (ends_in_dots parts)
   dotted = let s = split_some (joined folder name) in rw s.2 (dots_are s.0 s.1 root b)
 
-  pub no_path : taken.answer ≡ Nothing → none ≡ path_of folder name
+  pub no_path : taken.answer ≡ None → none ≡ path_of folder name
   unfolding path_of Reaches as_file_name
   no_path e = at (reduced [] parts) (ends_in_dots parts) (rw e at reached)
     where
-      at : (o : Option (List ℕ)) (x : Bool) → Reaches o Nothing taken.bytes → none ≡ (if x then none else as_file_name o)
+      at : (o : Maybe (List ℕ)) (x : Bool) → Reaches o None taken.bytes → none ≡ (if x then none else as_file_name o)
       at (some p) x r = absurd r
       at none true r = refl
       at none false r = refl
 
-  module _ (k : Kept) (e : taken.answer ≡ Go k) where
+  module _ (k : Kept) (e : taken.answer ≡ Some k) where
     ends : ends_in_dots parts ≡ k.dots
     unfolding DotsAre
     ends = sym (rw e at dotted)
@@ -348,7 +347,7 @@ module _ (folder name b : List ℕ) (h : length b ≡ file_name_bytes) where
     unfolding path_of
     dots_end d = rw (ends, d) refl
 
-    at_end : k.dots ≡ false → (o : Option (List ℕ)) → Reaches o (Go k) taken.bytes
+    at_end : k.dots ≡ false → (o : Maybe (List ℕ)) → Reaches o (Some k) taken.bytes
         → ((0 < k.over) → none ≡ as_file_name o) × (k.over ≡ 0 → some (take k.size taken.bytes) ≡ as_file_name o) × Fits k taken.bytes
     unfolding Reaches
     at_end d (some path) s = (λ z. sym (long_path s z), λ z. sym (whole_path s z), s.fits)
@@ -368,9 +367,9 @@ module _ (folder name b : List ℕ) (h : length b ≡ file_name_bytes) where
 -- ---- What a call asks of what is kept
 
 -- it fits the buffer, and few parts are over
-abbrev pub Keeps : Reduced → List ℕ → ℕ → Type 0
-Keeps (Go k) b n = Fits k b × (k.over ≤ n)
-Keeps Nothing b n = length b ≡ file_name_bytes
+abbrev pub Keeps : Option Kept → List ℕ → ℕ → Type 0
+Keeps (Some k) b n = Fits k b × (k.over ≤ n)
+Keeps None b n = length b ≡ file_name_bytes
 
 module _ (k : Kept) (b : List ℕ) (f : Fits k b) where
   without_keeps : Keeps (without_part k b) b k.over
@@ -381,7 +380,7 @@ module _ (k : Kept) (b : List ℕ) (f : Fits k b) where
       short = omega (arith, folder_short (take k.size b), length-take-le k.size b (omega (arith, f)), f)
 
       at : (x y : Bool)
-          → Keeps (if x then (if y then Nothing else Go (kept (length (folder_of (take k.size b))) 0 true)) else Go (kept k.size (k.over - 1) true)) b k.over
+          → Keeps (if x then (if y then None else Some (kept (length (folder_of (take k.size b))) 0 true)) else Some (kept k.size (k.over - 1) true)) b k.over
       at true true = f.1
       at true false = ((short, f.1), omega arith)
       at false y = (f, omega arith)
@@ -403,13 +402,13 @@ module _ (k : Kept) (b : List ℕ) (f : Fits k b) where
   unfolding taken_part
   part_keeps p = at (is_empty p) (same p (ascii ".")) (same p (ascii ".."))
     where
-      more : (r : Reduced) → Keeps r b k.over → Keeps r b (k.over + 1)
-      more (Go k') g = (g.0, omega (arith, g.1))
-      more Nothing g = g
+      more : (r : Option Kept) → Keeps r b k.over → Keeps r b (k.over + 1)
+      more (Some k') g = (g.0, omega (arith, g.1))
+      more None g = g
 
       at : (e d dd : Bool)
-          → Keeps (if e then did Nothing b else if d then did (Go (kept k.size k.over true)) b else if dd then did (without_part k b) b else did (Go (with_part p k)) (bytes_with p k b)).answer
-          (if e then did Nothing b else if d then did (Go (kept k.size k.over true)) b else if dd then did (without_part k b) b else did (Go (with_part p k)) (bytes_with p k b)).bytes
+          → Keeps (if e then did None b else if d then did (Some (kept k.size k.over true)) b else if dd then did (without_part k b) b else did (Some (with_part p k)) (bytes_with p k b)).answer
+          (if e then did None b else if d then did (Some (kept k.size k.over true)) b else if dd then did (without_part k b) b else did (Some (with_part p k)) (bytes_with p k b)).bytes
           (k.over + 1)
       at true d dd = f.1
       at false true dd = (f, omega arith)

@@ -1,19 +1,19 @@
 -- The parts of a text, cut off one after another. Assumes nothing.
 use Rattle.std.specs.Prelude.{if◌then◌else◌}
-use mathlib.Core.Bool.{Bool, true, false, ◌&&◌, not}
+use mathlib.Core.Bool.{Bool, true, false, not}
 use mathlib.Core.List.{List, [], ◌∷◌, ◌++◌}
 use mathlib.Core.Path.{◌≡◌, refl, sym, ap, ◌∙◌}
-use Prim.Native.Nat.{ℕ, suc, ◌+◌, ◌-◌, ◌≤◌, ◌<◌}
+use Prim.Native.Nat.{ℕ, ◌+◌, ◌≤◌, ◌<◌}
 use native.Mathlib.Omega.{arith}
 use native.Mathlib.Numerals.{add-one}
 use lib.Dec.{eqb}
-use lib.ListN.{length, take, drop, get_or, length-drop, drop_of_length-le}
+use lib.ListN.{length, take, drop, drop_of_length-le}
 use lib.Seq.{drop-cons}
 use borrow.Author.Tests.{eq-eqb, ne_eqb, eqb-true, eqb-false}
-use Rattle.definition.specs.Lists.{all, any, take_while, drop_while}
+use Rattle.definition.specs.Lists.{all, take_while, drop_while}
 use Rattle.definition.specs.Bytes.{slash}
 use Rattle.definition.specs.Archive.{prefixed, split}
-use Rattle.laws.proofs.Lists.{and_both, take_run, drop_run, length_take_while_le}
+use Rattle.laws.proofs.Lists.{take_run, drop_run, length_take_while_le}
 use Rattle.laws.proofs.Archive.{split_some}
 use Rattle.paths.specs.Parts.{not_slash}
 

@@ -1,9 +1,8 @@
 -- The loop over a text's parts: those taken so far, and what is left. Assumes nothing.
-use Rattle.std.specs.Prelude.{if◌then◌else◌}
 use mathlib.Core.Bool.{Bool, true, false}
 use mathlib.Core.List.{List, [], ◌∷◌, ◌++◌, append-nil}
 use mathlib.Core.Path.{◌≡◌, refl, sym, ap, subst, ◌∙◌}
-use Prim.Native.Nat.{ℕ, suc, ◌+◌, ◌-◌, ◌≤◌, ◌<◌}
+use Prim.Native.Nat.{ℕ, ◌+◌, ◌-◌, ◌≤◌, ◌<◌}
 use native.Mathlib.Omega.{arith}
 use lib.Dec.{eqb}
 use lib.ListN.{length, take, drop}
@@ -12,8 +11,7 @@ use Rattle.definition.specs.Limits.{file_name_bytes}
 use Rattle.definition.specs.Archive.{split, joined}
 use Rattle.laws.proofs.Lists.{Order, below, equal, above, order, part_rest, length_part_rest}
 use Rattle.kept_parts.specs.declared.Kept.{Kept}
-use Rattle.kept_parts.specs.declared.Reduced.{Reduced}
-use Rattle.kept_parts.specs.declared.Reduced.TheVariants.{Go, Nothing}
+use Rattle.std.specs.Prelude.{Option, Some, None}
 use Rattle.paths.specs.Parts.{not_slash}
 use Rattle.kept_parts.specs.Keeping.{Fits, Did, did, taken_part}
 use Rattle.include_paths.specs.Sought.{root, first_of, answering, and_then, taken_parts}
@@ -70,15 +68,15 @@ module _ {folder name b₀ b : List ℕ} {k : Kept} {is_name : Bool} {rest : Lis
   all_parts = taken_parts (split (joined folder name)) root b₀
 
   -- what is left behind the last `/` is empty
-  pub taking_end : length rest ≤ 0 → did Nothing b ≡ all_parts
+  pub taking_end : length rest ≤ 0 → did None b ≡ all_parts
   unfolding split taken_parts taken_part is_empty
   taking_end h = sym (l.same ∙ at rest h)
     where
-      at : (u : List ℕ) → length u ≤ 0 → taken_parts (split u ++ later name is_name) k b ≡ did Nothing b
+      at : (u : List ℕ) → length u ≤ 0 → taken_parts (split u ++ later name is_name) k b ≡ did None b
       at [] h = refl
       at (x ∷ u) h = absurd (omega arith)
 
-  module _ {n : ℕ} (en : n ≡ length (take_while not_slash rest)) {r : Reduced} {b' : List ℕ} (e : did r b' ≡ taken_part (take n rest) k b) where
+  module _ {n : ℕ} (en : n ≡ length (take_while not_slash rest)) {r : Option Kept} {b' : List ℕ} (e : did r b' ≡ taken_part (take n rest) k b) where
     abbrev after : List ℕ
     after = take (length rest - (n + 1)) (drop (n + 1) rest)
 
@@ -97,17 +95,17 @@ module _ {folder name b₀ b : List ℕ} {k : Kept} {is_name : Bool} {rest : Lis
         at (equal h) = ([], split_last rest n en h)
         at (above h) = absurd (omega (arith, part_most rest n en))
 
-    pub taking_none : r ≡ Nothing → did Nothing b' ≡ all_parts
-    taking_none z = sym (on first.0 first.1 ∙ ap (λ (x : Reduced). answering x b' (taken_parts (first.0 ++ later name is_name))) z)
+    pub taking_none : r ≡ None → did None b' ≡ all_parts
+    taking_none z = sym (on first.0 first.1 ∙ ap (λ (x : Option Kept). answering x b' (taken_parts (first.0 ++ later name is_name))) z)
 
-    module _ {k' : Kept} (z : r ≡ Go k') where
+    module _ {k' : Kept} (z : r ≡ Some k') where
       -- the parts behind this one, taken from here
       behind : (ps : List (List ℕ)) → split rest ≡ take n rest ∷ ps → all_parts ≡ taken_parts (ps ++ later name is_name) k' b'
-      behind ps s = on ps s ∙ ap (λ (x : Reduced). answering x b' (taken_parts (ps ++ later name is_name))) z
+      behind ps s = on ps s ∙ ap (λ (x : Option Kept). answering x b' (taken_parts (ps ++ later name is_name))) z
 
       keeps : Fits k' b' × (k'.over ≤ k.over + 1)
       keeps =
-          let a : taken_part (take n rest) k b ≡ did (Go k') b' = sym e ∙ ap (λ (x : Reduced). did x b') z in
+          let a : taken_part (take n rest) k b ≡ did (Some k') b' = sym e ∙ ap (λ (x : Option Kept). did x b') z in
           let p : Keeps (taken_part (take n rest) k b).answer (taken_part (take n rest) k b).bytes (k.over + 1) = part_keeps k b l.fits (take n rest) in
           rw a at p
 
@@ -130,7 +128,7 @@ module _ {folder name b₀ b : List ℕ} {k : Kept} {is_name : Bool} {rest : Lis
         whole : n ≡ length rest
         whole = omega (arith, h, part_most rest n en)
 
-        pub taking_last : is_name ≡ true → did (Go k') b' ≡ all_parts
+        pub taking_last : is_name ≡ true → did (Some k') b' ≡ all_parts
         unfolding taken_parts
         taking_last y = sym (behind [] (split_last rest n en whole) ∙ ap (λ (x : Bool). taken_parts (later name x) k' b') y)
 

@@ -1,5 +1,5 @@
 -- The loop over a text's lines: what was read so far, and what is left. Assumes nothing.
-use mathlib.Core.Bool.{Bool}
+use Rattle.std.specs.Prelude.{Ok, Err}
 use mathlib.Core.List.{List, [], ◌∷◌}
 use mathlib.Core.Path.{◌≡◌, refl, sym, ◌∙◌}
 use Prim.Native.Nat.{ℕ, ◌+◌, ◌-◌, ◌≤◌, ◌<◌}
@@ -13,8 +13,11 @@ use Rattle.laws.proofs.Lists.{part_rest, length_part_rest}
 use Rattle.laws.proofs.Keys.{line_shrinks}
 use Rattle.image.specs.Running.{World, world, Room, went, stopped, put, and_then, run, answered}
 use Rattle.image.specs.declared.Totals.{Totals}
-use Rattle.image.specs.declared.Step.TheVariants.{Go, Stop}
+use Rattle.refusal.specs.Numbers.{number}
+use Rattle.refusal.specs.declared.Refusal.{Refusal}
 use Rattle.image.proofs.Runs.{put_room, run_room}
+use Rattle.lines.specs.declared.Directive.{Directive}
+use Rattle.lines.specs.declared.Resource.{Resource}
 use Rattle.lines.proofs.Lined.{Skips, Includes, Enters}
 use Rattle.parser.specs.Putting.{entry_from, Puts}
 use Rattle.parser.proofs.Entries.{puts_next, puts_inside}
@@ -52,7 +55,7 @@ module _ {origin d : ℕ} {fs : List File} {folder t : List ℕ} {w₀ : World} 
   abbrev after : ℕ → List ℕ
   after n = take (length rest - n) (drop n rest)
 
-  pub reading_done : length rest ≤ 0 → (ch : Chain) → origin_of fs ch ≡ origin → answered (Go s) c b ≡ run fs w₀ (text_events d fs folder ch t)
+  pub reading_done : length rest ≤ 0 → (ch : Chain) → origin_of fs ch ≡ origin → answered (Ok s) c b ≡ run fs w₀ (text_events d fs folder ch t)
   unfolding answered
   reading_done h ch o = sym (r.same ch o ∙ at rest h)
     where
@@ -96,19 +99,19 @@ module _ {origin d : ℕ} {fs : List File} {folder t : List ℕ} {w₀ : World} 
 
   -- ---- An include
 
-  module _ {a m n : ℕ} (l : Includes rest (line_at rest) a m n) where
+  module _ {i : Directive} (l : Includes rest (line_at rest) i) where
     abbrev named : List ℕ
-    named = take (a + m - a) (drop a rest)
+    named = take (i.start + i.size - i.start) (drop i.start rest)
 
     included : (ch : Chain) → run fs (world s c b) (text_events d fs folder ch rest)
-        ≡ and_then (run fs (world s c b) (including d fs folder ch named)) (λ v. run fs v (text_events d fs folder ch (after n)))
-    included ch = text_includes d fs folder ch (world s c b) rest (after n) named (rw (part_rest rest n, part_name rest a m) l.is)
+        ≡ and_then (run fs (world s c b) (including d fs folder ch named)) (λ v. run fs v (text_events d fs folder ch (after i.end)))
+    included ch = text_includes d fs folder ch (world s c b) rest (after i.end) named (rw (part_rest rest i.end, part_name rest i.start i.size) l.is)
 
-    pub include_less : length (after n) < length rest
-    include_less = shorter rest (include (take m (drop a rest))) n l.is
+    pub include_less : length (after i.end) < length rest
+    include_less = shorter rest (include (take i.size (drop i.start rest))) i.end l.is
 
-    pub reading_include : (s' : Totals) (c' b' : List ℕ) → ((ch : Chain) → answered (Go s') c' b' ≡ run fs (world s c b) (including d fs folder ch named))
-        → length c' ≡ length c → length b' ≡ length b → Reading origin d fs folder t w₀ s' c' b' (after n)
+    pub reading_include : (s' : Totals) (c' b' : List ℕ) → ((ch : Chain) → answered (Ok s') c' b' ≡ run fs (world s c b) (including d fs folder ch named))
+        → length c' ≡ length c → length b' ≡ length b → Reading origin d fs folder t w₀ s' c' b' (after i.end)
     unfolding answered and_then
     reading_include s' c' b' f hc hb = record {
       same = λ ch o. r.same ch o ∙ included ch ∙ rw (← f ch) refl;
@@ -118,43 +121,43 @@ module _ {origin d : ℕ} {fs : List File} {folder t : List ℕ} {w₀ : World} 
       rest_most = omega (arith, include_less, r.rest_most);
     }
 
-    pub include_stops : (k : ℕ) (c' b' : List ℕ) → ((ch : Chain) → answered (Stop k) c' b' ≡ run fs (world s c b) (including d fs folder ch named))
-        → (ch : Chain) → origin_of fs ch ≡ origin → answered (Stop k) c' b' ≡ run fs w₀ (text_events d fs folder ch t)
+    pub include_stops : (k : Refusal) (c' b' : List ℕ) → ((ch : Chain) → answered (Err k) c' b' ≡ run fs (world s c b) (including d fs folder ch named))
+        → (ch : Chain) → origin_of fs ch ≡ origin → answered (Err k) c' b' ≡ run fs w₀ (text_events d fs folder ch t)
     unfolding answered and_then
     include_stops k c' b' f ch o = sym (r.same ch o ∙ included ch ∙ rw (← f ch) refl)
 
   -- ---- An entry
 
-  module _ {v count size : ℕ} {verbatim : Bool} (l : Enters rest (line_at rest) v count size verbatim) where
-    entry_line : line_at rest ≡ found (entry (entry_from rest v)) (drop 1 (pieces (drop v rest)).rest)
+  module _ {q : Resource} (l : Enters rest (line_at rest) q) where
+    entry_line : line_at rest ≡ found (entry (entry_from rest q.value)) (drop 1 (pieces (drop q.value rest)).rest)
     unfolding resource_of
     entry_line = l.is
 
-    module _ {s' : Totals} {c' b' : List ℕ} {n : ℕ} (p : Puts rest v origin (world s c b) c' b' n s') where
-      here : line_at rest ≡ found (entry (entry_from rest v)) (drop n rest)
+    module _ {s' : Totals} {c' b' : List ℕ} {n : ℕ} (p : Puts rest q.value origin (world s c b) c' b' n s') where
+      here : line_at rest ≡ found (entry (entry_from rest q.value)) (drop n rest)
       here = entry_line ∙ rw (puts_next l.inside p) refl
 
       pub entry_inside : n ≤ length rest
       entry_inside = puts_inside l.inside p
 
       pub entry_less : length (after n) < length rest
-      entry_less = shorter rest (entry (entry_from rest v)) n here
+      entry_less = shorter rest (entry (entry_from rest q.value)) n here
 
       pub reading_entry : length c' ≡ length c → length b' ≡ length b → Reading origin d fs folder t w₀ s' c' b' (after n)
       unfolding and_then
       reading_entry hc hb = record {
         same =
             λ ch o. r.same ch o
-            ∙ text_enters d fs folder ch (world s c b) rest (after n) (entry_from rest v) (rw (part_rest rest n) here)
+            ∙ text_enters d fs folder ch (world s c b) rest (after n) (entry_from rest q.value) (rw (part_rest rest n) here)
             ∙ rw (o, p.is) refl;
-        room = put_room origin (world s c b) (entry_from rest v) (world s' c' b') r.room p.is;
+        room = put_room origin (world s c b) (entry_from rest q.value) (world s' c' b') r.room p.is;
         words_same = hc ∙ r.words_same;
         bytes_same = hb ∙ r.bytes_same;
         rest_most = omega (arith, entry_less, r.rest_most);
       }
 
-    pub entry_stops : (k : ℕ) (c' b' : List ℕ) → put origin (world s c b) (entry_from rest v) ≡ stopped k c' b'
-        → (ch : Chain) → origin_of fs ch ≡ origin → answered (Stop k) c' b' ≡ run fs w₀ (text_events d fs folder ch t)
+    pub entry_stops : (k : Refusal) (c' b' : List ℕ) → put origin (world s c b) (entry_from rest q.value) ≡ stopped (number k) c' b'
+        → (ch : Chain) → origin_of fs ch ≡ origin → answered (Err k) c' b' ≡ run fs w₀ (text_events d fs folder ch t)
     unfolding answered and_then
     entry_stops k c' b' p ch o =
-        sym (r.same ch o ∙ text_enters d fs folder ch (world s c b) rest (drop 1 (pieces (drop v rest)).rest) (entry_from rest v) entry_line ∙ rw (o, p) refl)
+        sym (r.same ch o ∙ text_enters d fs folder ch (world s c b) rest (drop 1 (pieces (drop q.value rest)).rest) (entry_from rest q.value) entry_line ∙ rw (o, p) refl)

@@ -10,13 +10,6 @@ use std::fmt::Write;
 use std::fs::File;
 use std::io::{Error, ErrorKind, Print, Read, Result};
 
-// How many bytes were read, or that the input cannot be read.
-#[derive(Drop)]
-pub struct Input {
-    pub size: usize,
-    pub failed: bool,
-}
-
 // Opens a file for reading. The system's library takes a path as text: one that is not UTF-8 opens nothing.
 pub fn open(rt: &HostRuntime, path: &[u8]) -> Result<File> {
     match std::str::from_utf8(path) {
@@ -35,6 +28,7 @@ pub fn read_all<R: Read>(reader: &mut R, buffer: &mut [u8]) -> Result<usize>
     ensures err { OnErr result (length buffer.new ≡ length buffer.old) }
 {
     let mut n = 0;
+    // not by index: a turn takes what one read gives
     while n < buffer.len() {
         let more = reader.read(&mut buffer[n..])?;
         if more == 0 {
@@ -67,16 +61,12 @@ impl fmt::Write for Words {
     }
 }
 
-// Where the last bracket opens, with the blank before it: there the number of a system's error follows its words.
-fn number_start(text: &[u8]) -> usize
-    ensures { IsPrefixLen result text.now }
-{
-    for i in (1..text.len()).rev() {
-        if text[i] == b'(' {
-            return i - 1;
-        }
+// What stands before the last bracket that opens and the blank before it: there the number of a system's error follows its words.
+fn before_number(text: &[u8]) -> &[u8] {
+    match text.iter().rposition(|b| *b == b'(') {
+        Some(i) if i > 0 => &text[..i - 1],
+        _ => text,
     }
-    text.len()
 }
 
 // Says on standard error why the system refuses what.
@@ -86,14 +76,14 @@ pub fn fail(rt: &HostRuntime, what: &[u8], error: Error) {
         size: 0,
     };
     let _ = write!(words, "{error}");
-    let size = words.size;
-    let n = match error.raw_os_error() {
-        Some(_) => number_start(&words.bytes[..size]),
-        None => size,
+    let said = &words.bytes[..words.size];
+    let told = match error.raw_os_error() {
+        Some(_) => before_number(said),
+        None => said,
     };
     let err = rt.stderr();
     let _ = err.write_all(what);
     let _ = err.write_all(b": ");
-    let _ = err.write_all(&words.bytes[..n]);
+    let _ = err.write_all(told);
     let _ = err.write_all(b"\n");
 }

@@ -1,29 +1,28 @@
 -- How the code reads a number. Assumes nothing.
-use Rattle.std.specs.Prelude.{if◌then◌else◌}
-use mathlib.Core.Bool.{Bool, true, false, ◌&&◌}
+use Rattle.std.specs.Prelude.{if◌then◌else◌, Some, None, SomeIff}
+use Rattle.std.specs.Prelude.{Option as Answer}
+use mathlib.Core.Bool.{Bool, true, false}
 use mathlib.Core.List.{List, [], ◌∷◌}
 use mathlib.Core.Option.{Option, some, none}
 use mathlib.Core.Path.{◌≡◌, refl, sym, ap, ◌∙◌}
-use Prim.Native.Nat.{ℕ, zero, suc, ◌+◌, ◌*◌, ◌-◌, ◌≤◌, ◌<◌, ◌^◌, ◌/◌}
+use Prim.Native.Nat.{ℕ, zero, suc, ◌+◌, ◌*◌, ◌-◌, ◌≤◌, ◌<◌, ◌^◌}
 use native.Mathlib.Numerals.{add-one}
 use native.Mathlib.Omega.{arith}
+use mathlib.Core.Logic.{inl, inr}
+use Rattle.std.proofs.lemmas.Bool.{cases_lt}
 use lib.Dec.{leb}
-use lib.IntN.{pos, negsuc, neg_ℤ, ◌-ℤ◌, +ℤ_idl}
+use lib.IntN.{ℤ, pos, neg_ℤ, ◌+ℤ◌, ◌-ℤ◌, +ℤ_idl}
 use lib.ListN.{length, get_or, take, drop, drop_of_length-le}
 use lib.Seq.{drop-cons}
-use borrow.Author.Tests.{le-leb, lt-leb, leb-true, leb-false, eq-eqb, ne_eqb}
+use borrow.Author.Tests.{le-leb, lt-leb, leb-false, eq-eqb, ne_eqb}
 use mir.Syntax.{w64}
-use mir.Val.{SFits, to_z, of_z}
-use mir.Facts.{to_z_pos, to_z-of_z}
+use mir.Val.{SFits}
 use Rattle.definition.specs.Lists.{all, is_empty}
 use Rattle.definition.specs.Bytes.{plus, minus, within, is_digit}
 use Rattle.definition.specs.Text.{positional}
 use Rattle.definition.specs.Value.{natural_of, signed, i64_of}
 use Rattle.laws.proofs.Lists.{part_rest}
 use Rattle.integers.specs.Readings.{magnitude, natural_in, number_in}
-use Rattle.integers.specs.declared.Natural.TheVariants as Natural
-use Rattle.integers.specs.declared.Natural.TheVariants.{Nothing}
-use Rattle.integers.specs.declared.Number.TheVariants.{Is, NotANumber}
 
 -- ---- Digits
 
@@ -46,13 +45,13 @@ unfolding positional
 positional_le n [] = omega arith
 positional_le n (c ∷ t) = omega (arith, positional_le (n * 10 + (c - 48)) t)
 
--- past a tenth of the range, a digit more is past the range
-past_tenth : (n c : ℕ) (t : List ℕ) → 2 ^ 63 / 10 < n → magnitude (after n (c ∷ t)) ≡ none
-unfolding magnitude after all positional
-past_tenth n c t h = at (is_digit c && all is_digit t)
+-- past the range, more digits leave it so
+past_range : (n : ℕ) (t : List ℕ) → 2 ^ 63 < n → magnitude (after n t) ≡ none
+unfolding magnitude after
+past_range n t h = at (all is_digit t)
   where
-    at : (b : Bool) → magnitude (if b then some (positional 10 (n * 10 + (c - 48)) t) else none) ≡ none
-    at true = rw (lt-leb (positional 10 (n * 10 + (c - 48)) t) (2 ^ 63) (omega (arith, positional_le (n * 10 + (c - 48)) t))) refl
+    at : (b : Bool) → magnitude (if b then some (positional 10 n t) else none) ≡ none
+    at true = rw (lt-leb (positional 10 n t) (2 ^ 63) (omega (arith, positional_le n t))) refl
     at false = refl
 
 module _ (t : List ℕ) (n i : ℕ) where
@@ -65,8 +64,8 @@ module _ (t : List ℕ) (n i : ℕ) where
     unfolding after all is_digit magnitude
     digits_stop e = rw (drop-cons t i 0 h, e) refl
 
-    pub digits_past : 2 ^ 63 / 10 < n → magnitude (after n (drop i t)) ≡ none
-    digits_past k = rw (drop-cons t i 0 h) (past_tenth n (get_or t i 0) (drop (suc i) t) k)
+    pub digits_past : 2 ^ 63 < n * 10 + (get_or t i 0 - 48) → within 48 57 (get_or t i 0) ≡ true → magnitude (after n (drop i t)) ≡ none
+    digits_past k e = ap magnitude (digits_more e) ∙ past_range (n * 10 + (get_or t i 0 - 48)) (drop (i + 1) t) k
 
   module _ (h : length t ≤ i) where
     pub digits_large : 2 ^ 63 < n → magnitude (after n (drop i t)) ≡ none
@@ -90,77 +89,60 @@ signed_magnitude b (some n) = at b (leb n (2 ^ 63)) refl
     at false false e = rw (lt-leb n (2 ^ 63 - 1) (omega (arith, leb-false n (2 ^ 63) e))) refl
 
 -- what was read, with a sign
-pub natural_most : (n : ℕ) (o : Option ℕ) → natural_in (Natural.Is n) ≡ magnitude o → n ≤ 2 ^ 63
-unfolding natural_in magnitude
-natural_most n none e = absurd (let z : ◌≡◌ {A = ℕ} 0 1 = cc in omega arith)
-natural_most n (some m) e = at (leb m (2 ^ 63)) refl e
-  where
-    at : (x : Bool) → leb m (2 ^ 63) ≡ x → some n ≡ (if x then some m else none) → n ≤ 2 ^ 63
-    at true k e = let n-is : n ≡ m = cc in omega (arith, leb-true m (2 ^ 63) k)
-    at false k e = absurd (let z : ◌≡◌ {A = ℕ} 0 1 = cc in omega arith)
-
-pub natural_signed : (b : Bool) (n : ℕ) (o : Option ℕ) → natural_in (Natural.Is n) ≡ magnitude o → signed b (some n) ≡ signed b o
+pub natural_signed : (b : Bool) (n : ℕ) (o : Option ℕ) → natural_in (Some n) ≡ magnitude o → signed b (some n) ≡ signed b o
 unfolding natural_in
 natural_signed b n o e = ap (signed b) e ∙ signed_magnitude b o
 
-pub nothing_signed : (b : Bool) (o : Option ℕ) → natural_in Nothing ≡ magnitude o → number_in NotANumber ≡ signed b o
+pub nothing_signed : (b : Bool) (o : Option ℕ) → natural_in None ≡ magnitude o → number_in None ≡ signed b o
 unfolding natural_in number_in signed
 nothing_signed b o e = ap (signed b) e ∙ signed_magnitude b o
 
-module _ (n : ℕ) (h : n < 2 ^ 63) where
-  minus_is : pos 0 -ℤ to_z w64 n ≡ neg_ℤ (pos n)
-  minus_is = rw (to_z_pos w64 h) (+ℤ_idl (neg_ℤ (pos n)))
+-- 0 less n, and n more than 0, where an i64 has it
+most_minus : (n : ℕ) → SFits w64 (neg_ℤ (pos n)) → n ≤ 2 ^ 63
+most_minus zero h = omega arith
+most_minus (suc n) h = omega (arith, h.sfits)
 
-  pub minus_fits : SFits w64 (pos 0 -ℤ to_z w64 n)
-  minus_fits = rw minus_is (at n h)
+fits_minus : (n : ℕ) → n ≤ 2 ^ 63 → SFits w64 (neg_ℤ (pos n))
+fits_minus zero h = record { sfits = omega arith }
+fits_minus (suc n) h = record { sfits = omega arith }
+
+past_minus : (n : ℕ) → (SFits w64 (neg_ℤ (pos n)) → ⊥) → 2 ^ 63 < n
+past_minus n k = elim (cases_lt (2 ^ 63) n) [ inl h ↦ h | inr h ↦ absurd (k (fits_minus n h)) ]
+
+past_plus : (n : ℕ) → (SFits w64 (pos n) → ⊥) → 2 ^ 63 - 1 < n
+past_plus n k = elim (cases_lt (2 ^ 63 - 1) n) [ inl h ↦ h | inr h ↦ absurd (k (record { sfits = omega arith })) ]
+
+module _ (n : ℕ) where
+  pub number_minus : (r : Answer ℤ) → SomeIff r (SFits w64 (pos 0 -ℤ pos n)) (pos 0 -ℤ pos n) → number_in r ≡ signed true (some n)
+  unfolding number_in signed
+  number_minus r e = at r (rw (+ℤ_idl (neg_ℤ (pos n))) at e)
     where
-      at : (n : ℕ) → n < 2 ^ 63 → SFits w64 (neg_ℤ (pos n))
-      at zero h = record { sfits = omega arith }
-      at (suc n) h = record { sfits = omega arith }
+      at : (r : Answer ℤ) → SomeIff r (SFits w64 (neg_ℤ (pos n))) (neg_ℤ (pos n)) → number_in r ≡ signed true (some n)
+      at (Some z) e = rw (e.1, le-leb n (2 ^ 63) (most_minus n e.0)) refl
+      at None e = rw (lt-leb n (2 ^ 63) (past_minus n e)) refl
 
-  pub number_minus : (b : Bool) → b ≡ true → number_in (Is (to_z w64 (of_z w64 (pos 0 -ℤ to_z w64 n)))) ≡ signed b (some n)
+  pub number_plus : (r : Answer ℤ) → SomeIff r (SFits w64 (pos 0 +ℤ pos n)) (pos 0 +ℤ pos n) → number_in r ≡ signed false (some n)
   unfolding number_in signed
-  number_minus b e = rw (e, le-leb n (2 ^ 63) (omega arith)) (ap some (to_z-of_z minus_fits ∙ minus_is))
-
-  pub number_plus : (b : Bool) → b ≡ false → number_in (Is (to_z w64 n)) ≡ signed b (some n)
-  unfolding number_in signed
-  number_plus b e = rw (e, le-leb n (2 ^ 63 - 1) (omega arith)) (ap some (to_z_pos w64 h))
-
-module _ (n : ℕ) (h : 2 ^ 63 - 1 < n) where
-  pub number_least : n ≤ 2 ^ 63 → (b : Bool) → b ≡ true → number_in (Is (negsuc (2 ^ 63 - 1))) ≡ signed b (some n)
-  unfolding number_in signed
-  number_least k b e = let n-is : n ≡ 2 ^ 63 = omega arith in rw (e, n-is) refl
-
-  pub number_past : (b : Bool) → b ≡ false → number_in NotANumber ≡ signed b (some n)
-  unfolding number_in signed
-  number_past b e = rw (e, lt-leb n (2 ^ 63 - 1) h) refl
+  number_plus r e = at r (rw (+ℤ_idl (pos n)) at e)
+    where
+      at : (r : Answer ℤ) → SomeIff r (SFits w64 (pos n)) (pos n) → number_in r ≡ signed false (some n)
+      at (Some z) e = rw (e.1, le-leb n (2 ^ 63 - 1) (omega (arith, e.0.sfits))) refl
+      at None e = rw (lt-leb n (2 ^ 63 - 1) (past_plus n e)) refl
 
 -- ---- The sign first
 
+-- the text is its first byte and the rest
 module _ (t : List ℕ) where
-  pub number_none : length t ≡ 0 → number_in NotANumber ≡ i64_of t
-  unfolding number_in i64_of
-  number_none e = at t e
-    where
-      at : (t : List ℕ) → length t ≡ 0 → none ≡ i64_of t
-      at [] e = refl
-      at (c ∷ t) e = absurd (omega arith)
+  pub number_after_minus : 0 < length t → get_or t 0 0 ≡ minus → signed true (natural_of (take (length t - 1) (drop 1 t))) ≡ i64_of t
+  unfolding i64_of
+  number_after_minus h e = rw (part_rest t 1) (sym (ap i64_of (drop-cons t 0 0 h) ∙ rw (eq-eqb (get_or t 0 0) minus e) refl))
 
-  module _ (h : 0 < length t) where
-    whole : t ≡ get_or t 0 0 ∷ drop 1 t
-    whole = drop-cons t 0 0 h
+  pub number_after_plus : 0 < length t → (get_or t 0 0 ≡ minus → ⊥) → get_or t 0 0 ≡ plus → signed false (natural_of (take (length t - 1) (drop 1 t))) ≡ i64_of t
+  unfolding i64_of
+  number_after_plus h k e =
+      rw (part_rest t 1) (sym (ap i64_of (drop-cons t 0 0 h) ∙ rw (ne_eqb (get_or t 0 0) minus k, eq-eqb (get_or t 0 0) plus e) refl))
 
-    pub number_after_minus : get_or t 0 0 ≡ minus → signed true (natural_of (take (length t - 1) (drop 1 t))) ≡ i64_of t
-    unfolding i64_of
-    number_after_minus e = rw (part_rest t 1) (sym (ap i64_of whole ∙ rw (eq-eqb (get_or t 0 0) minus e) refl))
-
-    module _ (k : (get_or t 0 0 ≡ minus → ⊥)) where
-      pub number_after_plus : get_or t 0 0 ≡ plus → signed false (natural_of (take (length t - 1) (drop 1 t))) ≡ i64_of t
-      unfolding i64_of
-      number_after_plus e =
-          rw (part_rest t 1) (sym (ap i64_of whole ∙ rw (ne_eqb (get_or t 0 0) minus k, eq-eqb (get_or t 0 0) plus e) refl))
-
-      pub number_unsigned : (get_or t 0 0 ≡ plus → ⊥) → signed false (natural_of t) ≡ i64_of t
-      unfolding i64_of
-      number_unsigned z =
-          sym (ap i64_of whole ∙ rw (ne_eqb (get_or t 0 0) minus k, ne_eqb (get_or t 0 0) plus z) (ap (λ (u : List ℕ). signed false (natural_of u)) (sym whole)))
+pub number_unsigned : (t : List ℕ) → (0 < length t → get_or t 0 0 ≡ minus → ⊥) → (0 < length t → get_or t 0 0 ≡ plus → ⊥) → signed false (natural_of t) ≡ i64_of t
+unfolding i64_of signed natural_of is_empty
+number_unsigned [] k z = refl
+number_unsigned (c ∷ t) k z = rw (ne_eqb c minus (k (omega arith)), ne_eqb c plus (z (omega arith))) refl

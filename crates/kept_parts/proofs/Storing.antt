@@ -1,22 +1,20 @@
 -- A part put below what is kept of a path, and single parts. Assumes nothing.
-use Rattle.std.specs.Prelude.{if◌then◌else◌}
-use mathlib.Core.Bool.{Bool, true, false, ◌&&◌}
-use mathlib.Core.List.{List, [], ◌∷◌, ◌++◌, append_assoc}
+use Rattle.std.specs.Prelude.{Some, None, if◌then◌else◌}
+use mathlib.Core.Bool.{true, false}
+use mathlib.Core.List.{List, [], ◌∷◌, ◌++◌}
 use mathlib.Core.Path.{◌≡◌, refl, sym, ap, ◌∙◌}
 use Prim.Native.Nat.{ℕ, zero, suc, ◌+◌, ◌-◌, ◌≤◌, ◌<◌}
 use native.Mathlib.Omega.{arith}
-use native.Mathlib.Numerals.{add-one}
 use lib.Dec.{eqb, leb}
-use lib.ListN.{length, take, drop, get_or, set, length-append, length-drop}
+use lib.ListN.{length, take, drop, set, length-append, length-drop}
 use lib.Seq.{paste, take_at, take-length, length-take-le}
 use borrow.Author.Tests.{eq-eqb, ne_eqb, leb-true}
 use Rattle.definition.specs.Lists.{ascii, is_empty, same}
 use Rattle.definition.specs.Limits.{file_name_bytes}
 use Rattle.definition.specs.Bytes.{slash}
 use Rattle.definition.specs.Archive.{folder_of, joined}
-use Rattle.laws.proofs.Lists.{and_true, same_lengths, paste_one, paste_append}
+use Rattle.laws.proofs.Lists.{and_true, paste_one, paste_append}
 use Rattle.kept_parts.specs.declared.Kept.{Kept}
-use Rattle.kept_parts.specs.declared.Reduced.TheVariants.{Go, Nothing}
 use Rattle.kept_parts.specs.Keeping.{kept, end_below, put_below, has_room, with_part, bytes_with, without_part, did, taken_part}
 
 -- ---- Where a part ends
@@ -54,15 +52,15 @@ module _ (k : Kept) (n : ℕ) where
 -- ---- One part taken, by what it is
 
 module _ (k : Kept) (b : List ℕ) where
-  pub up_over : 0 < k.over → Go (kept k.size (k.over - 1) true) ≡ without_part k b
+  pub up_over : 0 < k.over → Some (kept k.size (k.over - 1) true) ≡ without_part k b
   unfolding without_part
   up_over h = rw (ne_eqb k.over 0 (λ e. omega arith)) refl
 
-  pub up_root : k.over ≤ 0 → k.size ≡ 0 → Nothing ≡ without_part k b
+  pub up_root : k.over ≤ 0 → k.size ≡ 0 → None ≡ without_part k b
   unfolding without_part
   up_root h e = rw (eq-eqb k.over 0 (omega arith), eq-eqb k.size 0 e) refl
 
-  pub up_folder : k.over ≤ 0 → (k.size ≡ 0 → ⊥) → Go (kept (length (folder_of (take k.size b))) 0 true) ≡ without_part k b
+  pub up_folder : k.over ≤ 0 → (k.size ≡ 0 → ⊥) → Some (kept (length (folder_of (take k.size b))) 0 true) ≡ without_part k b
   unfolding without_part
   up_folder h e = rw (eq-eqb k.over 0 (omega arith), ne_eqb k.size 0 e) refl
 
@@ -75,7 +73,7 @@ module _ (p : List ℕ) (k : Kept) (b : List ℕ) where
   unfolding with_part bytes_with
   added_over h = (rw h refl, rw h refl)
 
-  pub part_empty : length p ≡ 0 → did Nothing b ≡ taken_part p k b
+  pub part_empty : length p ≡ 0 → did None b ≡ taken_part p k b
   unfolding taken_part
   part_empty h = rw (empty_is p, eq-eqb (length p) 0 h) refl
 
@@ -83,7 +81,7 @@ module _ (p : List ℕ) (k : Kept) (b : List ℕ) where
     there : is_empty p ≡ false
     there = empty_is p ∙ ne_eqb (length p) 0 h
 
-    pub part_dot : same p (ascii ".") ≡ true → did (Go (kept k.size k.over true)) b ≡ taken_part p k b
+    pub part_dot : same p (ascii ".") ≡ true → did (Some (kept k.size k.over true)) b ≡ taken_part p k b
     unfolding taken_part
     part_dot d = rw (there, d) refl
 
@@ -92,7 +90,7 @@ module _ (p : List ℕ) (k : Kept) (b : List ℕ) where
       unfolding taken_part
       part_up dd = rw (there, d, dd) refl
 
-      pub part_name : same p (ascii "..") ≡ false → did (Go (with_part p k)) (bytes_with p k b) ≡ taken_part p k b
+      pub part_name : same p (ascii "..") ≡ false → did (Some (with_part p k)) (bytes_with p k b) ≡ taken_part p k b
       unfolding taken_part
       part_name dd = rw (there, d, dd) refl
 

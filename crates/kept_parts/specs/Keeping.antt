@@ -1,12 +1,10 @@
 -- What is kept of a path as its parts are taken, in a buffer of 96 bytes. That it stands for the definition's path, which may have more
 -- bytes on the way, is shown where all parts are taken (include_paths, Reducing.antt).
-use Rattle.std.specs.Prelude.{Bool, true, false, ◌&&◌, List, ◌++◌, ◌≡◌, ℕ, ◌+◌, ◌-◌, ◌≤◌, eqb, leb, length, take, drop, if◌then◌else◌}
+use Rattle.std.specs.Prelude.{Option, Some, None, Bool, true, false, ◌&&◌, List, ◌++◌, ◌≡◌, ℕ, ◌+◌, ◌-◌, ◌≤◌, eqb, leb, length, take, drop, if◌then◌else◌}
 use Rattle.definition.specs.Lists.{ascii, is_empty, same}
 use Rattle.definition.specs.Limits.{file_name_bytes}
 use Rattle.definition.specs.Archive.{folder_of, joined}
 use Rattle.kept_parts.specs.declared.Kept.{Kept}
-use Rattle.kept_parts.specs.declared.Reduced.{Reduced}
-use Rattle.kept_parts.specs.declared.Reduced.TheVariants.{Go, Nothing}
 
 abbrev pub kept : ℕ → ℕ → Bool → Kept
 kept size over dots = record { size = size; over = over; dots = dots }
@@ -34,23 +32,23 @@ unfoldable pub bytes_with : List ℕ → Kept → List ℕ → List ℕ
 bytes_with p k b = if has_room (length p) k then put_below p k.size b else b
 
 -- the last part removed; none is there at the root
-unfoldable pub without_part : Kept → List ℕ → Reduced
+unfoldable pub without_part : Kept → List ℕ → Option Kept
 without_part k b =
     if eqb k.over 0
-    then (if eqb k.size 0 then Nothing else Go (kept (length (folder_of (take k.size b))) 0 true))
-    else Go (kept k.size (k.over - 1) true)
+    then (if eqb k.size 0 then None else Some (kept (length (folder_of (take k.size b))) 0 true))
+    else Some (kept k.size (k.over - 1) true)
 
 -- an answer, and the buffer that it leaves
 pub record Did : Type 0 where
-  pub answer : Reduced
+  pub answer : Option Kept
   pub bytes : List ℕ
 
-abbrev pub did : Reduced → List ℕ → Did
+abbrev pub did : Option Kept → List ℕ → Did
 did r b = record { answer = r; bytes = b }
 
 unfoldable pub taken_part : List ℕ → Kept → List ℕ → Did
 taken_part p k b =
-    if is_empty p then did Nothing b
-    else if same p (ascii ".") then did (Go (kept k.size k.over true)) b
+    if is_empty p then did None b
+    else if same p (ascii ".") then did (Some (kept k.size k.over true)) b
     else if same p (ascii "..") then did (without_part k b) b
-    else did (Go (with_part p k)) (bytes_with p k b)
+    else did (Some (with_part p k)) (bytes_with p k b)

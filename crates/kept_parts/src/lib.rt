@@ -8,6 +8,7 @@ use copies::copy_in;
 use limits::FILE_NAME_BYTES;
 use paths::{folder_of, is_dot, is_dot_dot};
 
+// Kept and the buffer stay two values, and `Fits` a clause: a step that ends the path has nothing kept, and still gives the buffer back.
 // What is kept of a path so far: its first `size` bytes, which stand in a buffer of 96, and the number of its parts after these. With the
 // first of them the path has more than 96 bytes, so that no file has such a name until a `..` has removed it. And was the last part `.` or `..`?
 #[derive(Clone, Copy)]
@@ -15,13 +16,6 @@ pub struct Kept {
     pub size: usize,
     pub over: usize,
     pub dots: bool,
-}
-
-// The path after some parts, or nothing, above the root or at an empty part.
-#[derive(Drop)]
-pub enum Reduced {
-    Go(Kept),
-    Nothing,
 }
 
 // Where a path of `size` bytes ends with a part of `n` bytes below it.
@@ -73,50 +67,48 @@ fn add_part(part: &[u8], kept: Kept, path: &mut [u8]) -> Kept
         };
     }
     Kept {
-        size: kept.size,
         over: kept.over + 1,
         dots: false,
+        ..kept
     }
 }
 
-// Takes a `..`: removes the part before it, which is above the root if there is none.
-fn remove_part(kept: Kept, path: &[u8]) -> Reduced
+// Takes a `..`: removes the part before it. If there is none, this is above the root, where there is no path.
+fn remove_part(kept: Kept, path: &[u8]) -> Option<Kept>
     requires { Fits kept path.now }
     ensures { result ≡ without_part kept path.now }
 {
     if kept.over > 0 {
-        return Reduced::Go(Kept {
-            size: kept.size,
+        return Some(Kept {
             over: kept.over - 1,
             dots: true,
+            ..kept
         });
     }
     if kept.size == 0 {
-        return Reduced::Nothing;
+        return None;
     }
     let folder = folder_of(&path[..kept.size]);
-    Reduced::Go(Kept {
+    Some(Kept {
         size: folder.len(),
         over: 0,
         dots: true,
     })
 }
 
-// Takes one part.
-pub fn take_part(part: &[u8], kept: Kept, path: &mut [u8]) -> Reduced
+// Takes one part: the path after it, or `None` above the root or at an empty part.
+pub fn take_part(part: &[u8], kept: Kept, path: &mut [u8]) -> Option<Kept>
     requires { Fits kept path.old × (kept.over < 18446744073709551615) }
     ensures { did result path.new ≡ taken_part part.now kept path.old }
 {
     if part.len() == 0 {
-        return Reduced::Nothing;
+        return None;
     }
     if is_dot(part) {
-        let mut dropped = kept;
-        dropped.dots = true;
-        return Reduced::Go(dropped);
+        return Some(Kept { dots: true, ..kept });
     }
     if is_dot_dot(part) {
         return remove_part(kept, path);
     }
-    Reduced::Go(add_part(part, kept, path))
+    Some(add_part(part, kept, path))
 }

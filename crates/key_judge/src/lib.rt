@@ -6,7 +6,6 @@ ghost use Rattle.definition.specs.Bytes.{is_binding, is_name};
 ghost use Rattle.definition.specs.Image.{is_key};
 ghost use Rattle.key_judge.specs.Pairs.{may_follow, bindings_in};
 
-use blocks::bit;
 use limits::MOST_PARTS;
 use scan::next_component;
 
@@ -24,8 +23,7 @@ fn walk_key(key: &[u8]) -> bool
     ensures { result ≡ is_key key.now }
 {
     let mut rest = key;
-    let mut parts: usize = 0;
-    while parts < MOST_PARTS {
+    for _parts in 0..MOST_PARTS {
         if rest.len() < 2 {
             return false;
         }
@@ -45,7 +43,6 @@ fn walk_key(key: &[u8]) -> bool
             return component[0] != b'?';
         }
         rest = &component[n..];
-        parts += 1;
     }
     false
 }
@@ -84,11 +81,9 @@ fn run_links(key: &[u8], at: usize) -> bool
     ensures { result ≡ true → (j : ℕ) → j < 16 → may_follow (get_or key.now (at + j) 0) (get_or key.now (at + j + 1) 0) ≡ true }
 {
     let mut links = true;
-    let mut i: usize = 0;
-    while i < LINKS {
+    for i in 0..LINKS {
         let link = may_follow(key[at + i], key[at + i + 1]);
         links = links & link;
-        i += 1;
     }
     links
 }
@@ -100,6 +95,7 @@ fn all_links(key: &[u8]) -> bool
 {
     let last = key.len() - RUN;
     let mut at: usize = 0;
+    // It goes on by runs, and the last one may overlap the one before: `step_by` says that no plainer.
     while at < last {
         if !run_links(key, at) {
             return false;
@@ -114,10 +110,8 @@ fn count_bindings(key: &[u8]) -> u8
     ensures { result ≡ bindings_in key.now }
 {
     let mut n: u8 = 0;
-    let mut i: usize = 0;
-    while i < key.len() {
-        n += bit(is_binding(key[i]));
-        i += 1;
+    for c in key {
+        n += u8::from(is_binding(*c));
     }
     n
 }

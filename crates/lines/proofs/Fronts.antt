@@ -1,5 +1,5 @@
 -- How the code tells a line by what stands first. Assumes nothing.
-use Rattle.std.specs.Prelude.{if◌then◌else◌}
+use Rattle.std.specs.Prelude.{Option, Some, if◌then◌else◌}
 use mathlib.Core.Bool.{Bool, true, false}
 use mathlib.Core.List.{List, [], ◌∷◌}
 use mathlib.Core.Option.{some, none}
@@ -14,8 +14,7 @@ use Rattle.definition.specs.Bytes.{newline, exclamation, hash, is_space}
 use Rattle.definition.specs.Text.{part_at, ends_in_name, assigned}
 use Rattle.laws.proofs.Lists.{part_rest, length_part_rest, Suffix, suffix_run}
 use Rattle.directives.specs.Directives.{include_at}
-use Rattle.directives.specs.declared.Include as directives
-use Rattle.directives.specs.declared.Include.TheVariants.{Named}
+use Rattle.directives.specs.declared.Named.{Named}
 use Rattle.directives.proofs.Includes.{include_found}
 use Rattle.components.specs.Parts.{parts_of, components_at}
 use Rattle.components.specs.declared.Components.{Components}
@@ -36,15 +35,15 @@ comment_line [] h e n f = absurd (omega arith)
 comment_line (c ∷ t) h e n f = rw (f, e) refl
 
 -- r is what follows the `#`
-pub directive_line : (t : List ℕ) → 0 < length t → get_or t 0 0 ≡ hash → (n : ℕ) → n ≡ line_length t → (r : directives.Include) → r ≡ include_at (take (length t - 1) (drop 1 t))
+pub directive_line : (t : List ℕ) → 0 < length t → get_or t 0 0 ≡ hash → (n : ℕ) → n ≡ line_length t → (r : Option Named) → r ≡ include_at (take (length t - 1) (drop 1 t))
     → directive_in n r ≡ line_in t
 unfolding line_in
 directive_line [] h e n f r g = absurd (omega arith)
 directive_line (c ∷ t) h e n f r g = rw (f, g, part_rest (c ∷ t) 1, e) refl
 
 -- the name lies inside
-pub name_start : (t : List ℕ) → 0 < length t → (a l : ℕ) → Named a l ≡ include_at (take (length t - 1) (drop 1 t)) → 1 + a ≤ length t
-name_start t h a l e = let i = rw (← e) at (include_found (take (length t - 1) (drop 1 t))) in omega (arith, i.inside, length_part_rest t 1)
+pub name_start : (t : List ℕ) → 0 < length t → {n : Named} → Some n ≡ include_at (take (length t - 1) (drop 1 t)) → 1 + n.start ≤ length t
+name_start t h e = let i = rw (← e) at (include_found (take (length t - 1) (drop 1 t))) in omega (arith, i.inside, length_part_rest t 1)
 
 pub resource_line : (t : List ℕ) → 0 < length t → (get_or t 0 0 ≡ newline → ⊥) → (get_or t 0 0 ≡ exclamation → ⊥) → (get_or t 0 0 ≡ hash → ⊥)
     → resource_in t (assigned t) ≡ line_in t
@@ -83,7 +82,7 @@ module _ (t : List ℕ) (r : Components) (e : r ≡ components_at t) where
         at false = refl
 
     pub entry_line : r.named ≡ true → (after (ascii ":") s ≡ some (drop 1 s)) × (1 ≤ length s)
-        → Entry (length t - length s + 1) r.count r.size r.verbatim ≡ resource_in t (assigned t)
+        → Entry (record { value = length t - length s + 1; count = r.count; size = r.size; verbatim = r.verbatim }) ≡ resource_in t (assigned t)
     unfolding assigned resource_in components_at
     entry_line h n =
         let x : ends_in_name (parts_of t) ≡ true = sym (ap (λ (x : Components). x.named) e) ∙ h in

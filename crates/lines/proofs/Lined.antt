@@ -1,5 +1,6 @@
 -- What the code's answer on a line says of the definition's line. Assumes nothing.
-use Rattle.std.specs.Prelude.{if◌then◌else◌}
+use Rattle.std.specs.Prelude as rattle
+use Rattle.std.specs.Prelude.{Some, None, if◌then◌else◌}
 use mathlib.Core.Bool.{Bool, true, false}
 use mathlib.Core.List.{List, [], ◌∷◌}
 use mathlib.Core.Option.{Option, some, none}
@@ -17,13 +18,14 @@ use Rattle.definition.specs.Text as text
 use Rattle.definition.specs.Image.{key_of}
 use Rattle.laws.proofs.Lists.{not_both, Suffix, suffix_run, drop_run, length_take_while_le}
 use Rattle.directives.specs.Directives.{include_at}
-use Rattle.directives.specs.declared.Include as directives
-use Rattle.directives.specs.declared.Include.TheVariants.{Named, Other}
+use Rattle.directives.specs.declared.Named.{Named}
 use Rattle.scan.proofs.Beginnings.{after_suffix}
 use Rattle.directives.proofs.Includes.{included_name, IncludeFound, include_found}
 use Rattle.components.specs.Parts.{parts_of, is_verbatim}
 use Rattle.components.proofs.Rests.{parts_suffix}
 use Rattle.lines.specs.Places.{line_length, directive_in, resource_in, line_in}
+use Rattle.lines.specs.declared.Directive.{Directive}
+use Rattle.lines.specs.declared.Resource.{Resource}
 use Rattle.lines.specs.declared.Line.{Line}
 use Rattle.lines.specs.declared.Line.TheVariants.{Skip, Include, Entry}
 
@@ -32,25 +34,25 @@ pub record Skips (t : List ℕ) (p : Parse text.Line) (n : ℕ) : Type 0 where
   pub is : p ≡ found skipped (drop n t)
   pub inside : n ≤ length t
 
--- an include, whose name has l bytes from a on
-pub record Includes (t : List ℕ) (p : Parse text.Line) (a l n : ℕ) : Type 0 where
-  pub is : p ≡ found (include (take l (drop a t))) (drop n t)
-  pub named : a + l ≤ length t
-  pub inside : n ≤ length t
+-- an include
+pub record Includes (t : List ℕ) (p : Parse text.Line) (d : Directive) : Type 0 where
+  pub is : p ≡ found (include (take d.size (drop d.start t))) (drop d.end t)
+  pub named : d.start + d.size ≤ length t
+  pub inside : d.end ≤ length t
 
--- an entry, whose value's text begins at v, with the number of its parts, the length of its key and whether that is the text itself
-pub record Enters (t : List ℕ) (p : Parse text.Line) (v count size : ℕ) (verbatim : Bool) : Type 0 where
-  pub is : p ≡ resource_of t (some (drop v t))
-  pub inside : v ≤ length t
-  pub parts : count ≡ length (parts_of t)
-  pub key : size ≡ length (key_of (parts_of t))
-  pub some_key : 0 < size
-  pub is_text : verbatim ≡ is_verbatim t
+-- an entry
+pub record Enters (t : List ℕ) (p : Parse text.Line) (r : Resource) : Type 0 where
+  pub is : p ≡ resource_of t (some (drop r.value t))
+  pub inside : r.value ≤ length t
+  pub parts : r.count ≡ length (parts_of t)
+  pub key : r.size ≡ length (key_of (parts_of t))
+  pub some_key : 0 < r.size
+  pub is_text : r.verbatim ≡ is_verbatim t
 
 abbrev pub Lined : List ℕ → Parse text.Line → Line → Type 0
 Lined t p (Skip n) = Skips t p n
-Lined t p (Include a l n) = Includes t p a l n
-Lined t p (Entry v count size verbatim) = Enters t p v count size verbatim
+Lined t p (Include d) = Includes t p d
+Lined t p (Entry r) = Enters t p r
 
 -- ---- Where a line ends
 
@@ -68,11 +70,11 @@ end_after c t e = end_is (c ∷ t) ∙ rw e refl
 
 -- ---- Each kind of line
 
-directive_lined : (c : ℕ) (t : List ℕ) (end : ℕ) → end ≤ length (c ∷ t) → (r : directives.Include) → IncludeFound t r
+directive_lined : (c : ℕ) (t : List ℕ) (end : ℕ) → end ≤ length (c ∷ t) → (r : rattle.Option Named) → IncludeFound t r
     → Lined (c ∷ t) (found (directive_of (include_of t)) (drop end (c ∷ t))) (directive_in end r)
 unfolding directive_in directive_of included_name
-directive_lined c t end h Other i = record { is = rw (← i.name) refl; inside = h }
-directive_lined c t end h (Named a l) i = record {
+directive_lined c t end h None i = record { is = rw (← i.name) refl; inside = h }
+directive_lined c t end h (Some n) i = record {
   is = rw (← i.name, one-add) refl;
   named = omega (arith, i.inside);
   inside = h;

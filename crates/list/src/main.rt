@@ -5,6 +5,7 @@ ghost use Rattle.std.specs.Prelude.{◌≤◌, IfOk};
 
 use input::{fail, read_all};
 use listing::{list, refuse_long};
+use printing::Lines;
 use std::io::{Print, Result};
 
 // Reads one byte further where the text fills its buffer: whether there is one tells a text that is too long.
@@ -33,7 +34,6 @@ fn write(rt: &HostRuntime, bytes: &[u8]) {
 
 fn main(rt: HostRuntime) {
     let mut text = [0; 32768];
-    let mut out = io::large_buffer();
     let size = match read_text(&rt, &mut text) {
         Ok(size) => size,
         Err(error) => {
@@ -41,11 +41,12 @@ fn main(rt: HostRuntime) {
             return;
         }
     };
+    let mut buffer = io::large_buffer();
+    let mut out = Lines::new(&mut buffer);
     if size > text.len() {
-        let end = refuse_long(&mut out);
-        write(&rt, &out[..end]);
-        return;
+        refuse_long(&mut out);
+    } else {
+        list(&text[..size], &mut out);
     }
-    let end = list(&text[..size], &mut out);
-    write(&rt, &out[..end]);
+    write(&rt, out.written());
 }

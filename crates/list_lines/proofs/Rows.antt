@@ -36,9 +36,9 @@ module _ (contents bodies : List ℕ) (n : ℕ) where
 pub lines_all : (contents bodies : List ℕ) → lines_left contents bodies (count_of contents) 0 ≡ row_lines 0 (rows_in contents) bodies
 lines_all contents bodies = let z : count_of contents - 0 ≡ count_of contents = omega arith in rw z refl
 
-pub room_left : {contents bodies out : List ℕ} {at : ℕ} → Listable contents bodies out at → at + length (lines_left contents bodies (count_of contents) 0) ≤ length out
+pub room_left : {contents bodies left : List ℕ} → Listable contents bodies left → length (lines_left contents bodies (count_of contents) 0) ≤ length left
 room_left {contents} {bodies} l = rw (lines_all contents bodies) l.room
 
-pub key_fits : {contents bodies out : List ℕ} {at : ℕ} (i : ℕ) (r : image.Row) → Listable contents bodies out at → row_of r ≡ row_at contents i → i < count_of contents
+pub key_fits : {contents bodies left : List ℕ} (i : ℕ) (r : image.Row) → Listable contents bodies left → row_of r ≡ row_at contents i → i < count_of contents
     → r.start + r.key ≤ length bodies
 key_fits i r l e h = omega (arith, l.keys_within i h, ap key_end e)

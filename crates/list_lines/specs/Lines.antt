@@ -20,8 +20,8 @@ unfoldable pub row_lines : ℕ → List Row → List ℕ → List ℕ
 row_lines i [] bodies = []
 row_lines i (r ∷ rs) bodies = entry_line i (key_at bodies r) r.value_length ++ row_lines (i + 1) rs bodies
 
--- the rows and their keys lie in the buffers, and `out` has room for their lines
-pub record Listable (contents bodies out : List ℕ) (at : ℕ) : Type 0 where
+-- the rows and their keys lie in the buffers, and what is left of a buffer has room for their lines
+pub record Listable (contents bodies left : List ℕ) : Type 0 where
   pub rows_within : row_start (count_of contents) ≤ length contents
   pub keys_within : (i : ℕ) → i < count_of contents → key_end (row_at contents i) ≤ length bodies
-  pub room : at + length (row_lines 0 (rows_in contents) bodies) ≤ length out
+  pub room : length (row_lines 0 (rows_in contents) bodies) ≤ length left

@@ -21,10 +21,11 @@ use Rattle.laws.proofs.Reading.{bare_sourced, Reads, accepted_reads, reads_outco
 use Rattle.image.specs.Rows.{row_at}
 use Rattle.image.proofs.Rows.{row_is}
 use Rattle.printing.specs.Putting.{Appends}
-use Rattle.printing.proofs.Pieces.{piece_of, then_piece, piece_counts}
+use Rattle.printing.specs.declared.Lines.{Lines}
+use Rattle.printing.proofs.Pieces.{piece_of, then_piece}
 use Rattle.list_lines.specs.Lines.{entry_line, word_line, row_lines, Listable}
 use Rattle.list_lines.proofs.Lines.{entry_most}
-use Rattle.listing.specs.Listing.{entry_lines, written, printed, list_bytes, Lists, RefusesLong}
+use Rattle.listing.specs.Listing.{entry_lines, written, printed, list_bytes, RefusesLong}
 
 -- ---- The lines of entries
 
@@ -129,8 +130,8 @@ module _ (text c b : List ℕ) (n o : ℕ) (e : outcome (accepted n o) c b ≡ r
       omega (arith, ap key_end row, keys_end es 0 i d m, small, ap length bodies_are, written_long body_bytes bytes (store_of es) small (omega (arith, length_zeroes body_bytes)), length_zeroes body_bytes)
 
   -- the rows can be listed after the first line
-  pub listable : (out : List ℕ) (at : ℕ) → at ≤ 29 → list_bytes ≤ length out → Listable c b out at
-  listable out at h room = record {
+  pub listable : (left : List ℕ) → list_bytes ≤ length left + 29 → Listable c b left
+  listable left room = record {
     rows_within = omega (arith, ap count_of contents_are, image_count xs words, as_many, few, ap length contents_are, written_long contents_words words (contents_of xs) (contents_fit xs (omega (arith, as_many, few))) (omega (arith, length_zeroes contents_words)), length_zeroes contents_words);
     keys_within = key_within;
     room = omega (arith, ap length lines_are, lines_most 0 es, few, small);
@@ -140,16 +141,16 @@ module _ (text c b : List ℕ) (n o : ℕ) (e : outcome (accepted n o) c b ≡ r
   unfolding printed written
   is_printed = ap (λ (t : List ℕ). word_line (ascii "entries") n ++ t) lines_are ∙ rw (← e, count)
 
-  pub accepted_lists : {out o₁ o₂ : List ℕ} {e₁ e₂ : ℕ} → Appends (word_line (ascii "entries") n) out 0 o₁ e₁ → Appends (row_lines 0 (rows_in c) b) o₁ e₁ o₂ e₂ → Lists text out o₂ e₂
-  accepted_lists p q = let puts = piece_of is_printed (then_piece p q) in record { puts = puts; counts = piece_counts puts }
+  pub accepted_lists : {w w₁ w₂ : Lines} → Appends (word_line (ascii "entries") n) w w₁ → Appends (row_lines 0 (rows_in c) b) w₁ w₂ → Appends (printed text) w w₂
+  accepted_lists p q = piece_of is_printed (then_piece p q)
 
 refused_printed : (text c b : List ℕ) (k : ℕ) → outcome (refused k) c b ≡ reading default_depth (text ∷ []) no_files words bytes → word_line (ascii "refused") k ≡ printed text
 unfolding printed written
 refused_printed text c b k e = rw (← e)
 
-pub refused_lists : (text : List ℕ) {c b : List ℕ} {k : ℕ} {out o₁ : List ℕ} {e₁ : ℕ} → outcome (refused k) c b ≡ reading default_depth (text ∷ []) no_files words bytes
-    → Appends (word_line (ascii "refused") k) out 0 o₁ e₁ → Lists text out o₁ e₁
-refused_lists text {c} {b} {k} e p = let puts = piece_of (refused_printed text c b k e) p in record { puts = puts; counts = piece_counts puts }
+pub refused_lists : (text : List ℕ) {c b : List ℕ} {k : ℕ} {w w' : Lines} → outcome (refused k) c b ≡ reading default_depth (text ∷ []) no_files words bytes
+    → Appends (word_line (ascii "refused") k) w w' → Appends (printed text) w w'
+refused_lists text {c} {b} {k} e p = piece_of (refused_printed text c b k e) p
 
 -- a text that is too long
 long_printed : (text : List ℕ) → text_bytes < length text → word_line (ascii "refused") 2 ≡ printed text
@@ -158,5 +159,5 @@ long_printed text h =
     let short : too_short (zeroes contents_words) (zeroes body_bytes) ≡ false = rw (length_zeroes contents_words, length_zeroes body_bytes) in
     rw (short, lt-ltb text_bytes (length text) h)
 
-pub refuses_long : {out out' : List ℕ} {r : ℕ} → Appends (word_line (ascii "refused") 2) out 0 out' r → RefusesLong out out' r
-refuses_long p = record { puts = p; counts = piece_counts p; long = long_printed }
+pub refuses_long : {w w' : Lines} → Appends (word_line (ascii "refused") 2) w w' → RefusesLong w w'
+refuses_long p = record { puts = p; long = long_printed }

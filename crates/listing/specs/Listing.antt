@@ -6,8 +6,8 @@ use Rattle.definition.specs.Text.{Entry}
 use Rattle.definition.specs.Image.{key_of}
 use Rattle.definition.specs.Evaluation.{no_files}
 use Rattle.definition.specs.Reading.{Answer, accepted, refused, reading, plain, read_entries}
-use Rattle.io.specs.Counts.{IsPrefixLen}
 use Rattle.printing.specs.Putting.{Appends}
+use Rattle.printing.specs.declared.Lines.{Lines}
 use Rattle.list_lines.specs.Lines.{entry_line, word_line}
 
 -- a line for each entry, the first with the number i
@@ -28,13 +28,7 @@ printed text = written (reading default_depth (text ∷ []) no_files (zeroes con
 abbrev pub list_bytes : ℕ
 list_bytes = 65536
 
--- what is written stands at the front of `out`, which is else as it was
-pub record Lists (text out out' : List ℕ) (r : ℕ) : Type 0 where
-  pub puts : Appends (printed text) out 0 out' r
-  pub counts : IsPrefixLen r out'
-
--- the same for every text that is longer than a main text may be
-pub record RefusesLong (out out' : List ℕ) (r : ℕ) : Type 0 where
-  pub puts : Appends (word_line (ascii "refused") 2) out 0 out' r
-  pub counts : IsPrefixLen r out'
+-- what is put for every text that is longer than a main text may be
+pub record RefusesLong (w w' : Lines) : Type 0 where
+  pub puts : Appends (word_line (ascii "refused") 2) w w'
   pub long : (text : List ℕ) → text_bytes < length text → word_line (ascii "refused") 2 ≡ printed text

@@ -1,18 +1,19 @@
 // What the arguments of getres name, read: a text, and the files, as an archive.
 #![tactic(auto)]
 
-ghost use Rattle.std.specs.Prelude.{◌≡◌, length, IfOk};
-ghost use Rattle.definition.specs.Limits.{archive_bytes};
+ghost use Rattle.std.specs.Prelude.{◌≡◌, true, take, length, IfOk, IfSome};
+ghost use Rattle.definition.specs.Archive.{laid_out};
 ghost use Rattle.io.specs.Counts.{IsPrefixLen};
 ghost use Rattle.loading.specs.Loading.{Holds};
 
-use archive_add::{Added, add_file};
+use archive::Archive;
+use archive_add::{AddError, add_file};
 use arguments::name_end;
 use command_line::{argument, argument_count, next_argument};
-use copies::copy_in;
-use input::{Input, open, read_all};
+use input::{open, read_all};
 use limits::ARCHIVE_BYTES;
-use plans::{Plan, nothing_asked};
+use options::Next;
+use plans::Plan;
 use std::env::{Env, FillError};
 use std::io::{Error, Result};
 use writing::{complain, fail};
@@ -24,22 +25,15 @@ const ENAMETOOLONG: i32 = 36;
 
 // ---- Files
 
-// What was read of it, or that it cannot be opened or read, which is said.
-fn told(rt: &HostRuntime, what: &[u8], read: Result<usize>, buffer: &mut [u8]) -> Input
-    requires { IfOk read (λ n. IsPrefixLen n buffer.old) }
-    ensures { IsPrefixLen result.size buffer.new }
+// How much was read of it, if it could be opened and read; else that is said.
+fn told(rt: &HostRuntime, what: &[u8], read: Result<usize>) -> Option<usize>
+    ensures { IfSome result (λ n. read ≡ Ok n) }
 {
     match read {
-        Ok(size) => Input {
-            size,
-            failed: false,
-        },
+        Ok(size) => Some(size),
         Err(error) => {
             fail(rt, what, error);
-            Input {
-                size: 0,
-                failed: true,
-            }
+            None
         }
     }
 }
@@ -53,83 +47,84 @@ fn read_file(rt: &HostRuntime, path: &[u8], buffer: &mut [u8]) -> Result<usize>
 }
 
 // Reads a file by its path, and says what cannot be opened or read.
-fn read_path(rt: &HostRuntime, path: &[u8], buffer: &mut [u8]) -> Input
-    ensures { IsPrefixLen result.size buffer.new }
+fn read_path(rt: &HostRuntime, path: &[u8], buffer: &mut [u8]) -> Option<usize>
+    ensures { IfSome result (λ n. IsPrefixLen n buffer.new) }
 {
-    let read = read_file(rt, path, buffer);
-    told(rt, path, read, buffer)
+    told(rt, path, read_file(rt, path, buffer))
 }
 
 // Reads the text that an argument names, from standard input if that is `-`.
-pub fn read_text(rt: &HostRuntime, i: usize, buffer: &mut [u8]) -> Input
-    ensures { IsPrefixLen result.size buffer.new }
+pub fn read_text(rt: &HostRuntime, i: usize, buffer: &mut [u8]) -> Option<usize>
+    ensures { IfSome result (λ n. IsPrefixLen n buffer.new) }
 {
-    let mut path = io::buffer();
-    let n = argument(rt, i, &mut path);
-    if !check::same(&path[..n], b"-") {
-        return read_path(rt, &path[..n], buffer);
+    let mut word = io::buffer();
+    let path = argument(rt, i, &mut word);
+    if path == b"-".as_slice() {
+        told(rt, b"standard input", read_all(&mut rt.stdin(), buffer))
+    } else {
+        read_path(rt, path, buffer)
     }
-    let read = read_all(&mut rt.stdin(), buffer);
-    told(rt, b"standard input", read, buffer)
 }
 
 // ---- The archive
 
-// The archive at the start of a buffer, of so many bytes, and whether a file of it could not be loaded.
+// The archive of the files that arguments name.
 #[derive(Drop)]
-pub struct Loaded {
-    pub size: usize,
-    pub failed: bool,
+pub struct Files {
+    bytes: [u8; ARCHIVE_BYTES],
+    size: usize,
+    ghost held: { Holds bytes size },
 }
 
-// Says why a file cannot be added.
-fn explain(rt: &HostRuntime, name: &[u8], added: Added) {
-    match added {
-        Added::NotAName => complain(
-            rt,
-            name,
-            b"refused 3: not a file's name: 1 to 96 bytes, parts of letters, digits, _ - . joined by /",
-        ),
-        Added::Again => complain(rt, name, b"there are two files of this name"),
-        Added::TooMany => complain(rt, name, b"refused 3: more than 64 files"),
-        Added::TooLarge => complain(
-            rt,
-            name,
-            b"refused 3: the files have more than 65,536 bytes",
-        ),
-        Added::Size(_) => {}
+impl Files {
+    // None.
+    fn new() -> Files {
+        Files {
+            bytes: [0; ARCHIVE_BYTES],
+            size: 2,
+        }
+    }
+
+    pub fn archive(&self) -> Archive<'_>
+        ensures { result.bytes.now ≡ take self.now.size self.now.bytes }
+    {
+        Archive {
+            bytes: &self.bytes[..self.size],
+        }
+    }
+
+    // Adds a file, or says why it cannot.
+    fn add(&mut self, rt: &HostRuntime, name: &[u8], body: &[u8]) -> Option<()> {
+        let mut bytes = [0; ARCHIVE_BYTES];
+        match add_file(self.archive(), name, body, &mut bytes) {
+            Ok(size) => {
+                *self = Files { bytes, size };
+                Some(())
+            }
+            Err(why) => {
+                complain(rt, name, explained(why));
+                None
+            }
+        }
     }
 }
 
-// Adds a file to the archive of `size` bytes at the start of `archive`, or says why it cannot.
-fn add(rt: &HostRuntime, name: &[u8], body: &[u8], archive: &mut [u8], size: usize) -> Loaded
-    requires { (archive_bytes ≡ length archive.old) × Holds archive.old size }
-    ensures { Holds archive.new result.size }
-{
-    let mut out = [0; ARCHIVE_BYTES];
-    let added = add_file(&archive[..size], name, body, &mut out);
-    let Added::Size(n) = added else {
-        explain(rt, name, added);
-        return Loaded { size, failed: true };
-    };
-    copy_in(&out[..n], archive, 0);
-    Loaded {
-        size: n,
-        failed: false,
+// Why a file cannot be added.
+fn explained(why: AddError) -> &'static [u8] {
+    match why {
+        AddError::NotAName => {
+            b"refused 3: not a file's name: 1 to 96 bytes, parts of letters, digits, _ - . joined by /"
+        }
+        AddError::Again => b"there are two files of this name",
+        AddError::TooMany => b"refused 3: more than 64 files",
+        AddError::TooLarge => b"refused 3: the files have more than 65,536 bytes",
     }
 }
 
-fn load_path(rt: &HostRuntime, name: &[u8], path: &[u8], archive: &mut [u8], size: usize) -> Loaded
-    requires { (archive_bytes ≡ length archive.old) × Holds archive.old size }
-    ensures { Holds archive.new result.size }
-{
+fn load_path(rt: &HostRuntime, name: &[u8], path: &[u8], files: &mut Files) -> Option<()> {
     let mut body = [0; ARCHIVE_BYTES];
-    let input = read_path(rt, path, &mut body);
-    if input.failed {
-        return Loaded { size, failed: true };
-    }
-    let n = input.size;
-    add(rt, name, &body[..n], archive, size)
+    let n = read_path(rt, path, &mut body)?;
+    files.add(rt, name, &body[..n])
 }
 
 // Why an argument is not in a buffer, as the system numbers it.
@@ -141,62 +136,39 @@ fn unfilled(why: FillError) -> Error {
 }
 
 // Loads the file of an argument, `NAME=PATH` or a path that is the name too. No name has a `=`.
-fn load_file(rt: &HostRuntime, i: usize, archive: &mut [u8], size: usize) -> Loaded
-    requires { (archive_bytes ≡ length archive.old) × Holds archive.old size }
-    ensures { Holds archive.new result.size }
-{
+fn load_file(rt: &HostRuntime, i: usize, files: &mut Files) -> Option<()> {
     let mut buffer = io::buffer();
     // one that is too long would name another file
     let n = match rt.arg(i, &mut buffer) {
         Ok(n) => n,
         Err(why) => {
             fail(rt, b"--file", unfilled(why));
-            return Loaded { size, failed: true };
+            return None;
         }
     };
     let named = &buffer[..n];
     let at = name_end(named);
     if at == named.len() {
-        return load_path(rt, named, named, archive, size);
+        return load_path(rt, named, named, files);
     }
-    load_path(rt, &named[..at], &named[at + 1..], archive, size)
+    load_path(rt, &named[..at], &named[at + 1..], files)
 }
 
-// Loads the file of an argument, if it names one.
-fn load_argument(rt: &HostRuntime, plan: Plan, i: usize, archive: &mut [u8], size: usize) -> Loaded
-    requires { (archive_bytes ≡ length archive.old) × Holds archive.old size }
-    ensures { Holds archive.new result.size }
-{
-    if plan.next != options::FILE {
-        return Loaded {
-            size,
-            failed: false,
-        };
+// Loads the file of argument `i`, if it names one.
+fn load_argument(rt: &HostRuntime, plan: Plan, i: usize, files: &mut Files) -> Option<()> {
+    match plan.next {
+        Next::File => load_file(rt, i, files),
+        _ => Some(()),
     }
-    load_file(rt, i, archive, size)
 }
 
-// Loads the files of all arguments.
-pub fn load_files(rt: &HostRuntime, archive: &mut [u8]) -> Loaded
-    requires { archive_bytes ≡ length archive.old }
-    ensures { Holds archive.new result.size }
-{
-    copy_in(b"\0\0", archive, 0);
-    let mut plan = nothing_asked();
-    let mut size = 2;
-    let count = argument_count(rt);
-    let mut i = 1;
-    while i < count {
-        let loaded = load_argument(rt, plan, i, archive, size);
-        if loaded.failed {
-            return loaded;
-        }
-        size = loaded.size;
+// Loads the files of all arguments. What cannot be loaded is said.
+pub fn load_files(rt: &HostRuntime) -> Option<Files> {
+    let mut files = Files::new();
+    let mut plan = Plan::default();
+    for i in 1..argument_count(rt) {
+        load_argument(rt, plan, i, &mut files)?;
         plan = next_argument(rt, plan, i);
-        i += 1;
     }
-    Loaded {
-        size,
-        failed: false,
-    }
+    Some(files)
 }

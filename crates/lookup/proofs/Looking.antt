@@ -1,5 +1,6 @@
 -- The loop over the entries, and the tests before it. Assumes nothing.
-use Rattle.std.specs.Prelude.{if◌then◌else◌}
+use Rattle.std.specs.Prelude as std
+use Rattle.std.specs.Prelude.{if◌then◌else◌, Result, Ok, Err, Some, None, IfSome}
 use mathlib.Core.Bool.{Bool, true, false, ◌&&◌, not}
 use mathlib.Core.List.{List, [], ◌∷◌}
 use mathlib.Core.Option.{Option, some, none}
@@ -8,9 +9,9 @@ use Prim.Native.Nat.{ℕ, zero, suc, ◌+◌, ◌-◌, ◌≤◌, ◌<◌, min, 
 use native.Mathlib.Numerals.{add-one}
 use native.Mathlib.Nat.{sub-zero}
 use native.Mathlib.Omega.{arith}
-use lib.ListN.{length, get_or, take, drop, length-take}
+use lib.ListN.{length, get_or}
 use borrow.Author.Tests.{lt-ltb, le-ltb}
-use Rattle.definition.specs.Lists.{lower, zeroes}
+use Rattle.definition.specs.Lists.{lower}
 use Rattle.definition.specs.Limits.{body_bytes}
 use Rattle.definition.specs.Text.{Part}
 use Rattle.definition.specs.Image as image
@@ -20,25 +21,19 @@ use Rattle.definition.specs.Ranking.{Best, no_entry, best, rank_of, better, best
 use Rattle.definition.specs.Lookup.{keys_of, Reply, given, no_value, refused, Place, place_of, lookup, get_bytes_by, get_bytes_within}
 use Rattle.laws.proofs.Image.{count_rows}
 use Rattle.laws.proofs.Ranking.{best_beats}
-use Rattle.query.specs.Splits.{Inside}
-use Rattle.query.specs.Shapes.{both_shapes, shaped, split_names}
-use Rattle.query.specs.declared.Names.{Names}
-use Rattle.query.specs.declared.Shape.{Shape}
-use Rattle.query.specs.declared.Shape.TheVariants.{Good, Malformed, Many, Long}
-use Rattle.query.proofs.Queries.{Told, query_is, counted_shell}
+use Rattle.refusal.specs.declared.Refusal.{Refusal}
 use Rattle.marks.specs.Rows.{marks_of, is_live, marks_in, row_in, best_in, Long as RowLong, Stands, Held, lower_row, wins_over}
 use Rattle.positions.specs.Parts.{queried}
 use Rattle.marks.specs.declared.Marks.{Marks}
-use Rattle.marks.proofs.Rows.{rank_long, none_stands, stands_row, stands_own, wins_better}
+use Rattle.marks.proofs.Rows.{rank_long, none_stands, stands_own, wins_better}
 use Rattle.positions.proofs.Positions.{length_queried}
 use Rattle.image.specs.Rows.{row_at, rows_left, RowIs}
 use Rattle.image.specs.declared.Row.{Row}
 use Rattle.image.proofs.Rows.{rows_turn, row_is}
 use Rattle.image_judge.proofs.Judged.{judged}
-use Rattle.lookup.specs.Replies.{replied, LiesIn}
-use Rattle.lookup.specs.Searches.{row_held, held_by, considered, starts_of, lengths_of, SplitIn, row_of, Kept, Begun, Holds, is_entry, searched, numbered, searched_after, searched_in, number_or, entry_found, entry_in, entry_within, value_in}
-use Rattle.lookup.specs.declared.Lookup.{Lookup}
-use Rattle.lookup.specs.declared.Lookup.TheVariants.{Found, Nothing, Refused}
+use Rattle.lookup.specs.Replies.{place_in, replied, LiesIn, found_reply}
+use Rattle.lookup.specs.Searches.{considered, row_of, found_or, Begun, Holds, is_entry, searched, numbered, searched_after, searched_in, number_or, entry_found, entry_in, entry_within, value_in}
+use Rattle.lookup.specs.declared.Place as found
 
 and_false : (b : Bool) → (b && false) ≡ false
 and_false true = refl
@@ -66,25 +61,26 @@ module _ (len i at : ℕ) (b : Marks) (o : Option (List ℕ)) where
     stays e = sym (decided ∙ rw e refl)
 
 -- what the code holds after an entry
-module _ (o : Option (List ℕ)) (ns : List ℕ) (w : Bool) (won : w ≡ wins_over (marks_of o) (row_held ns)) where
-  pub takes : w ≡ true → held_by o ≡ considered o ns
+module _ (o : Option (List ℕ)) (held : Marks) (w : Bool) (won : w ≡ wins_over (marks_of o) held) where
+  pub takes : w ≡ true → marks_of o ≡ considered o held
   unfolding considered
   takes e = sym (rw (← won, e) refl)
 
-  pub keeps : w ≡ false → ns ≡ considered o ns
+  pub keeps : w ≡ false → held ≡ considered o held
   unfolding considered
   keeps e = sym (rw (← won, e) refl)
-
-kept_is : (len : ℕ) (o : Option (List ℕ)) → Stands len (marks_of o) o → Kept len (held_by o)
-kept_is len o s = record { row = stands_own len (marks_of o) o s; three = ap held_by (sym (stands_row len (marks_of o) o s)) }
 
 pub queried_long : (ps : List Part) (t ns nl u cs cl : List ℕ) → RowLong (max (length ns) (length cs)) (rank_of ps (queried t ns nl u cs cl))
 queried_long ps t ns nl u cs cl = rw (length_queried t ns nl u cs cl) at (rank_long ps (queried t ns nl u cs cl))
 
 -- no row is held at first
-pub begun_none : (first : Bool) (len : ℕ) → Begun first len (zeroes 3)
-unfolding zeroes marks_of
-begun_none first len = record { kept = kept_is len none (none_stands len); unended = and_false first }
+pub begun_none : (first : Bool) (len : ℕ) → Begun first len (marks_of none)
+unfolding marks_of
+begun_none first len = record { kept = stands_own len (marks_of none) none (none_stands len); unended = and_false first }
+
+pub best_none : (len last : ℕ) → best_in len last (marks_of none) ≡ no_entry
+unfolding marks_of best_in
+best_none len last = refl
 
 -- ---- The loop
 
@@ -111,98 +107,98 @@ won_live r top e = by (is_live r) e
     by false f = f
 
 -- the row that is held
-row_held_lem : (len at : ℕ) (r : Marks) → row_in len r ≡ row_of (best_in len at r)
+held_row : (len at : ℕ) (r : Marks) → row_in len r ≡ row_of (best_in len at r)
 unfolding best_in row_in row_of
-row_held_lem len at r = by (is_live r)
+held_row len at r = by (is_live r)
   where
     by : (b : Bool) → (if b then some (marks_in len r) else none) ≡ row_of (if b then best at (marks_in len r) else no_entry)
     by true = refl
     by false = refl
 
 -- what a search gives and leaves
-abbrev Searched : ℕ → ℕ → Best → ℕ → List ℕ → Type 0
-Searched last len b entry ns = (entry ≡ number_or last b) × (ns ≡ held_by (row_of b)) × Holds len entry ns b
+abbrev Searched : ℕ → ℕ → Best → ℕ → Marks → Type 0
+Searched last len b entry held = (entry ≡ number_or last b) × (held ≡ marks_of (row_of b)) × Holds len entry held b
 
-searched_is : (last len : ℕ) (b : Best) (entry : ℕ) (ns : List ℕ) → entry ≡ number_or last (best_in len entry (row_held ns)) → best_in len entry (row_held ns) ≡ b → Kept len ns
-    → Searched last len b entry ns
-searched_is last len b entry ns n z k =
-    (n ∙ ap (number_or last) z, k.three ∙ ap held_by (row_held_lem len entry (row_held ns) ∙ ap row_of z), record { is = z; kept = k })
+searched_is : (last len : ℕ) (b : Best) (entry : ℕ) (held : Marks) → entry ≡ number_or last (best_in len entry held) → best_in len entry held ≡ b → Held len held
+    → Searched last len b entry held
+searched_is last len b entry held n z k =
+    (n ∙ ap (number_or last) z, k.is ∙ ap marks_of (held_row len entry held ∙ ap row_of z), record { is = z; kept = k })
 
-module _ (contents bodies : List ℕ) (qs : List Position) (first : Bool) (next last len : ℕ) (top : List ℕ) where
+module _ (contents bodies : List ℕ) (qs : List Position) (first : Bool) (next last len : ℕ) (top : Marks) where
   abbrev keys_left : ℕ → List (List Part)
   keys_left i = keys_of (entries_in (rows_left contents last i) bodies)
 
   abbrev wanted : Best
-  wanted = searched first (keys_left next) qs next (best_in len last (row_held top))
+  wanted = searched first (keys_left next) qs next (best_in len last top)
 
   -- going on from entry i, with the best so far, comes to what is looked for
-  pub record Searching (i found : ℕ) (ns : List ℕ) : Type 0 where
-    pub same : searched first (keys_left i) qs i (best_in len found (row_held ns)) ≡ wanted
-    pub number : found ≡ number_or last (best_in len found (row_held ns))
-    pub begun : Begun first len ns
+  pub record Searching (i found : ℕ) (held : Marks) : Type 0 where
+    pub same : searched first (keys_left i) qs i (best_in len found held) ≡ wanted
+    pub number : found ≡ number_or last (best_in len found held)
+    pub begun : Begun first len held
 
   pub searching_first : Begun first len top → Searching next last top
   unfolding best_in number_or
-  searching_first b = record { same = refl; number = by (is_live (row_held top)); begun = b }
+  searching_first b = record { same = refl; number = by (is_live top); begun = b }
     where
-      by : (b : Bool) → last ≡ number_or last (if b then best last (marks_in len (row_held top)) else no_entry)
+      by : (b : Bool) → last ≡ number_or last (if b then best last (marks_in len top) else no_entry)
       by true = refl
       by false = refl
 
-  module _ (i found : ℕ) (ns : List ℕ) (s : Searching i found ns) where
+  module _ (i found : ℕ) (held : Marks) (s : Searching i found held) where
     abbrev rank : Option (List ℕ)
     rank = rank_of (key_parts (key_at bodies (row_at contents i))) qs
 
     module _ (h : i < last) where
       -- the best after entry i, by its number and its row
-      module _ (at : ℕ) (ns' : List ℕ) (e : best_in len at (row_held ns') ≡ better i rank (best_in len found (row_held ns))) (n : at ≡ number_or last (best_in len at (row_held ns'))) where
-        turn : searched first (keys_left i) qs i (best_in len found (row_held ns))
-            ≡ (if first && is_entry (best_in len at (row_held ns')) then best_in len at (row_held ns') else searched first (keys_left (i + 1)) qs (i + 1) (best_in len at (row_held ns')))
+      module _ (at : ℕ) (held' : Marks) (e : best_in len at held' ≡ better i rank (best_in len found held)) (n : at ≡ number_or last (best_in len at held')) where
+        turn : searched first (keys_left i) qs i (best_in len found held)
+            ≡ (if first && is_entry (best_in len at held') then best_in len at held' else searched first (keys_left (i + 1)) qs (i + 1) (best_in len at held'))
         unfolding searched entries_in
         turn = rw (rows_turn contents last i h, ← add-one i, e) refl
 
-        searching_more : Begun first len ns' → Searching (i + 1) at ns'
-        searching_more b = record { same = sym (sym s.same ∙ turn ∙ rw (live_entry len at (row_held ns'), b.unended) refl); number = n; begun = b }
+        searching_more : Begun first len held' → Searching (i + 1) at held'
+        searching_more b = record { same = sym (sym s.same ∙ turn ∙ rw (live_entry len at held', b.unended) refl); number = n; begun = b }
 
-        searching_stops : (first && is_live (row_held ns')) ≡ true → Kept len ns' → Searched last len wanted at ns'
-        searching_stops f k = searched_is last len wanted at ns' n (sym (sym s.same ∙ turn ∙ rw (live_entry len at (row_held ns'), f) refl)) k
+        searching_stops : (first && is_live held') ≡ true → Held len held' → Searched last len wanted at held'
+        searching_stops f k = searched_is last len wanted at held' n (sym (sym s.same ∙ turn ∙ rw (live_entry len at held', f) refl)) k
 
       -- past an entry that has no row
-      pub passes : rank ≡ none → Searching (i + 1) found ns
-      passes e = searching_more found ns (passed_over len i found (row_held ns) rank e) s.number s.begun
+      pub passes : rank ≡ none → Searching (i + 1) found held
+      passes e = searching_more found held (passed_over len i found held rank e) s.number s.begun
 
       -- an entry whose row is held against the best so far
-      module _ (long : RowLong len rank) (w : Bool) (won : w ≡ wins_over (marks_of rank) (row_held ns)) (ns' : List ℕ) (is : ns' ≡ considered rank ns) where
-        pub loses : w ≡ false → Searching (i + 1) found ns'
+      module _ (long : RowLong len rank) (w : Bool) (won : w ≡ wins_over (marks_of rank) held) (held' : Marks) (is : held' ≡ considered rank held) where
+        pub loses : w ≡ false → Searching (i + 1) found held'
         loses f =
-            let e : ns' ≡ ns = is ∙ sym (keeps rank ns w won f) in
-            rw e (searching_more found ns (stays len i found (row_held ns) rank s.begun.kept.row (marks_of rank) refl long w won f) s.number s.begun)
+            let e : held' ≡ held = is ∙ sym (keeps rank held w won f) in
+            rw e (searching_more found held (stays len i found held rank s.begun.kept (marks_of rank) refl long w won f) s.number s.begun)
 
         module _ (f : w ≡ true) where
-          abbrev taken : ns' ≡ held_by rank
-          taken = is ∙ sym (takes rank ns w won f)
+          abbrev taken : held' ≡ marks_of rank
+          taken = is ∙ sym (takes rank held w won f)
 
           live : is_live (marks_of rank) ≡ true
-          live = won_live (marks_of rank) (row_held ns) (sym won ∙ f)
+          live = won_live (marks_of rank) held (sym won ∙ f)
 
-          over : best_in len i (marks_of rank) ≡ better i rank (best_in len found (row_held ns))
-          over = takes_over len i found (row_held ns) rank s.begun.kept.row (marks_of rank) refl long w won f
+          over : best_in len i (marks_of rank) ≡ better i rank (best_in len found held)
+          over = takes_over len i found held rank s.begun.kept (marks_of rank) refl long w won f
 
-          kept : Kept len (held_by rank)
-          kept = kept_is len rank (record { is = refl; long = long })
+          kept : Held len (marks_of rank)
+          kept = stands_own len (marks_of rank) rank (record { is = refl; long = long })
 
-          pub goes_on : first ≡ false → Searching (i + 1) i ns'
+          pub goes_on : first ≡ false → Searching (i + 1) i held'
           goes_on g =
-              rw taken (searching_more i (held_by rank) over (live_number last len i (marks_of rank) live) (record { kept = kept; unended = rw g refl }))
+              rw taken (searching_more i (marks_of rank) over (live_number last len i (marks_of rank) live) (record { kept = kept; unended = rw g refl }))
 
-          pub stops : first ≡ true → Searched last len wanted i ns'
-          stops g = rw taken (searching_stops i (held_by rank) over (live_number last len i (marks_of rank) live) (rw g live) kept)
+          pub stops : first ≡ true → Searched last len wanted i held'
+          stops g = rw taken (searching_stops i (marks_of rank) over (live_number last len i (marks_of rank) live) (rw g live) kept)
 
-    pub searching_ends : last ≤ i → Searched last len wanted found ns
+    pub searching_ends : last ≤ i → Searched last len wanted found held
     unfolding searched rows_from entries_in
     searching_ends h =
         let e : last - i ≡ 0 = omega arith in
-        searched_is last len wanted found ns s.number (sym (sym s.same ∙ rw e refl)) s.begun.kept
+        searched_is last len wanted found held s.number (sym (sym s.same ∙ rw e refl)) s.begun.kept
 
 -- ---- What is found stands below `last`
 
@@ -282,7 +278,35 @@ module _ (contents bodies : List ℕ) where
       at (best i row) e = unfold numbered place_of in
           rw (row_is contents i (record { start = 0; key_length = 0; value_length = 0 }) (best_inside qs i row e)) refl
 
+-- the value of the entry that a query gives
+value_asked : (contents bodies : List ℕ) (q : Query) → value_in contents (entry_in false 0 (count_of contents) contents bodies q) ≡ lookup (rows_in contents) bodies q
+unfolding value_in entry_in lookup
+value_asked contents bodies (positions qs) = value_is contents bodies qs
+value_asked contents bodies malformed = refl
+value_asked contents bodies (past_limit k) = refl
+
 -- ---- The calls
+
+-- what is found, as the definition says it
+found_told : (last : ℕ) (b : Best) (r : std.Option ℕ) → found_or last r ≡ number_or last b → IfSome r (λ i. i < last) → found_reply r ≡ entry_found last (number_or last b)
+unfolding entry_found
+found_told last b None e h = rw (← e, le-ltb last last (omega arith)) refl
+found_told last b (Some i) e h = rw (← e, lt-ltb i last h) refl
+
+-- what a query decides
+module _ (first : Bool) (next last : ℕ) (contents bodies : List ℕ) (q : Query) where
+  pub in_past : (k : ℕ) → past_limit k ≡ q → refused k ≡ entry_in first next last contents bodies q
+  unfolding entry_in
+  in_past k e = ap (entry_in first next last contents bodies) e
+
+  pub in_malformed : malformed ≡ q → no_value ≡ entry_in first next last contents bodies q
+  unfolding entry_in
+  in_malformed e = ap (entry_in first next last contents bodies) e
+
+  pub in_found : (qs : List Position) → positions qs ≡ q → (r : std.Option ℕ) → found_or last r ≡ number_or last (searched_in first next last contents bodies qs)
+      → IfSome r (λ i. i < last) → found_reply r ≡ entry_in first next last contents bodies q
+  unfolding entry_in
+  in_found qs e r n b = found_told last _ r n b ∙ number_told contents bodies qs first next last _ refl ∙ ap (entry_in first next last contents bodies) e
 
 -- an image is judged before any query
 module _ (most : Bounds) (contents bodies name class : List ℕ) where
@@ -298,70 +322,22 @@ module _ (most : Bounds) (contents bodies name class : List ℕ) where
   unfolding entry_within
   no_image first next count e = rw e refl
 
-  -- what the shape of name and class decides
-  module _ (image : is_image contents bodies ≡ true) {a b : Shape} {ns nl cs cl : List ℕ} (N : Told most name a ns nl) (C : Told most class b cs cl) (s : Shape) (e : s ≡ both_shapes a b) where
-    abbrev ps : List Position
-    ps = queried name ns nl class cs cl
-
-    query_shaped : (t : Shape) → s ≡ t → query_within most name class ≡ shaped t ps
-    query_shaped t f = query_is most name class N C ∙ ap (λ (x : Shape). shaped x ps) (sym e ∙ f)
-
-    bytes_shaped : (t : Shape) → s ≡ t → lookup (rows_in contents) bodies (shaped t ps) ≡ get_bytes_within most contents bodies name class
+  module _ (image : is_image contents bodies ≡ true) where
+    -- the value of the entry that the search gives
+    pub bytes_found : (last : ℕ) → last ≡ count_of contents → (r : Reply ℕ) → r ≡ entry_in false 0 last contents bodies (query_within most name class)
+        → value_in contents r ≡ get_bytes_within most contents bodies name class
     unfolding get_bytes_by
-    bytes_shaped t f = rw (image, query_shaped t f) refl
+    bytes_found last z r e = ap (value_in contents) e ∙ rw (z, image) (value_asked contents bodies (query_within most name class))
 
-    pub bytes_long : s ≡ Long → refused 9 ≡ get_bytes_within most contents bodies name class
-    bytes_long f = unfold lookup shaped in bytes_shaped Long f
-
-    pub bytes_malformed : s ≡ Malformed → no_value ≡ get_bytes_within most contents bodies name class
-    bytes_malformed f = unfold lookup shaped in bytes_shaped Malformed f
-
-    pub bytes_many : s ≡ Many → refused 10 ≡ get_bytes_within most contents bodies name class
-    bytes_many f = unfold lookup shaped in bytes_shaped Many f
-
-    pub bytes_good : s ≡ Good → (i last : ℕ) → last ≡ count_of contents → i ≡ number_or last (searched_in false 0 last contents bodies ps)
-        → value_in contents (entry_found last i) ≡ get_bytes_within most contents bodies name class
-    unfolding shaped
-    bytes_good f i last z g =
-        ap (value_in contents) (number_told contents bodies ps false 0 last i g) ∙ rw z (value_is contents bodies ps ∙ bytes_shaped Good f)
-
-    module _ (first : Bool) (next count : ℕ) where
-      entry_shaped : (t : Shape) → s ≡ t → entry_in first next (min count (count_of contents)) contents bodies (shaped t ps) ≡ entry_within most first next count contents bodies name class
-      unfolding entry_within
-      entry_shaped t f = rw (image, query_shaped t f) refl
-
-      pub entry_long : s ≡ Long → refused 9 ≡ entry_within most first next count contents bodies name class
-      entry_long f = unfold entry_in shaped in entry_shaped Long f
-
-      pub entry_malformed : s ≡ Malformed → no_value ≡ entry_within most first next count contents bodies name class
-      entry_malformed f = unfold entry_in shaped in entry_shaped Malformed f
-
-      pub entry_many : s ≡ Many → refused 10 ≡ entry_within most first next count contents bodies name class
-      entry_many f = unfold entry_in shaped in entry_shaped Many f
-
-      pub entry_good : s ≡ Good → (i last : ℕ) → last ≡ min count (count_of contents) → i ≡ number_or last (searched_in first next last contents bodies ps)
-          → entry_found last i ≡ entry_within most first next count contents bodies name class
-      unfolding shaped entry_in
-      entry_good f i last z g = number_told contents bodies ps first next last i g ∙ rw z (entry_shaped Good f)
-
--- the shell's parts, held by value
-module _ (t : List ℕ) (n : Names) (e : n ≡ split_names t) where
-  pub split_in : Inside t (starts_of n.split) (lengths_of n.split) → SplitIn t n.split
-  split_in i = record { inside = i; starts_held = (counted_shell t n e).0; lengths_held = (counted_shell t n e).1 }
+    pub entry_asked : (first : Bool) (next count : ℕ) → entry_in first next (min count (count_of contents)) contents bodies (query_within most name class) ≡ entry_within most first next count contents bodies name class
+    unfolding entry_within
+    entry_asked first next count = rw image refl
 
 -- ---- The answer
 
-module _ (contents bodies : List ℕ) (i : ℕ) (r : Row) (e : RowIs contents i r) where
-  module _ (image : is_image contents bodies ≡ true) (h : i < count_of contents) where
-    pub key_short : length (take (r.start + r.key - r.start) (drop r.start bodies)) ≤ body_bytes
-    key_short =
-        let j = judged contents bodies image in
-        let v : r.start + r.key + r.value ≡ value_end (row_at contents i) = ap value_end e.is in
-        omega (arith, length-take (r.start + r.key - r.start) (drop r.start bodies), v, j.row_inside i h, j.used_most)
-
-  -- the answer from the row of the best entry
-  pub found_is : ◌≡◌ {A = Reply Place} (given (record { start = r.start + r.key; length = r.value })) (given (record { start = key_end (row_at contents i); length = (row_at contents i).value_length }))
-  found_is = ap (λ (x : image.Row). given (record { start = key_end x; length = x.value_length })) e.is
+-- the place of a row's value
+pub place_is : (contents : List ℕ) (i : ℕ) (r : Row) → RowIs contents i r → ◌≡◌ {A = Place} (record { start = r.start + r.key; length = r.value }) (place_in (row_at contents i))
+place_is contents i r e = ap (λ (x : image.Row). place_in x) e.is
 
 -- ---- A value that is found lies in the bodies that an image has
 
@@ -406,7 +382,8 @@ pub found_inside : (most : Bounds) (contents bodies name class : List ℕ) (p n 
     → p + n ≤ length bodies
 found_inside most contents bodies name class p n e = let f = found_placed most contents bodies name class p n e in omega (arith, f.0, f.1)
 
-pub bytes_within : (most : Bounds) (contents bodies name class : List ℕ) (r : Lookup) → replied r ≡ get_bytes_within most contents bodies name class → LiesIn r (length bodies)
-bytes_within most contents bodies name class (Found p n) e = found_inside most contents bodies name class p n e
-bytes_within most contents bodies name class Nothing e = tt
-bytes_within most contents bodies name class (Refused k) e = tt
+pub bytes_within : (most : Bounds) (contents bodies name class : List ℕ) (r : Result (std.Option found.Place) Refusal) → replied r ≡ get_bytes_within most contents bodies name class
+    → LiesIn r (length bodies)
+bytes_within most contents bodies name class (Ok (Some p)) e = found_inside most contents bodies name class p.start p.size e
+bytes_within most contents bodies name class (Ok None) e = tt
+bytes_within most contents bodies name class (Err k) e = tt

@@ -1,5 +1,6 @@
 -- What a search over the entries of an image finds: a lookup and a step of a walk are one.
-use Rattle.std.specs.Prelude.{Bool, true, false, ◌&&◌, not, List, [], ◌∷◌, ◌≡◌, ℕ, suc, ◌≤◌, min, ltb, length, get_or, take, if◌then◌else◌}
+use Rattle.std.specs.Prelude.{Bool, true, false, ◌&&◌, not, List, [], ◌∷◌, ◌≡◌, ℕ, suc, min, ltb, if◌then◌else◌, Some, None}
+use Rattle.std.specs.Prelude as std
 use Rattle.std.proofs.Math.Option.{Option, some, none}
 use Rattle.definition.specs.Text.{Part}
 use Rattle.definition.specs.Image.{count_of, key_end, entries_in, is_image}
@@ -7,36 +8,14 @@ use Rattle.definition.specs.Query.{Position, Query, positions, malformed, past_l
 use Rattle.definition.specs.Ranking.{Best, no_entry, best, rank_of, better}
 use Rattle.definition.specs.Lookup.{keys_of, Reply, given, no_value, refused, Place}
 use Rattle.image.specs.Rows.{row_at, rows_left}
-use Rattle.query.specs.Splits.{Inside}
-use Rattle.query.specs.declared.Split.{Split}
-use Rattle.marks.specs.Rows.{marks_of, is_live, row_in, best_in, Held, wins_over}
+use Rattle.marks.specs.Rows.{marks_of, is_live, best_in, Held, wins_over}
 use Rattle.marks.specs.declared.Marks.{Marks}
-
--- ---- A query's parts, held by value
-
-abbrev pub starts_of : Split → List ℕ
-starts_of s = take s.count s.starts
-
-abbrev pub lengths_of : Split → List ℕ
-lengths_of s = take s.count s.lengths
-
-pub record SplitIn (text : List ℕ) (s : Split) : Type 0 where
-  pub inside : Inside text (starts_of s) (lengths_of s)
-  pub starts_held : s.count ≤ length s.starts
-  pub lengths_held : s.count ≤ length s.lengths
 
 -- ---- One entry
 
--- the best row so far, as three lent numbers hold it
-abbrev pub row_held : List ℕ → Marks
-row_held ns = record { high = get_or ns 0 0; middle = get_or ns 1 0; low = get_or ns 2 0 }
-
-abbrev pub held_by : Option (List ℕ) → List ℕ
-held_by row = (marks_of row).high ∷ (marks_of row).middle ∷ (marks_of row).low ∷ []
-
--- the numbers after an entry with that row, if it has one
-unfoldable pub considered : Option (List ℕ) → List ℕ → List ℕ
-considered row ns = if wins_over (marks_of row) (row_held ns) then held_by row else ns
+-- the best row so far after an entry with that row, if it has one
+unfoldable pub considered : Option (List ℕ) → Marks → Marks
+considered row held = if wins_over (marks_of row) held then marks_of row else held
 
 -- ---- A search
 
@@ -72,20 +51,20 @@ unfoldable pub number_or : ℕ → Best → ℕ
 number_or last no_entry = last
 number_or last (best i row) = i
 
--- three numbers hold a row of a mark for each position, or none
-pub record Kept (len : ℕ) (ns : List ℕ) : Type 0 where
-  pub row : Held len (row_held ns)
-  pub three : ns ≡ held_by (row_in len (row_held ns))
+-- the number of an entry that is found, and `last` for none
+abbrev pub found_or : ℕ → std.Option ℕ → ℕ
+found_or last None = last
+found_or last (Some i) = i
 
--- before a search; none where the first entry that aligns is asked for
-pub record Begun (first : Bool) (len : ℕ) (ns : List ℕ) : Type 0 where
-  pub kept : Kept len ns
-  pub unended : (first && is_live (row_held ns)) ≡ false
+-- before a search a row of a mark for each position is held, or none; none where the first entry that aligns is asked for
+pub record Begun (first : Bool) (len : ℕ) (held : Marks) : Type 0 where
+  pub kept : Held len held
+  pub unended : (first && is_live held) ≡ false
 
 -- and after it: the best so far, by the number of its entry and its row
-pub record Holds (len entry : ℕ) (ns : List ℕ) (b : Best) : Type 0 where
-  pub is : best_in len entry (row_held ns) ≡ b
-  pub kept : Kept len ns
+pub record Holds (len entry : ℕ) (held : Marks) (b : Best) : Type 0 where
+  pub is : best_in len entry held ≡ b
+  pub kept : Held len held
 
 unfoldable pub entry_found : ℕ → ℕ → Reply ℕ
 entry_found last i = if ltb i last then given i else no_value

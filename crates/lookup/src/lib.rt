@@ -1,262 +1,188 @@
 // Lookups: `match_entry` and `Database::get_bytes` of the Rust.
 #![tactic(auto)]
 
-ghost use Rattle.std.specs.Prelude.{◌≡◌, true, ◌≤◌, min, max, length};
+ghost use Rattle.std.specs.Prelude.{◌≡◌, true, false, ℕ, ◌≤◌, ◌<◌, min, max, length, IfSome, Ok};
 ghost use Rattle.definition.specs.Limits.{body_bytes};
-ghost use Rattle.definition.specs.Image.{count_of, key_parts, is_key, is_image};
-ghost use Rattle.definition.specs.Query.{shell, window};
+ghost use Rattle.definition.specs.Image.{count_of, key_parts, is_key};
+ghost use Rattle.definition.specs.Query.{query_within, query_of, shell, window};
 ghost use Rattle.definition.specs.Ranking.{rank_of};
 ghost use Rattle.definition.specs.Lookup.{get_bytes_within, get_bytes};
-ghost use Rattle.image.specs.Rows.{row_start};
-ghost use Rattle.query.specs.Splits.{Inside};
+ghost use Rattle.query.specs.Splits.{SplitIn, starts_of, lengths_of};
 ghost use Rattle.marks.specs.Rows.{marks_of, best_in, wins_over};
-ghost use Rattle.positions.specs.Parts.{queried};
-ghost use Rattle.lookup.specs.Replies.{replied, entry_replied};
-ghost use Rattle.lookup.specs.Searches.{row_held, held_by, considered, starts_of, lengths_of, SplitIn, row_of, Begun, Holds, searched_after, searched_in, number_or, entry_found, entry_within, value_in};
+ghost use Rattle.positions.specs.Parts.{queried, positions_in};
+ghost use Rattle.lookup.specs.Replies.{replied, entry_replied, found_reply, FoundBelow};
+ghost use Rattle.lookup.specs.Searches.{considered, row_of, Begun, Holds, found_or, searched_after, searched_in, number_or, entry_in, entry_within, value_in};
 
-use image::row_at;
-use image_judge::is_image;
+use image_judge::Image;
 use key_end::may_match;
-use limits::{WINDOW_BYTES, WINDOW_PARTS};
-use marks::{Marks, wins};
+use limits::{QUERY_BYTES, QUERY_PARTS, WINDOW_BYTES, WINDOW_PARTS};
+use marks::{Marks, no_row, wins};
 use matcher::match_key;
-use positions::{last_part, longer};
-use query::{Shape, Split, both, parse_query, split_names};
+use positions::{count_positions, last_part};
+use query::{Names, Split, both, parse_both, parse_query};
+use refusal::Refusal;
 
-// What a lookup answers: the value's place in the bodies and its length, none, or the number that refuses it.
+// Where a value lies in the bodies.
 #[derive(Clone, Copy)]
-pub enum Lookup {
-    Found(usize, usize),
-    Nothing,
-    Refused(u8),
-}
-
-// The number of an entry that is looked for, none, or the number that refuses it.
-#[derive(Drop)]
-pub enum Entry {
-    At(usize),
-    Nothing,
-    Refused(u8),
-}
-
-// The best row so far, as it is lent from one search to the next: the three numbers of a row of marks.
-fn row_of(held: &[u32; 3]) -> Marks
-    ensures { result ≡ row_held held.now }
-{
-    Marks {
-        high: held[0],
-        middle: held[1],
-        low: held[2],
-    }
+pub struct Place {
+    pub start: usize,
+    pub size: usize,
 }
 
 // Does an entry with that key beat those passed so far? Then its row is held.
-fn consider(
-    key: &[u8],
-    name: &[u8],
-    starts: &[u16],
-    lengths: &[u16],
-    class: &[u8],
-    class_starts: &[u16],
-    class_lengths: &[u16],
-    held: &mut [u32; 3],
-) -> bool
-    requires { (is_key key.now ≡ true) × (length key.now ≤ body_bytes) × Inside name.now starts.now lengths.now × Inside class.now class_starts.now class_lengths.now }
-    ensures { (result ≡ wins_over (marks_of (rank_of (key_parts key.now) (queried name.now starts.now lengths.now class.now class_starts.now class_lengths.now))) (row_held held.old)) × (held.new ≡ considered (rank_of (key_parts key.now) (queried name.now starts.now lengths.now class.now class_starts.now class_lengths.now)) held.old) }
+fn consider(key: &[u8], name: &Names, class: &Names, held: &mut Marks) -> bool
+    requires { (is_key key.now ≡ true) × (length key.now ≤ body_bytes) }
+    ensures { (result ≡ wins_over (marks_of (rank_of (key_parts key.now) (positions_in name.now class.now))) held.old) × (held.new ≡ considered (rank_of (key_parts key.now) (positions_in name.now class.now)) held.old) }
 {
-    let marks = match_key(
-        key,
-        name,
-        starts,
-        lengths,
-        class,
-        class_starts,
-        class_lengths,
-    );
-    let best = row_of(held);
-    if wins(marks, best) {
-        *held = [marks.high, marks.middle, marks.low];
+    let marks = match_key(key, name, class);
+    if wins(marks, *held) {
+        *held = marks;
         return true;
     }
     false
 }
 
 // Of the entries from `next` on and below `last`, after those whose best row is held: the one that beats all of these, or the first that aligns. Its
-// number, and `last` for none; its row is then held. The one search for the shell's queries, the dictionary window's, and the packs of a board.
+// row is then held. The one search for the shell's queries, the dictionary window's, and the packs of a board.
 pub fn search(
-    contents: &[u16],
-    bodies: &[u8],
-    name: &[u8],
-    starts: &[u16],
-    lengths: &[u16],
-    class: &[u8],
-    class_starts: &[u16],
-    class_lengths: &[u16],
+    image: &Image,
+    name: &Names,
+    class: &Names,
     next: usize,
     last: usize,
     first: bool,
-    held: &mut [u32; 3],
-) -> usize
-    requires { (is_image contents.now bodies.now ≡ true) × Inside name.now starts.now lengths.now × Inside class.now class_starts.now class_lengths.now × (last ≤ count_of contents.now) × Begun first (max (length starts.now) (length class_starts.now)) held.old }
-    ensures { (result ≡ number_or last (searched_after (best_in (max (length starts.now) (length class_starts.now)) last (row_held held.old)) first next last contents.now bodies.now (queried name.now starts.now lengths.now class.now class_starts.now class_lengths.now))) × (held.new ≡ held_by (row_of (searched_after (best_in (max (length starts.now) (length class_starts.now)) last (row_held held.old)) first next last contents.now bodies.now (queried name.now starts.now lengths.now class.now class_starts.now class_lengths.now)))) × Holds (max (length starts.now) (length class_starts.now)) result held.new (searched_after (best_in (max (length starts.now) (length class_starts.now)) last (row_held held.old)) first next last contents.now bodies.now (queried name.now starts.now lengths.now class.now class_starts.now class_lengths.now)) }
+    held: &mut Marks,
+) -> Option<usize>
+    requires { (last ≤ count_of image.now.contents.now) × Begun first (max (length name.now.starts.now) (length class.now.starts.now)) held.old }
+    ensures number { found_or last result ≡ number_or last (searched_after (best_in (max (length name.now.starts.now) (length class.now.starts.now)) last held.old) first next last image.now.contents.now image.now.bodies.now (positions_in name.now class.now)) }
+    ensures below { IfSome result (λ i. i < last) }
+    ensures held { held.new ≡ marks_of (row_of (searched_after (best_in (max (length name.now.starts.now) (length class.now.starts.now)) last held.old) first next last image.now.contents.now image.now.bodies.now (positions_in name.now class.now))) }
+    ensures holds { Holds (max (length name.now.starts.now) (length class.now.starts.now)) (found_or last result) held.new (searched_after (best_in (max (length name.now.starts.now) (length class.now.starts.now)) last held.old) first next last image.now.contents.now image.now.bodies.now (positions_in name.now class.now)) }
 {
-    let len = longer(starts.len(), class_starts.len());
-    let n = last_part(name, starts, lengths, len);
-    let c = last_part(class, class_starts, class_lengths, len);
-    let mut found = last;
-    let mut i = next;
-    while i < last {
-        let row = row_at(contents, i);
-        let start = row.start;
-        let end = start + row.key;
-        let key = &bodies[start..end];
+    // Copied, they stay in registers: what is held is written between two entries.
+    let image = *image;
+    let len = count_positions(name, class);
+    let n = last_part(name, len);
+    let c = last_part(class, len);
+    let mut found = None;
+    for i in next..last {
+        let key = image.key(i);
         // Few keys end as the query does. For the others nothing is copied.
         if may_match(key, n, c) {
-            if consider(
-                key,
-                name,
-                starts,
-                lengths,
-                class,
-                class_starts,
-                class_lengths,
-                held,
-            ) {
-                found = i;
+            if consider(key, name, class, held) {
+                found = Some(i);
                 if first {
-                    return i;
+                    return found;
                 }
             }
         }
-        i += 1;
     }
     found
 }
 
-// The same for queries of the shell, whose parts are held by value.
-fn match_entry(
-    contents: &[u16],
-    bodies: &[u8],
+// The same for a query whose parts are held by value.
+fn match_entry<const PARTS: usize>(
+    image: &Image,
     name: &[u8],
-    names: Split,
+    names: Split<PARTS>,
     class: &[u8],
-    classes: Split,
+    classes: Split<PARTS>,
     next: usize,
     last: usize,
     first: bool,
-) -> usize
-    requires { (is_image contents.now bodies.now ≡ true) × SplitIn name.now names × SplitIn class.now classes × (last ≤ count_of contents.now) }
-    ensures { result ≡ number_or last (searched_in first next last contents.now bodies.now (queried name.now (starts_of names) (lengths_of names) class.now (starts_of classes) (lengths_of classes))) }
+) -> Option<usize>
+    requires { SplitIn name.now names × SplitIn class.now classes × (last ≤ count_of image.now.contents.now) }
+    ensures number { found_or last result ≡ number_or last (searched_in first next last image.now.contents.now image.now.bodies.now (queried name.now (starts_of names.entry) (lengths_of names.entry) class.now (starts_of classes.entry) (lengths_of classes.entry))) }
+    ensures below { IfSome result (λ i. i < last) }
 {
-    let i = names.count;
-    let j = classes.count;
-    let starts = names.starts;
-    let lengths = names.lengths;
-    let class_starts = classes.starts;
-    let class_lengths = classes.lengths;
-    let mut held = [0; 3];
-    search(
-        contents,
-        bodies,
-        name,
-        &starts[..i],
-        &lengths[..i],
-        class,
-        &class_starts[..j],
-        &class_lengths[..j],
-        next,
-        last,
-        first,
-        &mut held,
-    )
+    let n = names.names(name);
+    let c = classes.names(class);
+    let mut held = no_row();
+    search(image, &n, &c, next, last, first, &mut held)
 }
 
-fn lesser(a: usize, b: usize) -> usize
-    ensures { result ≡ min a b }
+// The entry that a query of the shell finds: 9, malformed, 10.
+fn find_entry(
+    image: &Image,
+    name: &[u8],
+    class: &[u8],
+    next: usize,
+    last: usize,
+    first: bool,
+) -> Result<Option<usize>, Refusal>
+    requires { last ≤ count_of image.now.contents.now }
+    ensures found { entry_replied result ≡ entry_in first next last image.now.contents.now image.now.bodies.now (query_of name.now class.now) }
+    ensures below { FoundBelow last result }
 {
-    if b < a { b } else { a }
+    let Some((names, classes)) = parse_both::<QUERY_BYTES, QUERY_PARTS>(name, class)? else {
+        return Ok(None);
+    };
+    Ok(match_entry(image, name, names, class, classes, next, last, first))
 }
 
-// The value of an entry that a search below `last` gave.
-fn value_of(contents: &[u16], entry: usize, last: usize) -> Lookup
-    requires { row_start last ≤ length contents.now }
-    ensures { replied result ≡ value_in contents.now (entry_found last entry) }
+// The same of the dictionary window, in all entries. It stays beside the shell's, whose split query document 01 names by value: by value the parts
+// would stand on the stack twice, of which the window's has little.
+fn find_lent(image: &Image, name: &[u8], class: &[u8]) -> Result<Option<usize>, Refusal>
+    ensures found { entry_replied result ≡ entry_in false 0 (count_of image.now.contents.now) image.now.contents.now image.now.bodies.now (query_within window name.now class.now) }
+    ensures below { FoundBelow (count_of image.now.contents.now) result }
 {
-    if entry < last {
-        let row = row_at(contents, entry);
-        return Lookup::Found(row.start + row.key, row.value);
-    }
-    Lookup::Nothing
+    let mut names = Split::new();
+    let mut classes = Split::new();
+    let a = parse_query::<WINDOW_BYTES, WINDOW_PARTS>(name, &mut names);
+    let b = parse_query::<WINDOW_BYTES, WINDOW_PARTS>(class, &mut classes);
+    let Some(_) = both(a, b)? else {
+        return Ok(None);
+    };
+    let name = names.names(name);
+    let class = classes.names(class);
+    let last = image.count();
+    let mut held = no_row();
+    Ok(search(image, &name, &class, 0, last, false, &mut held))
+}
+
+// The value of an entry that a search found.
+#[tactic(auto, unfolding(crate::specs::Searches::value_in))]
+fn value_of(image: &Image, found: Option<usize>) -> Option<Place>
+    requires { IfSome found (λ i. i < count_of image.now.contents.now) }
+    ensures { replied (Ok result) ≡ value_in image.now.contents.now (found_reply found) }
+{
+    let Some(i) = found else {
+        return None;
+    };
+    let row = image.row(i);
+    Some(Place {
+        start: row.start + row.key,
+        size: row.value,
+    })
 }
 
 // The shell's lookup, at the bounds of document 01: 8, 9, malformed, 10. The image is judged before the search, and not on top of its stack.
-pub fn get_bytes(contents: &[u16], bodies: &[u8], name: &[u8], class: &[u8]) -> Lookup
+pub fn get_bytes(
+    contents: &[u16],
+    bodies: &[u8],
+    name: &[u8],
+    class: &[u8],
+) -> Result<Option<Place>, Refusal>
     ensures { replied result ≡ get_bytes contents.now bodies.now name.now class.now }
 {
-    if !is_image(contents, bodies) {
-        return Lookup::Refused(8);
-    }
-    let instances = parse_query(name);
-    let classes = parse_query(class);
-    let a = instances.shape;
-    let b = classes.shape;
-    let shape = both(a, b);
-    match shape {
-        Shape::Long => Lookup::Refused(9),
-        Shape::Malformed => Lookup::Nothing,
-        Shape::Many => Lookup::Refused(10),
-        Shape::Good => {
-            let n = instances.split;
-            let c = classes.split;
-            let last = contents[0] as usize;
-            let entry = match_entry(contents, bodies, name, n, class, c, 0, last, false);
-            value_of(contents, entry, last)
-        }
-    }
+    let image = Image::new(contents, bodies)?;
+    let last = image.count();
+    let found = find_entry(&image, name, class, 0, last, false)?;
+    Ok(value_of(&image, found))
 }
 
-// The dictionary window's, which has little stack: document 02 (vi). Its parts are lent, not copied.
-pub fn window_get_bytes(contents: &[u16], bodies: &[u8], name: &[u8], class: &[u8]) -> Lookup
+// The dictionary window's, which has little stack: document 02 (vi).
+pub fn window_get_bytes(
+    contents: &[u16],
+    bodies: &[u8],
+    name: &[u8],
+    class: &[u8],
+) -> Result<Option<Place>, Refusal>
     ensures { replied result ≡ get_bytes_within window contents.now bodies.now name.now class.now }
 {
-    if !is_image(contents, bodies) {
-        return Lookup::Refused(8);
-    }
-    let mut starts = [0; WINDOW_PARTS];
-    let mut lengths = [0; WINDOW_PARTS];
-    let mut class_starts = [0; WINDOW_PARTS];
-    let mut class_lengths = [0; WINDOW_PARTS];
-    let n = split_names(name, WINDOW_BYTES, &mut starts, &mut lengths);
-    let c = split_names(class, WINDOW_BYTES, &mut class_starts, &mut class_lengths);
-    let a = n.shape;
-    let b = c.shape;
-    let shape = both(a, b);
-    match shape {
-        Shape::Long => Lookup::Refused(9),
-        Shape::Malformed => Lookup::Nothing,
-        Shape::Many => Lookup::Refused(10),
-        Shape::Good => {
-            let i = n.count;
-            let j = c.count;
-            let last = contents[0] as usize;
-            let mut held = [0; 3];
-            let entry = search(
-                contents,
-                bodies,
-                name,
-                &starts[..i],
-                &lengths[..i],
-                class,
-                &class_starts[..j],
-                &class_lengths[..j],
-                0,
-                last,
-                false,
-                &mut held,
-            );
-            value_of(contents, entry, last)
-        }
-    }
+    let image = Image::new(contents, bodies)?;
+    let found = find_lent(&image, name, class)?;
+    Ok(value_of(&image, found))
 }
 
 // The first entry that aligns with a query, from `next` on and below both `count` and the image's own count.
@@ -267,30 +193,10 @@ pub fn first_entry(
     class: &[u8],
     next: usize,
     count: usize,
-) -> Entry
+) -> Result<Option<usize>, Refusal>
     ensures { entry_replied result ≡ entry_within shell true next count contents.now bodies.now name.now class.now }
 {
-    if !is_image(contents, bodies) {
-        return Entry::Refused(8);
-    }
-    let instances = parse_query(name);
-    let classes = parse_query(class);
-    let a = instances.shape;
-    let b = classes.shape;
-    let shape = both(a, b);
-    match shape {
-        Shape::Long => Entry::Refused(9),
-        Shape::Malformed => Entry::Nothing,
-        Shape::Many => Entry::Refused(10),
-        Shape::Good => {
-            let n = instances.split;
-            let c = classes.split;
-            let last = lesser(count, contents[0] as usize);
-            let entry = match_entry(contents, bodies, name, n, class, c, next, last, true);
-            if entry < last {
-                return Entry::At(entry);
-            }
-            Entry::Nothing
-        }
-    }
+    let image = Image::new(contents, bodies)?;
+    let last = count.min(image.count());
+    find_entry(&image, name, class, next, last, true)
 }

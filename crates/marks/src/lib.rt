@@ -18,7 +18,8 @@ const FIRST_TWO: usize = 22;
 // A row of marks, one for each position passed, if there is one. Each mark is a digit of base 7: 11 are in `high`, the next 11 in `middle`, those
 // after them in `low`, where a digit 1 leads them: without a row `low` is 0. So a row of 32 marks is 12 bytes, and of two rows the numbers
 // tell which is lower.
-#[derive(Clone, Copy)]
+// It says itself whether there is a row: an Option of it takes 16 bytes, and the window's stack has no room for 64 more in a split key's rows.
+#[derive(Clone, Copy, PartialEq, Eq, PartialOrd, Ord)]
 pub struct Marks {
     pub high: u32,
     pub middle: u32,
@@ -45,6 +46,8 @@ pub fn first_row() -> Marks
         low: 1,
     }
 }
+
+// That a row has `p` marks stands in each clause: a type for it would hold `p` too, in 16 bytes as above.
 
 // A row with mark `m` after its `p` marks.
 fn with_mark(row: Marks, m: u8, p: usize) -> Marks
@@ -124,28 +127,9 @@ pub fn next_row(
     no_row()
 }
 
-// Is the first row lower than the second? The first difference of their marks from the left decides.
-fn is_lower(a: Marks, b: Marks) -> bool
-    ensures { result ≡ lower_row a b }
-{
-    if a.high == b.high {
-        if a.middle == b.middle {
-            return a.low < b.low;
-        }
-        return a.middle < b.middle;
-    }
-    a.high < b.high
-}
-
 // Does the row of a later entry win over the best so far? Of equals the last wins.
 pub fn wins(r: Marks, best: Marks) -> bool
     ensures { result ≡ wins_over r best }
 {
-    if 0 < r.low {
-        if 0 < best.low {
-            return !is_lower(r, best);
-        }
-        return true;
-    }
-    false
+    0 < r.low && (best.low == 0 || best <= r)
 }

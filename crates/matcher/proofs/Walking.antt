@@ -1,4 +1,5 @@
 -- The invariants of `check_match`: over the positions, and at a position over the parts. Assumes nothing.
+use mathlib.Core.Bool.{true}
 use mathlib.Core.List.{List, [], ◌∷◌}
 use mathlib.Core.Option.{Option, some, none}
 use mathlib.Core.Path.{◌≡◌, refl, sym, ap, ◌∙◌}
@@ -13,15 +14,24 @@ use Rattle.definition.specs.Text.{Part, binding_of}
 use Rattle.definition.specs.Query.{Position}
 use Rattle.definition.specs.Matching.{mark_at}
 use Rattle.definition.specs.Ranking.{rank_of}
-use Rattle.definition.specs.Image.{key_parts}
+use Rattle.definition.specs.Image.{key_parts, is_key}
 use Rattle.laws.proofs.Lists.{Order, below, equal, above, order}
+use Rattle.laws.proofs.Keys.{parts_of}
 use Rattle.key.specs.Keys.{part_between, Bounded}
+use Rattle.key.proofs.Keys.{some_part}
 use Rattle.positions.specs.Parts.{mark_byte}
 use Rattle.positions.proofs.Marking.{mark_in, mark_in_lem}
 use Rattle.marks.specs.Rows.{marks_of, row_in, Stands, Roomy, skipped, stepped, next_of}
 use Rattle.marks.specs.declared.Marks.{Marks}
 use Rattle.marks.proofs.Rows.{skip_of, extended, none_stands, first_stands, stands_row, stands_own, stands_roomy, skipped_stands, stepped_stands, mark_digit, next_stands}
 use Rattle.matcher.proofs.Reached.{part, reached, reached_first, reached_turned, reached_last}
+
+-- a key has a part, and no more than 16
+pub key_some : (key : List ℕ) → is_key key ≡ true → 0 < length (key_parts key)
+key_some key h = some_part key (parts_of key h)
+
+pub key_few : (key : List ℕ) → is_key key ≡ true → length (key_parts key) ≤ most_parts
+key_few key h = (parts_of key h).few
 
 -- what an index past the rows has
 abbrev pub blank : Marks

@@ -5,30 +5,23 @@ ghost use Rattle.std.specs.Prelude.{◌≡◌, true, ◌≤◌, length};
 ghost use Rattle.definition.specs.Limits.{body_bytes};
 ghost use Rattle.definition.specs.Image.{key_parts, is_key};
 ghost use Rattle.definition.specs.Ranking.{rank_of};
-ghost use Rattle.query.specs.Splits.{Inside};
 ghost use Rattle.marks.specs.Rows.{marks_of};
-ghost use Rattle.positions.specs.Parts.{queried};
+ghost use Rattle.positions.specs.Parts.{positions_in};
 
 use key::split_key;
 use limits::MOST_PARTS;
 use marks::{Marks, first_row, next_row, no_row, skip_loose, step};
-use positions::{longer, mark, part_at};
+use positions::{count_positions, mark, part_at};
+use query::Names;
 
 // The highest row of a key: for each part the best row that reaches it, position by position, and what the last part, which must meet the
 // last position, gives there. Its mark is taken first: it needs no row, and what it needs is not kept over the loops, for there is little stack.
-pub fn match_key(
-    key: &[u8],
-    name: &[u8],
-    starts: &[u16],
-    lengths: &[u16],
-    class: &[u8],
-    class_starts: &[u16],
-    class_lengths: &[u16],
-) -> Marks
-    requires { (is_key key.now ≡ true) × (length key.now ≤ body_bytes) × Inside name.now starts.now lengths.now × Inside class.now class_starts.now class_lengths.now }
-    ensures { result ≡ marks_of (rank_of (key_parts key.now) (queried name.now starts.now lengths.now class.now class_starts.now class_lengths.now)) }
+#[tactic(auto, using(crate::proofs::Walking::key_some, crate::proofs::Walking::key_few))]
+pub fn match_key(key: &[u8], name: &Names, class: &Names) -> Marks
+    requires { (is_key key.now ≡ true) × (length key.now ≤ body_bytes) }
+    ensures { result ≡ marks_of (rank_of (key_parts key.now) (positions_in name.now class.now)) }
 {
-    let len = longer(starts.len(), class_starts.len());
+    let len = count_positions(name, class);
     let mut bounds: [u16; MOST_PARTS + 1] = [0; MOST_PARTS + 1];
     let count = split_key(key, &mut bounds);
     if len < count {
@@ -37,8 +30,8 @@ pub fn match_key(
     let last = len - 1;
     let top = count - 1;
     let binding = key[0];
-    let last_n = part_at(name, starts, lengths, last);
-    let last_c = part_at(class, class_starts, class_lengths, last);
+    let last_n = part_at(name, last);
+    let last_c = part_at(class, last);
     let last_b = bounds[top] as usize;
     let last_e = bounds[top + 1] as usize;
     let m = mark(key, last_b, last_e, last_n, last_c);
@@ -46,13 +39,10 @@ pub fn match_key(
     let mut rows = [blank; MOST_PARTS];
     let first = first_row();
     rows[0] = first;
-    let mut p = 0;
-    'positions: while p < last {
-        let n = part_at(name, starts, lengths, p);
-        let c = part_at(class, class_starts, class_lengths, p);
-        let mut i = top;
-        'parts: while 0 < i {
-            i -= 1;
+    'positions: for p in 0..last {
+        let n = part_at(name, p);
+        let c = part_at(class, p);
+        'parts: for i in (0..top).rev() {
             let b = bounds[i] as usize;
             let e = bounds[i + 1] as usize;
             let before = rows[i];
@@ -63,7 +53,6 @@ pub fn match_key(
         let row = rows[0];
         let r = skip_loose(row, binding, p);
         rows[0] = r;
-        p += 1;
     }
     let row = rows[top];
     step(row, m, last)

@@ -15,18 +15,17 @@ use copies::copy_in;
 use image::{Totals, close_image, row_by, write_row};
 use image_judge::is_old_image;
 use limits::{BODY_BYTES, CONTENTS_WORDS, OLD_ROW_WORDS, UNKNOWN_FILE};
-use reader::Answer;
+use reader::Accepted;
+use refusal::Refusal;
 
 // Writes the rows of an old image, of files that nobody knows.
 fn carry_rows(old: &[u16], count: usize, words: &mut [u16])
     requires { (row_start_by old_row_words count ≤ length old.now) × (row_start count ≤ length words.old) }
     ensures { words.new ≡ with_rows count old.now words.old }
 {
-    let mut i: usize = 0;
-    while i < count {
+    for i in 0..count {
         let row = row_by(old, OLD_ROW_WORDS, i);
         write_row(words, i, row, UNKNOWN_FILE as u16);
-        i += 1;
     }
 }
 
@@ -53,17 +52,17 @@ pub fn migrate(
     old_bodies: &[u8],
     contents: &mut [u16],
     bodies: &mut [u8],
-) -> Answer
+) -> Result<Accepted, Refusal>
     ensures { outcome (said result) contents.new bodies.new ≡ migrating old_contents.now old_bodies.now contents.old bodies.old }
 {
     if !is_old_image(old_contents, old_bodies) {
-        return Answer::Refused(8);
+        return Err(Refusal::NotAnImage);
     }
     if contents.len() < CONTENTS_WORDS {
-        return Answer::Refused(1);
+        return Err(Refusal::ShortBuffers);
     }
     if bodies.len() < BODY_BYTES {
-        return Answer::Refused(1);
+        return Err(Refusal::ShortBuffers);
     }
     carry(
         old_contents,
@@ -71,5 +70,8 @@ pub fn migrate(
         &mut contents[..CONTENTS_WORDS],
         &mut bodies[..BODY_BYTES],
     );
-    Answer::Accepted(old_contents[0] as usize, 0)
+    Ok(Accepted {
+        entries: old_contents[0] as usize,
+        opens: 0,
+    })
 }

@@ -11,8 +11,7 @@ use Rattle.definition.specs.Limits.{file_name_bytes}
 use Rattle.definition.specs.Archive.{files_of, laid_out, path_of}
 use Rattle.archive.specs.declared.Member.{Member}
 use Rattle.archive_find.specs.Finding.{find_in}
-use Rattle.archive_find.specs.declared.Found.{Found}
-use Rattle.archive_find.specs.declared.Found.TheVariants.{At, Nothing}
+use Rattle.std.specs.Prelude.{Option, Some, None}
 use Rattle.archive_find.proofs.Finding.{FoundAt, Finds, find_finds}
 use Rattle.include_paths.specs.Sought.{sought_bytes}
 use Rattle.missing.specs.Missing.{seen, seen_at, seen_body}
@@ -24,11 +23,11 @@ module _ (s folder name path path' : List ℕ) (leaves : path' ≡ sought_bytes 
   unfolding look_in seen seen_at
   looks_nowhere e = record { is = rw (← e) refl; says = rw (← e) refl; stands = tt; leaves = leaves }
 
-  module _ {n : ℕ} (laid : laid_out s ≡ true) (most : n ≤ file_name_bytes) (long : n ≤ length path') (e : some (take n path') ≡ path_of folder name) {r : Found} (f : r ≡ find_in s (take n path')) where
+  module _ {n : ℕ} (laid : laid_out s ≡ true) (most : n ≤ file_name_bytes) (long : n ≤ length path') (e : some (take n path') ≡ path_of folder name) {r : Option Member} (f : r ≡ find_in s (take n path')) where
     finds : Finds s (files_of s) (take n path') r
     finds = rw f (find_finds s (take n path') laid)
 
-    pub looks_file : {m : Member} → r ≡ At m → Looks s folder name path path' (File m)
+    pub looks_file : {m : Member} → r ≡ Some m → Looks s folder name path path' (File m)
     unfolding look_in looked_up seen seen_at seen_body
     looks_file {m} q =
         let g : FoundAt s (files_of s) (take n path') m = rw q at finds in
@@ -39,7 +38,7 @@ module _ (s folder name path path' : List ℕ) (leaves : path' ≡ sought_bytes 
           leaves = leaves;
         }
 
-    pub looks_absent : r ≡ Nothing → Looks s folder name path path' (Absent n)
+    pub looks_absent : r ≡ None → Looks s folder name path path' (Absent n)
     unfolding look_in looked_up seen seen_at seen_body
     looks_absent q = record {
       is = rw (← e, ← f, q) (ap Absent (sym (length-take-le n path' long)));

@@ -1,23 +1,22 @@
 -- What the code answers on an include.
-use Rattle.std.specs.Prelude.{List, ◌≡◌, ℕ, ◌≤◌, length, take}
-use Rattle.std.proofs.Math.Option.{Option, some, none}
+use Rattle.std.specs.Prelude.{Option, Some, None, List, ◌≡◌, ℕ, ◌≤◌, length, take}
+use Rattle.std.proofs.Math.Option.{Option as Maybe, some, none}
 use Rattle.definition.specs.Limits.{file_name_bytes}
 use Rattle.definition.specs.Archive.{files_of, path_of}
 use Rattle.archive.specs.Walk.{file_in}
 use Rattle.archive_find.specs.Finding.{find_in}
-use Rattle.archive_find.specs.declared.Found.{Found}
-use Rattle.archive_find.specs.declared.Found.TheVariants.{At, Nothing}
+use Rattle.archive.specs.declared.Member.{Member}
 use Rattle.include_paths.specs.Sought.{sought_bytes}
 use Rattle.missing.specs.Missing.{Seen, found, absent, nowhere, seen}
 use Rattle.missing.specs.declared.Look.{Look}
 use Rattle.missing.specs.declared.Look.TheVariants.{File, Absent, Nowhere}
 
-unfoldable pub looked_up : List ℕ → Found → Look
-looked_up path (At m) = File m
-looked_up path Nothing = Absent (length path)
+unfoldable pub looked_up : List ℕ → Option Member → Look
+looked_up path (Some m) = File m
+looked_up path None = Absent (length path)
 
 -- by the path that is looked for
-unfoldable pub look_in : List ℕ → Option (List ℕ) → Look
+unfoldable pub look_in : List ℕ → Maybe (List ℕ) → Look
 look_in s none = Nowhere
 look_in s (some path) = looked_up path (find_in s path)
 

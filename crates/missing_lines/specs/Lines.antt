@@ -2,8 +2,6 @@
 use Rattle.std.specs.Prelude.{List, ◌++◌, ℕ, ◌+◌, ◌*◌, ◌≤◌, length}
 use Rattle.definition.specs.Lists.{ascii}
 use Rattle.definition.specs.Limits.{archive_bytes}
-use Rattle.io.specs.Counts.{IsPrefixLen}
-use Rattle.printing.specs.Putting.{Appends}
 use Rattle.shown_bytes.specs.Shown.{shown}
 
 -- where the include stands, and its name as it is written
@@ -23,9 +21,4 @@ abbrev pub line_bytes : ℕ
 line_bytes = 5 * archive_bytes + 1024
 
 abbrev pub Fits : List ℕ → List ℕ → List ℕ → Type 0
-Fits place name out = (length place ≤ archive_bytes) × (length name ≤ archive_bytes) × (line_bytes ≤ length out)
-
--- the line stands at the front of `out`, which is else as it was
-pub record Tells (line out out' : List ℕ) (end : ℕ) : Type 0 where
-  pub puts : Appends line out 0 out' end
-  pub counts : IsPrefixLen end out'
+Fits place name left = (length place ≤ archive_bytes) × (length name ≤ archive_bytes) × (line_bytes ≤ length left)

@@ -1,4 +1,4 @@
-// Words copied into a buffer, and words and bytes moved towards the front of theirs.
+// Words copied into a buffer, and words and bytes moved towards the front of theirs, in the definition's words.
 #![tactic(auto)]
 
 ghost use Rattle.std.specs.Prelude.{◌≡◌, ◌+◌, ◌≤◌, length};
@@ -10,11 +10,7 @@ pub fn copy_words(source: &[u16], store: &mut [u16], at: usize)
     requires { at + length source.now ≤ length store.old }
     ensures { store.new ≡ over at source.now store.old }
 {
-    let mut i: usize = 0;
-    while i < source.len() {
-        store[at + i] = source[i];
-        i += 1;
-    }
+    store[at..at + source.len()].copy_from_slice(source);
 }
 
 // Moves the words from `from` up to `to` to the place `at`, which is not behind `from`.
@@ -22,23 +18,14 @@ pub fn move_words(words: &mut [u16], from: usize, to: usize, at: usize)
     requires { (at ≤ from) × (from ≤ to) × (to ≤ length words.old) }
     ensures { words.new ≡ over at (slice from to words.old) words.old }
 {
-    let size = to - from;
-    let mut i: usize = 0;
-    while i < size {
-        words[at + i] = words[from + i];
-        i += 1;
-    }
+    words.copy_within(from..to, at);
 }
 
 // The same of bytes.
+// One generic function is no plainer: each is one call of the library, and the definition's `over` is of numbers.
 pub fn move_bytes(bytes: &mut [u8], from: usize, to: usize, at: usize)
     requires { (at ≤ from) × (from ≤ to) × (to ≤ length bytes.old) }
     ensures { bytes.new ≡ over at (slice from to bytes.old) bytes.old }
 {
-    let size = to - from;
-    let mut i: usize = 0;
-    while i < size {
-        bytes[at + i] = bytes[from + i];
-        i += 1;
-    }
+    bytes.copy_within(from..to, at);
 }

@@ -2,133 +2,95 @@
 #![tactic(auto)]
 
 ghost use Rattle.std.specs.Prelude.{◌≡◌};
-ghost use Rattle.options.specs.Options.{takes, chain_option, option_of};
+ghost use Rattle.options.specs.Options.{takes, option_of};
 
-use argument_words::{NO_DEPTH, depth_of, descriptor, format_of, is_word};
+use argument_words::{depth_of, descriptor, format_of};
 
 // What an argument is for: an operand, or the value of an option. A plan keeps the numbers of these arguments.
-pub const TEXT: usize = 0;
+#[derive(Clone, Copy, PartialEq, Eq)]
+pub enum Role {
+    Text,
+    Name,
+    Class,
+    Without,
+    Status,
+    Depth,
+    // the property's format and the texts of a start-up chain
+    Format,
+    Property,
+    Xresources,
+    Xdefaults,
+    Xenvironment,
+    Host,
+}
 
-pub const NAME: usize = 1;
+// What the next argument is for.
+#[derive(Clone, Copy)]
+pub enum Next {
+    // an operand or an option
+    Any,
+    // an operand, whatever it looks like
+    Operand,
+    // the value of `--file`, which no plan keeps
+    File,
+    Value(Role),
+}
 
-pub const CLASS: usize = 2;
+// An option that nothing follows.
+#[derive(Clone, Copy)]
+pub enum Flag {
+    Help,
+    Missing,
+    Write,
+    List,
+    Shared,
+}
 
-pub const WITHOUT: usize = 3;
-
-pub const STATUS: usize = 4;
-
-pub const DEPTH: usize = 5;
-
-// The property's format and the texts of a start-up chain.
-pub const FORMAT: usize = 6;
-
-pub const PROPERTY: usize = 7;
-
-pub const XRESOURCES: usize = 8;
-
-pub const XDEFAULTS: usize = 9;
-
-pub const XENVIRONMENT: usize = 10;
-
-pub const HOST: usize = 11;
-
-// Kept by no plan: an operand or an option; the value of `--file`; an operand, whatever it looks like.
-pub const ANY: usize = 12;
-
-pub const FILE: usize = 13;
-
-pub const OPERAND: usize = 14;
-
-// Options that nothing follows.
-pub const HELP: usize = 15;
-
-pub const MISSING: usize = 16;
-
-pub const WRITE: usize = 17;
-
-pub const LIST: usize = 18;
-
-pub const SHARED: usize = 19;
-
-pub const UNKNOWN: usize = 20;
+// An option, by what follows it; one of a start-up chain asks for the chain too.
+#[derive(Clone, Copy)]
+pub enum Choice {
+    Alone(Flag),
+    Before(Next),
+    Chain(Next),
+}
 
 // Is an argument a value for that?
-pub fn takes(what: usize, argument: &[u8]) -> bool
-    ensures { result ≡ takes what argument.now }
+pub fn takes(role: Role, argument: &[u8]) -> bool
+    ensures { result ≡ takes role argument.now }
 {
-    if what == STATUS {
-        return descriptor(argument) != 0;
+    match role {
+        Role::Status => descriptor(argument).is_some(),
+        Role::Format => format_of(argument).is_some(),
+        Role::Depth => depth_of(argument).is_some(),
+        _ => true,
     }
-    if what == FORMAT {
-        return format_of(argument) != 0;
-    }
-    if what == DEPTH {
-        return depth_of(argument) != NO_DEPTH;
-    }
-    true
 }
 
-// What follows an option of a start-up chain.
-fn chain_option(argument: &[u8]) -> usize
-    ensures { result ≡ chain_option argument.now }
-{
-    if is_word(argument, b"--default") {
-        return ANY;
-    }
-    if is_word(argument, b"--property") {
-        return PROPERTY;
-    }
-    if is_word(argument, b"--property-format") {
-        return FORMAT;
-    }
-    if is_word(argument, b"--xresources") {
-        return XRESOURCES;
-    }
-    if is_word(argument, b"--xdefaults") {
-        return XDEFAULTS;
-    }
-    if is_word(argument, b"--xenvironment") {
-        return XENVIRONMENT;
-    }
-    if is_word(argument, b"--host") {
-        return HOST;
-    }
-    UNKNOWN
-}
-
-// What follows an option.
-pub fn option_of(argument: &[u8]) -> usize
+// The option that an argument is.
+pub fn option_of(argument: &[u8]) -> Option<Choice>
     ensures { result ≡ option_of argument.now }
 {
-    if is_word(argument, b"--file") {
-        return FILE;
+    let Ok(word) = std::str::from_utf8(argument) else {
+        return None;
+    };
+    match word {
+        "--file" => Some(Choice::Before(Next::File)),
+        "--without" => Some(Choice::Before(Next::Value(Role::Without))),
+        "--status-fd" => Some(Choice::Before(Next::Value(Role::Status))),
+        "--help" => Some(Choice::Alone(Flag::Help)),
+        "--" => Some(Choice::Before(Next::Operand)),
+        "--missing" => Some(Choice::Alone(Flag::Missing)),
+        "--write" => Some(Choice::Alone(Flag::Write)),
+        "--list" => Some(Choice::Alone(Flag::List)),
+        "--shared" => Some(Choice::Alone(Flag::Shared)),
+        "--depth" => Some(Choice::Before(Next::Value(Role::Depth))),
+        "--default" => Some(Choice::Chain(Next::Any)),
+        "--property" => Some(Choice::Chain(Next::Value(Role::Property))),
+        "--property-format" => Some(Choice::Chain(Next::Value(Role::Format))),
+        "--xresources" => Some(Choice::Chain(Next::Value(Role::Xresources))),
+        "--xdefaults" => Some(Choice::Chain(Next::Value(Role::Xdefaults))),
+        "--xenvironment" => Some(Choice::Chain(Next::Value(Role::Xenvironment))),
+        "--host" => Some(Choice::Chain(Next::Value(Role::Host))),
+        _ => None,
     }
-    if is_word(argument, b"--without") {
-        return WITHOUT;
-    }
-    if is_word(argument, b"--status-fd") {
-        return STATUS;
-    }
-    if is_word(argument, b"--help") {
-        return HELP;
-    }
-    if is_word(argument, b"--") {
-        return OPERAND;
-    }
-    if is_word(argument, b"--missing") {
-        return MISSING;
-    }
-    if is_word(argument, b"--write") {
-        return WRITE;
-    }
-    if is_word(argument, b"--list") {
-        return LIST;
-    }
-    if is_word(argument, b"--shared") {
-        return SHARED;
-    }
-    if is_word(argument, b"--depth") {
-        return DEPTH;
-    }
-    chain_option(argument)
 }

@@ -1,5 +1,5 @@
 -- An entry, stored. Assumes nothing.
-use mathlib.Core.Bool.{Bool}
+use Rattle.std.specs.Prelude.{None}
 use mathlib.Core.List.{List, [], ◌∷◌, ◌++◌, flatten, append_assoc}
 use mathlib.Core.Path.{◌≡◌, refl, sym, ap, ◌∙◌}
 use Prim.Native.Nat.{ℕ, ◌+◌, ◌-◌, ◌≤◌, ◌<◌}
@@ -18,11 +18,11 @@ use Rattle.image.specs.Running.{World, world, went, stopped, row_for, stored, cu
 use Rattle.image.specs.Rows.{with_row}
 use Rattle.image.specs.declared.Totals.{Totals}
 use Rattle.values.specs.Decoded.{decoded_at, Decoded}
-use Rattle.values.specs.declared.Stored.TheVariants.{Full}
 use Rattle.scan.proofs.Suffixes.{suffix_trans}
 use Rattle.values.proofs.Skipping.{blanks_suffix}
 use Rattle.values.proofs.Values.{rest_suffix, Fits, decoded_full}
 use Rattle.components.specs.Parts.{parts_of}
+use Rattle.lines.specs.declared.Resource.{Resource}
 use Rattle.parser.specs.Putting.{entry_from, Asked, line_after, Puts}
 
 -- ---- The limits on an entry
@@ -107,63 +107,63 @@ module _ (t : List ℕ) (v : ℕ) (inside : v ≤ length t) (u : List ℕ) (is :
 
 -- ---- The answers of parse_entry
 
-module _ {t : List ℕ} {v count size : ℕ} {verbatim : Bool} {s : Totals} {c b : List ℕ} (origin : ℕ) (a : Asked t v count size verbatim s c b) where
-  pub many_parts : most_parts < count → put origin (world s c b) (entry_from t v) ≡ stopped 5 c b
-  many_parts h = put_parts origin s c b (entry_from t v) (omega (arith, a.parts))
+module _ {t : List ℕ} {r : Resource} {s : Totals} {c b : List ℕ} (origin : ℕ) (a : Asked t r s c b) where
+  pub many_parts : most_parts < r.count → put origin (world s c b) (entry_from t r.value) ≡ stopped 5 c b
+  many_parts h = put_parts origin s c b (entry_from t r.value) (omega (arith, a.parts))
 
-  module _ (few : count ≤ most_parts) where
-    pub many_entries : most_entries ≤ s.entries → put origin (world s c b) (entry_from t v) ≡ stopped 6 c b
-    many_entries h = put_count origin s c b (entry_from t v) (omega (arith, a.parts)) h
+  module _ (few : r.count ≤ most_parts) where
+    pub many_entries : most_entries ≤ s.entries → put origin (world s c b) (entry_from t r.value) ≡ stopped 6 c b
+    many_entries h = put_count origin s c b (entry_from t r.value) (omega (arith, a.parts)) h
 
-    pub long_key : s.entries < most_entries → length b - s.used < size → put origin (world s c b) (entry_from t v) ≡ stopped 7 c b
+    pub long_key : s.entries < most_entries → length b - s.used < r.size → put origin (world s c b) (entry_from t r.value) ≡ stopped 7 c b
     long_key less h =
         let long : body_bytes < s.used + length (key_of (parts_of t)) = omega (arith, a.key, a.room.used_most, a.room.bytes_long) in
-        put_full origin s c b (entry_from t v) (omega (arith, a.parts)) less (omega arith) ∙ ap (stopped 7 c) (cut_none origin s c b (entry_from t v) long)
+        put_full origin s c b (entry_from t r.value) (omega (arith, a.parts)) less (omega arith) ∙ ap (stopped 7 c) (cut_none origin s c b (entry_from t r.value) long)
 
 -- the entry keeps the limits so far, its key is written, and u is the value's text
-pub record Keyed (t : List ℕ) (v count size : ℕ) (verbatim : Bool) (s : Totals) (c b b₁ u : List ℕ) : Type 0 where
-  pub asked : Asked t v count size verbatim s c b
-  pub few : count ≤ most_parts
+pub record Keyed (t : List ℕ) (r : Resource) (s : Totals) (c b b₁ u : List ℕ) : Type 0 where
+  pub asked : Asked t r s c b
+  pub few : r.count ≤ most_parts
   pub less : s.entries < most_entries
-  pub fits : size ≤ length b - s.used
+  pub fits : r.size ≤ length b - s.used
   pub written : b₁ ≡ paste b s.used (key_of (parts_of t)) (length (key_of (parts_of t)))
   pub long : length b₁ ≡ length b
-  pub is : u ≡ after_blanks (take (length t - v) (drop v t))
+  pub is : u ≡ after_blanks (take (length t - r.value) (drop r.value t))
 
-module _ {t : List ℕ} {v count size : ℕ} {verbatim : Bool} {s : Totals} {c b b₁ u : List ℕ} (k : Keyed t v count size verbatim s c b b₁ u) where
+module _ {t : List ℕ} {r : Resource} {s : Totals} {c b b₁ u : List ℕ} (k : Keyed t r s c b b₁ u) where
   abbrev e : Entry
-  e = entry_from t v
+  e = entry_from t r.value
 
   few_parts : length (parts_of t) ≤ most_parts
   few_parts = omega (arith, k.few, k.asked.parts)
 
   value_long : length (decoded_at u) ≡ length e.value
-  value_long = ap length (value_is t v k.asked.inside u k.is)
+  value_long = ap length (value_is t r.value k.asked.inside u k.is)
 
   pub text_inside : length u ≤ length t
-  text_inside = value_inside t v k.asked.inside u k.is
+  text_inside = value_inside t r.value k.asked.inside u k.is
 
   -- the value, or what there is room for of it, behind the key
-  behind_key : (n : ℕ) → paste b₁ (s.used + size) (decoded_at u) n ≡ paste b s.used (key_of (parts_of t) ++ e.value) (length (key_of (parts_of t)) + n)
+  behind_key : (n : ℕ) → paste b₁ (s.used + r.size) (decoded_at u) n ≡ paste b s.used (key_of (parts_of t) ++ e.value) (length (key_of (parts_of t)) + n)
   behind_key n =
-      rw (k.written, k.asked.key, value_is t v k.asked.inside u k.is) refl
+      rw (k.written, k.asked.key, value_is t r.value k.asked.inside u k.is) refl
       ∙ both_stored b (key_of (parts_of t)) e.value s.used n (omega (arith, k.fits, k.asked.key, k.asked.room.used_most, k.asked.room.bytes_long))
 
-  pub long_value : (origin : ℕ) {b₂ : List ℕ} → Decoded u b₁ (s.used + size) b₂ Full → put origin (world s c b) e ≡ stopped 7 c b₂
+  pub long_value : (origin : ℕ) {b₂ : List ℕ} → Decoded u b₁ (s.used + r.size) b₂ None → put origin (world s c b) e ≡ stopped 7 c b₂
   long_value origin {b₂} d =
       let h = decoded_full d in
-      let r = k.asked.room in
-      let short : s.used + length (key_of (parts_of t)) ≤ body_bytes = omega (arith, k.fits, k.asked.key, r.used_most, r.bytes_long) in
-      let n : length (key_of (parts_of t)) + (length b₁ - (s.used + size)) ≡ body_bytes - s.used = omega (arith, k.asked.key, k.long, r.bytes_long) in
-      let most : length b₁ - (s.used + size) ≤ length (decoded_at u) = omega arith in
-      put_full origin s c b e few_parts k.less (omega (arith, value_long, k.asked.key, k.long, r.bytes_long))
+      let room = k.asked.room in
+      let short : s.used + length (key_of (parts_of t)) ≤ body_bytes = omega (arith, k.fits, k.asked.key, room.used_most, room.bytes_long) in
+      let n : length (key_of (parts_of t)) + (length b₁ - (s.used + r.size)) ≡ body_bytes - s.used = omega (arith, k.asked.key, k.long, room.bytes_long) in
+      let most : length b₁ - (s.used + r.size) ≤ length (decoded_at u) = omega arith in
+      put_full origin s c b e few_parts k.less (omega (arith, value_long, k.asked.key, k.long, room.bytes_long))
       ∙ ap (stopped 7 c)
       (cut_some origin s c b e short
       ∙ ap (λ (m : ℕ). paste b s.used (key_of (parts_of t) ++ e.value) m) (sym n)
-      ∙ sym (d.stored ∙ ap (paste b₁ (s.used + size) (decoded_at u)) (min-eq_right most) ∙ behind_key (length b₁ - (s.used + size))))
+      ∙ sym (d.stored ∙ ap (paste b₁ (s.used + r.size) (decoded_at u)) (min-eq_right most) ∙ behind_key (length b₁ - (s.used + r.size))))
 
-  module _ {b₂ : List ℕ} {end taken : ℕ} (st : Fits u b₁ (s.used + size) b₂ end taken) where
-    pub value_after : s.used + size ≤ end
+  module _ {b₂ : List ℕ} {end taken : ℕ} (st : Fits u b₁ (s.used + r.size) b₂ end taken) where
+    pub value_after : s.used + r.size ≤ end
     value_after = omega (arith, st.ends)
 
     pub ends_inside : end ≤ body_bytes
@@ -177,16 +177,16 @@ module _ {t : List ℕ} {v count size : ℕ} {verbatim : Bool} {s : Totals} {c b
         sym (st.stored ∙ behind_key (length (decoded_at u)) ∙ ap (λ (n : ℕ). paste b s.used (key_of (parts_of t) ++ e.value) (length (key_of (parts_of t)) + n)) value_long)
 
     -- a place from which the rest of the text is what the definition leaves
-    ends_at : (n : ℕ) → drop n t ≡ drop 1 (pieces (drop v t)).rest → n ≤ length t → n ≡ line_after t v
+    ends_at : (n : ℕ) → drop n t ≡ drop 1 (pieces (drop r.value t)).rest → n ≤ length t → n ≡ line_after t r.value
     ends_at n h most = omega (arith, length-drop n t, ap length h)
 
-    module _ (origin : ℕ) {c₂ : List ℕ} (rowed : c₂ ≡ with_row c s.entries (record { start = s.used; key_length = size; value_length = end - (s.used + size) }) origin) where
+    module _ (origin : ℕ) {c₂ : List ℕ} (rowed : c₂ ≡ with_row c s.entries (record { start = s.used; key_length = r.size; value_length = end - (s.used + r.size) }) origin) where
       abbrev next : Totals
       next = record { opens = s.opens; entries = s.entries + 1; used = end }
 
       words_are : with_row c s.entries (row_for s.used e) origin ≡ c₂
       words_are =
-          let n : end - (s.used + size) ≡ length e.value = omega (arith, st.ends, value_long) in
+          let n : end - (s.used + r.size) ≡ length e.value = omega (arith, st.ends, value_long) in
           sym (rowed ∙ rw (n, k.asked.key) refl)
 
       stored_is : put origin (world s c b) e ≡ went (world next c₂ b₂)
@@ -199,11 +199,11 @@ module _ {t : List ℕ} {v count size : ℕ} {verbatim : Bool} {s : Totals} {c b
             bytes = bytes_are i;
           }))
 
-      pub done_next : length t - length u + taken < length t → Puts t v origin (world s c b) c₂ b₂ (length t - length u + taken + 1) next
-      done_next h = record { is = stored_is; next = ends_at _ (next_line t v k.asked.inside u k.is taken st.rest st.inside) (omega arith) }
+      pub done_next : length t - length u + taken < length t → Puts t r.value origin (world s c b) c₂ b₂ (length t - length u + taken + 1) next
+      done_next h = record { is = stored_is; next = ends_at _ (next_line t r.value k.asked.inside u k.is taken st.rest st.inside) (omega arith) }
 
-      pub done_last : length t ≤ length t - length u + taken → Puts t v origin (world s c b) c₂ b₂ (length t - length u + taken) next
-      done_last h = record { is = stored_is; next = ends_at _ (last_line t v k.asked.inside u k.is taken st.rest st.inside h) passed_inside }
+      pub done_last : length t ≤ length t - length u + taken → Puts t r.value origin (world s c b) c₂ b₂ (length t - length u + taken) next
+      done_last h = record { is = stored_is; next = ends_at _ (last_line t r.value k.asked.inside u k.is taken st.rest st.inside h) passed_inside }
 
 -- ---- What a caller reads off an entry that is stored
 

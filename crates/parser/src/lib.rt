@@ -2,62 +2,54 @@
 #![tactic(auto)]
 
 ghost use Rattle.std.specs.Prelude.{◌≡◌};
-ghost use Rattle.byte_classes.specs.Classes.{byte_classes};
 ghost use Rattle.image.specs.Running.{world};
 ghost use Rattle.parser.specs.Putting.{Asked, Putting};
 
+use byte_classes::Classes;
 use components::write_key;
 use image::{Row, Totals, write_row};
 use limits::{MOST_ENTRIES, MOST_PARTS};
-use values::{Stored, parse_value, skip_blanks};
+use lines::Resource;
+use refusal::Refusal;
+use values::{parse_value, skip_blanks};
 
-// What became of an entry: where the next line starts and the totals after it, or the number that refuses it.
-#[derive(Drop)]
-pub enum Put {
-    Done(usize, Totals),
-    Stop(u8),
-}
-
-// Stores the entry of a line, whose value's text starts at `value`; the line stands in the text of `origin`.
+// Stores the entry of a line, or says which limit refuses it; the line stands in the text of `origin`.
 pub fn parse_entry(
-    classes: &[u8; 256],
+    classes: &Classes,
     text: &[u8],
-    value: usize,
-    count: usize,
-    size: usize,
-    verbatim: bool,
+    resource: Resource,
     totals: Totals,
     words: &mut [u16],
     store: &mut [u8],
     origin: u16,
-) -> Put
-    requires { (classes.now ≡ byte_classes) × Asked text.now value count size verbatim totals words.old store.old }
-    ensures { Putting text.now value origin (world totals words.old store.old) words.new store.new result }
+) -> Result<(usize, Totals), Refusal>
+    requires { Asked text.now resource totals words.old store.old }
+    ensures { Putting text.now resource.value origin (world totals words.old store.old) words.new store.new result }
 {
     let opens = totals.opens;
     let entries = totals.entries;
     let used = totals.used;
-    if count > MOST_PARTS {
-        return Put::Stop(5);
+    if resource.count > MOST_PARTS {
+        return Err(Refusal::ManyParts);
     }
     if entries >= MOST_ENTRIES {
-        return Put::Stop(6);
+        return Err(Refusal::ManyEntries);
     }
+    let size = resource.size;
     if size > store.len() - used {
-        return Put::Stop(7);
+        return Err(Refusal::FullBodies);
     }
-    write_key(classes, text, size, verbatim, store, used);
+    write_key(classes, text, size, resource.verbatim, store, used);
     let at = used + size;
-    let rest = skip_blanks(classes, &text[value..]);
-    let decoded = parse_value(classes, rest, store, at);
-    let Stored::Done(end, taken) = decoded else {
-        return Put::Stop(7);
+    let rest = skip_blanks(classes, &text[resource.value..]);
+    let Some(stored) = parse_value(classes, rest, store, at) else {
+        return Err(Refusal::FullBodies);
     };
-    let length = end - at;
+    let end = stored.end;
     let row = Row {
         start: used,
         key: size,
-        value: length,
+        value: end - at,
     };
     write_row(words, entries, row, origin);
     let next = Totals {
@@ -65,10 +57,10 @@ pub fn parse_entry(
         entries: entries + 1,
         used: end,
     };
-    let passed = text.len() - rest.len() + taken;
+    let passed = text.len() - rest.len() + stored.taken;
     if passed < text.len() {
-        Put::Done(passed + 1, next)
+        Ok((passed + 1, next))
     } else {
-        Put::Done(passed, next)
+        Ok((passed, next))
     }
 }

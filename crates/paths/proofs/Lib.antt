@@ -1,3 +1,2 @@
 -- Laws that the proofs of this crate lean on.
 pub mod Folders
-pub mod Dots

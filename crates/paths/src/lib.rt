@@ -10,9 +10,7 @@ ghost use Rattle.paths.specs.Parts.{not_slash};
 pub fn folder_of(name: &[u8]) -> &[u8]
     ensures { (result.now ≡ folder_of name.now) × (result.ref_ptr ≡ name.entry.ref_ptr) }
 {
-    let mut i = name.len();
-    while 0 < i {
-        i -= 1;
+    for i in (0..name.len()).rev() {
         if name[i] == b'/' {
             return &name[..i];
         }
@@ -24,32 +22,22 @@ pub fn folder_of(name: &[u8]) -> &[u8]
 pub fn part_len(text: &[u8]) -> usize
     ensures { result ≡ length (take_while not_slash text.now) }
 {
-    let mut i = 0;
-    while i < text.len() {
-        if text[i] == b'/' {
+    for (i, c) in text.iter().enumerate() {
+        if *c == b'/' {
             return i;
         }
-        i += 1;
     }
-    i
+    text.len()
 }
 
 pub fn is_dot(part: &[u8]) -> bool
     ensures { result ≡ same part.now (ascii ".") }
 {
-    if part.len() == 1 {
-        return part[0] == b'.';
-    }
-    false
+    part == b".".as_slice()
 }
 
 pub fn is_dot_dot(part: &[u8]) -> bool
     ensures { result ≡ same part.now (ascii "..") }
 {
-    if part.len() == 2 {
-        if part[0] == b'.' {
-            return part[1] == b'.';
-        }
-    }
-    false
+    part == b"..".as_slice()
 }

@@ -1,4 +1,5 @@
 -- A line of the common form and its entry: key and value as the code stores them. Assumes nothing.
+use Rattle.std.specs.Prelude.{Option, Some, None}
 use mathlib.Core.Bool.{true}
 use mathlib.Core.List.{List, [], ◌∷◌, ◌++◌}
 use mathlib.Core.Option.{some}
@@ -30,11 +31,12 @@ use Rattle.values.proofs.Values.{rest_suffix, decoded_within}
 use Rattle.plain_keys.specs.Ended.{Ended}
 use Rattle.plain_keys.proofs.Ends.{ended_rest, goes_on}
 use Rattle.plain_keys.specs.Keys.{plain_key}
-use Rattle.plain_keys.proofs.Keys.{KeyIs, plain_key_lem}
+use Rattle.plain_keys.specs.declared.Key.{Key}
+use Rattle.plain_keys.proofs.Keys.{KeyIs, PlainKey, plain_key_lem}
 use Rattle.plain_values.specs.Values.{BlanksFirst, Valued}
 use Rattle.plain_values.specs.declared.Value.{Value}
 use Rattle.plain_values.proofs.Values.{from_on, left_next}
-use Rattle.plain_entries.specs.Entries.{value_text, entry_of, after_entry, plain_line, with_line}
+use Rattle.plain_entries.specs.Entries.{value_text, entry_of, after_entry, line_of, stored_of, plain_line, with_line}
 use Rattle.plain_entries.specs.declared.EntryLine.{EntryLine}
 
 -- ---- The line
@@ -153,19 +155,19 @@ module _ {t : List ℕ} {end count extra : ℕ} (k : KeyIs t end count extra) wh
         pub taken_inside : end + 1 + from + r.next ≤ length t
         taken_inside = omega (arith, v.next, value_length_lem, after_inside)
 
-        module _ (few : count ≤ most_parts) (at_end : (plain_key t).end ≡ end) (counted : (plain_key t).count ≡ count) where
-          pub answers : record { taken = end + 1 + from + r.next; key = extra + end; value = r.end - (used + (extra + end)) } ≡ plain_line t
-          unfolding plain_line
+        module _ (few : count ≤ most_parts) (is : plain_key t ≡ Some (record { end = end; count = count; extra = extra })) where
+          pub answers : Some (record { taken = end + 1 + from + r.next; key = extra + end; value = r.end - (used + (extra + end)) }) ≡ plain_line t
+          unfolding line_of
           answers =
               let left : drop (end + 1 + from + r.next) t ≡ drop 1 (rest_at (after_blanks (drop (end + 1) t))) = sym (value_at r.next) ∙ v.left ∙ ap (λ (u : List ℕ). drop 1 (rest_at u)) value_is in
               let taken = left_next t (end + 1 + from + r.next) left taken_inside in
               let value : r.end - (used + (extra + end)) ≡ length the_entry.value = omega (arith, v.ends, ap length same_value) in
-              rw (at_end, counted, le-ltb most_parts count few) (λ i. record { taken = taken i; key = sym size_is i; value = value i })
+              rw (is, le-ltb most_parts count few) (λ i. Some (record { taken = taken i; key = sym size_is i; value = value i }))
 
           pub stores : b₁ ≡ pasted (set b used 46) (used + extra) (take end t) → b₂ ≡ with_line t b used
-          unfolding with_line
+          unfolding stored_of
           stores copied =
-              rw (at_end, counted, le-ltb most_parts count few) (v.stored
+              rw (is, le-ltb most_parts count few) (v.stored
               ∙ ap (λ (l : List ℕ). pasted b₁ (used + (extra + end)) l) same_value
               ∙ ap (λ (n : ℕ). pasted b₁ (used + n) the_entry.value) (sym size_is)
               ∙ ap (λ (l : List ℕ). pasted l (used + length (key_first t)) the_entry.value) (copied ∙ key_stored)
@@ -174,14 +176,18 @@ module _ {t : List ℕ} {end count extra : ℕ} (k : KeyIs t end count extra) wh
 
 -- ---- A line of another form, as the code answers it
 
-module _ (t : List ℕ) (many : most_parts < (plain_key t).count) where
-  pub other_answers : record { taken = 0; key = 0; value = 0 } ≡ plain_line t
-  unfolding plain_line
-  other_answers = rw (lt-ltb most_parts (plain_key t).count many) refl
+module _ (t : List ℕ) (b : List ℕ) (used : ℕ) where
+  pub keyless : plain_key t ≡ None → (None ≡ plain_line t) × (b ≡ with_line t b used)
+  unfolding line_of stored_of
+  keyless is = rw is (refl, refl)
 
-  pub other_stores : (b : List ℕ) (used : ℕ) → b ≡ with_line t b used
-  unfolding with_line
-  other_stores b used = rw (lt-ltb most_parts (plain_key t).count many) refl
+  pub long_key : (k : Key) → plain_key t ≡ Some k → most_parts < k.count → (None ≡ plain_line t) × (b ≡ with_line t b used)
+  unfolding line_of stored_of
+  long_key k is many = rw (is, lt-ltb most_parts k.count many) (refl, refl)
+
+-- a key that is there, as the code has it
+pub key_is : {t : List ℕ} → Ended t → {o : Option Key} → o ≡ plain_key t → {k : Key} → o ≡ Some k → KeyIs t k.end k.count k.extra
+key_is e f s = rw (sym f ∙ s) at (plain_key_lem e)
 
 -- ---- What callers know of a line
 
@@ -195,61 +201,54 @@ pub record Takes (t store : List ℕ) (used : ℕ) (store' : List ℕ) (r : Entr
   pub stored : store' ≡ paste store used (key_of entry.parts ++ entry.value) (size_of entry)
   pub short : r.key + r.value ≤ r.taken
   pub inside : r.taken ≤ length t
+  pub some : 0 < r.taken
+
+-- what is known of an answer: a line is an entry, and without one the store is as it was
+abbrev pub Taken : List ℕ → List ℕ → ℕ → List ℕ → Option EntryLine → Type 0
+Taken t store used store' (Some r) = Takes t store used store' r
+Taken t store used store' None = store' ≡ store
 
 tail_suffix : (u : List ℕ) → Suffix (drop 1 u) u
 tail_suffix [] = suffix_whole []
 tail_suffix (c ∷ u) = suffix_cons c (suffix_whole u)
 
-module _ {t : List ℕ} (e : Ended t) where
-  module _ (few : (plain_key t).count ≤ most_parts) where
-    abbrev end : ℕ
-    end = (plain_key t).end
+module _ (t store : List ℕ) (used : ℕ) where
+  key_taken : (k : Option Key) → PlainKey t k → Taken t store used (stored_of t store used k) (line_of t k)
+  unfolding line_of stored_of
+  key_taken None k = refl
+  key_taken (Some r) k = at (dec_le r.count most_parts)
+    where
+      after_suffix : Suffix (after_entry t r.end) t
+      after_suffix =
+          suffix_trans (tail_suffix (rest_at (value_text t r.end)))
+          (suffix_trans (rest_suffix (value_text t r.end)) (suffix_trans (blanks_suffix (drop (r.end + 1) t)) (suffix_drop (suffix_whole t) (r.end + 1) (omega (arith, k.inside)))))
 
-    k : KeyIs t end (plain_key t).count (plain_key t).extra
-    k = plain_key_lem e few
-
-    after_suffix : Suffix (after_entry t) t
-    after_suffix =
-        suffix_trans (tail_suffix (rest_at (value_text t)))
-        (suffix_trans (rest_suffix (value_text t)) (suffix_trans (blanks_suffix (drop (end + 1) t)) (suffix_drop (suffix_whole t) (end + 1) (omega (arith, k.inside)))))
-
-    takes : (store : List ℕ) (used : ℕ) → Takes t store used (with_line t store used) (plain_line t)
-    unfolding plain_line with_line
-    takes store used = rw (le-ltb most_parts (plain_key t).count few) (record {
-      entry = entry_of t;
-      is = line_is k ∙ unfold resource_of in ap (found (text.entry (entry_of t))) (sym after_suffix.same);
-      few = omega (arith, k.parts, few);
-      key_length_lem = refl;
-      value_length_lem = refl;
-      stored = refl;
-      short =
+      at : Dec (r.count ≤ most_parts) → Taken t store used (stored_of t store used (Some r)) (line_of t (Some r))
+      at (no many) = rw (lt-ltb most_parts r.count (omega arith)) refl
+      at (yes few) =
+          let short : length (key_of (entry_of t r.end).parts) + length (entry_of t r.end).value ≤ length t - length (after_entry t r.end) =
           omega (
             arith,
             size_is k,
             k.extra_most,
             k.inside,
-            decoded_within (value_text t),
-            (blanks_suffix (drop (end + 1) t)).most,
-            length-drop (end + 1) t,
-            length-drop 1 (rest_at (value_text t)),
-          );
-      inside = omega arith;
-    })
+            decoded_within (value_text t r.end),
+            (blanks_suffix (drop (r.end + 1) t)).most,
+            length-drop (r.end + 1) t,
+            length-drop 1 (rest_at (value_text t r.end)),
+          )
+          in
+          rw (le-ltb most_parts r.count few) (record {
+            entry = entry_of t r.end;
+            is = line_is k ∙ unfold resource_of in ap (found (text.entry (entry_of t r.end))) (sym after_suffix.same);
+            few = omega (arith, k.parts, few);
+            key_length_lem = refl;
+            value_length_lem = refl;
+            stored = refl;
+            short = short;
+            inside = omega arith;
+            some = omega (arith, short, size_is k, k.some);
+          })
 
-    key_some : 0 < (plain_line t).key
-    unfolding plain_line
-    key_some = rw (le-ltb most_parts (plain_key t).count few) (omega (arith, size_is k, k.some))
-
-  pub line_takes : (store : List ℕ) (used : ℕ) → 0 < (plain_line t).taken → Takes t store used (with_line t store used) (plain_line t)
-  line_takes store used h = at (dec_le (plain_key t).count most_parts)
-    where
-      at : Dec ((plain_key t).count ≤ most_parts) → Takes t store used (with_line t store used) (plain_line t)
-      at (yes few) = takes few store used
-      at (no many) = absurd (omega (arith, h, ap (λ (r : EntryLine). r.taken) (other_answers t (omega arith))))
-
-  pub none_stored : (store : List ℕ) (used : ℕ) → (plain_line t).taken ≡ 0 → with_line t store used ≡ store
-  none_stored store used h = at (dec_le (plain_key t).count most_parts)
-    where
-      at : Dec ((plain_key t).count ≤ most_parts) → with_line t store used ≡ store
-      at (yes few) = absurd (omega (arith, h, (takes few store used).short, key_some few))
-      at (no many) = sym (other_stores t (omega arith) store used)
+pub line_takes : {t : List ℕ} → Ended t → (store : List ℕ) (used : ℕ) → Taken t store used (with_line t store used) (plain_line t)
+line_takes {t} e store used = key_taken t store used (plain_key t) (plain_key_lem e)

@@ -2,35 +2,37 @@
 #![tactic(auto)]
 
 ghost use Rattle.std.specs.Prelude.{◌≡◌, ◌+◌, ◌≤◌, length};
-ghost use Rattle.byte_classes.specs.Classes.{byte_classes};
 ghost use Rattle.plain_keys.specs.Ended.{Ended};
 ghost use Rattle.plain_entries.specs.Entries.{plain_line, with_line};
 
+use byte_classes::Classes;
 use copies::copy_in;
 use limits::MOST_PARTS;
 use plain_keys::plain_key;
 use plain_values::{blanks, plain_value};
 
-// A line: how many bytes it takes, or 0 if it is of another form, and the lengths of its key and its value.
-#[derive(Drop)]
+// A line: how many bytes it takes, and the lengths of its key and its value.
+#[derive(Clone, Copy)]
 pub struct EntryLine {
     pub taken: usize,
     pub key: usize,
     pub value: usize,
 }
 
-// Stores the key and the value of the line at the front of a text, if it is of the common form, from `used` on.
-pub fn plain_line(classes: &[u8; 256], text: &[u8], store: &mut [u8], used: usize) -> EntryLine
-    requires { (classes.now ≡ byte_classes) × Ended text.now × (used + length text.now ≤ length store.old) }
+// Stores the key and the value of the line at the front of a text, if it is of the common form, from `used` on. The whole store is lent: `used`
+// is the image's own number, and the copies and the value go on from it.
+pub fn plain_line(
+    classes: &Classes,
+    text: &[u8],
+    store: &mut [u8],
+    used: usize,
+) -> Option<EntryLine>
+    requires { Ended text.now × (used + length text.now ≤ length store.old) }
     ensures { (result ≡ plain_line text.now) × (store.new ≡ with_line text.now store.old used) }
 {
-    let key = plain_key(classes, text);
+    let key = plain_key(classes, text)?;
     if key.count > MOST_PARTS {
-        return EntryLine {
-            taken: 0,
-            key: 0,
-            value: 0,
-        };
+        return None;
     }
     let colon = key.end;
     let size = key.extra + colon;
@@ -39,9 +41,9 @@ pub fn plain_line(classes: &[u8; 256], text: &[u8], store: &mut [u8], used: usiz
     let after = &text[colon + 1..];
     let from = blanks(classes, after);
     let value = plain_value(classes, &after[from..], store, used + size);
-    EntryLine {
+    Some(EntryLine {
         taken: colon + 1 + from + value.next,
         key: size,
         value: value.end - (used + size),
-    }
+    })
 }

@@ -1,5 +1,5 @@
 -- Keys of the common form: as the code reads them, they are the definition's. Assumes nothing.
-use Rattle.std.specs.Prelude.{if◌then◌else◌}
+use Rattle.std.specs.Prelude.{⊤, Option, Some, None, if◌then◌else◌}
 use mathlib.Core.Bool.{Bool, true, false, ◌||◌}
 use mathlib.Core.List.{List, [], ◌∷◌, ◌++◌, append_assoc, append-nil}
 use mathlib.Core.Path.{◌≡◌, refl, sym, ap, ◌∙◌}
@@ -11,7 +11,6 @@ use lib.ListN.{length, get_or, take, drop, length-drop}
 use lib.Seq.{take-add, drop-drop, drop-cons}
 use borrow.Author.Tests.{eqb-true, lt-leb, le-leb, leb-false, eq-eqb, ne_eqb}
 use Rattle.definition.specs.Lists.{any, take_while, drop_while, is_empty}
-use Rattle.definition.specs.Limits.{most_parts}
 use Rattle.definition.specs.Parsing.{nothing, found, Parsed, many}
 use Rattle.definition.specs.Bytes.{colon, dot, star, is_digit, is_name, is_binding}
 use Rattle.definition.specs.Text.{Binding, tight, name, Part, binding_of, component_at, part_at, is_named, ends_in_name}
@@ -22,7 +21,7 @@ use Rattle.laws.proofs.Keys.{part_shrinks}
 use Rattle.components.specs.Parts.{parts_of, key_first, component_if}
 use Rattle.components.proofs.Names.{name_there}
 use Rattle.plain_keys.specs.Ended.{Ended}
-use Rattle.plain_keys.specs.Keys.{name_end, first_start, FirstName, other_key, key_from, plain_key}
+use Rattle.plain_keys.specs.Keys.{name_end, first_start, FirstName, key_from, plain_key}
 use Rattle.plain_keys.specs.declared.First.{First}
 use Rattle.plain_keys.specs.declared.Key.{Key}
 use Rattle.plain_keys.proofs.Ends.{binding_on, ended_rest, name_ends}
@@ -46,8 +45,9 @@ pub record KeyIs (t : List ℕ) (end count extra : ℕ) : Type 0 where
   pub extra_most : extra ≤ 1
 
 -- nothing is said of another form
-abbrev pub PlainKey : List ℕ → Key → Type 0
-PlainKey t r = r.count ≤ most_parts → KeyIs t r.end r.count r.extra
+abbrev pub PlainKey : List ℕ → Option Key → Type 0
+PlainKey t (Some r) = KeyIs t r.end r.count r.extra
+PlainKey t None = ⊤
 
 -- ---- Bytes
 
@@ -85,7 +85,7 @@ name_first (c ∷ u) h = at (is_name c) refl h
 name_at : (b : Binding) (u : List ℕ) (n : ℕ) → n ≡ length (take_while is_name u) → 0 < n
     → component_at b u ≡ found (record { binding = b; component = name (take n u) }) (drop n u)
 unfolding component_if
-name_at b u n g h = (name_there u n g h).some h b
+name_at b u n g h = (name_there u n g h).is b
 
 -- a name with no binding
 part_free : (t : List ℕ) (n : ℕ) → n ≡ length (take_while is_name t) → 0 < n → part_at t ≡ found (record { binding = tight; component = name (take n t) }) (drop n t)
@@ -225,17 +225,17 @@ module _ {t : List ℕ} (e : Ended t) where
 
   key_from_lem : (n : ℕ) {extra count start i : ℕ} → Keyed t extra count start i → PlainKey t (key_from n t extra count start i)
   unfolding key_from
-  key_from_lem zero k = λ few. absurd (omega arith)
+  key_from_lem zero k = tt
   key_from_lem (suc n) {extra} {count} {start} {i} k =
       at (leb i start) refl (eqb (get_or t i 0) colon) refl (is_binding (get_or t i 0)) refl (λ some b. key_from_lem n (keyed_more k some b))
     where
       at : (x : Bool) → leb i start ≡ x → (y : Bool) → eqb (get_or t i 0) colon ≡ y → (z : Bool) → is_binding (get_or t i 0) ≡ z
           → (start < i → is_binding (get_or t i 0) ≡ true → PlainKey t (key_from n t extra (count + 1) (i + 1) (name_end t (i + 1))))
-          → PlainKey t (if x then other_key else if y then record { end = i; count = count; extra = extra } else if z then key_from n t extra (count + 1) (i + 1) (name_end t (i + 1)) else other_key)
-      at false f true g z h ih few = let some = leb-false i start f in up_over (k.is some) (omega arith) k.inside (eqb-true (get_or t i 0) colon g) k.extra_most
-      at false f false g true h ih few = ih (leb-false i start f) h few
-      at false f false g false h ih few = absurd (omega arith)
-      at true f y g z h ih few = absurd (omega arith)
+          → PlainKey t (if x then None else if y then Some (record { end = i; count = count; extra = extra }) else if z then key_from n t extra (count + 1) (i + 1) (name_end t (i + 1)) else None)
+      at false f true g z h ih = let some = leb-false i start f in up_over (k.is some) (omega arith) k.inside (eqb-true (get_or t i 0) colon g) k.extra_most
+      at false f false g true h ih = ih (leb-false i start f) h
+      at false f false g false h ih = tt
+      at true f y g z h ih = tt
 
   pub plain_key_lem : PlainKey t (plain_key t)
   unfolding plain_key
@@ -277,24 +277,24 @@ keying_first {t} e f = rw (f.end, f.start) (record {
 })
 
 key_turn : (n : ℕ) (t : List ℕ) (extra count start i : ℕ) → 0 < n
-    → key_from n t extra count start i ≡ (if leb i start then other_key else if eqb (get_or t i 0) colon then record { end = i; count = count; extra = extra } else if is_binding (get_or t i 0) then key_from (n - 1) t extra (count + 1) (i + 1) (name_end t (i + 1)) else other_key)
+    → key_from n t extra count start i ≡ (if leb i start then None else if eqb (get_or t i 0) colon then Some (record { end = i; count = count; extra = extra }) else if is_binding (get_or t i 0) then key_from (n - 1) t extra (count + 1) (i + 1) (name_end t (i + 1)) else None)
 unfolding key_from
 key_turn zero t extra count start i h = absurd (omega arith)
 key_turn (suc n) t extra count start i h = let z : suc n - 1 ≡ n = omega arith in rw z refl
 
 module _ {t : List ℕ} {extra count start i : ℕ} (k : Keying t extra count start i) where
-  turned : plain_key t ≡ (if leb i start then other_key else if eqb (get_or t i 0) colon then record { end = i; count = count; extra = extra } else if is_binding (get_or t i 0) then key_from (k.left - 1) t extra (count + 1) (i + 1) (name_end t (i + 1)) else other_key)
+  turned : plain_key t ≡ (if leb i start then None else if eqb (get_or t i 0) colon then Some (record { end = i; count = count; extra = extra }) else if is_binding (get_or t i 0) then key_from (k.left - 1) t extra (count + 1) (i + 1) (name_end t (i + 1)) else None)
   turned = k.same ∙ key_turn k.left t extra count start i (omega (arith, k.enough, k.inside))
 
-  pub keying_none : i ≤ start → other_key ≡ plain_key t
+  pub keying_none : i ≤ start → None ≡ plain_key t
   keying_none h = sym (turned ∙ rw (le-leb i start h) refl)
 
   module _ (some : start < i) where
-    pub keying_over : get_or t i 0 ≡ colon → record { end = i; count = count; extra = extra } ≡ plain_key t
+    pub keying_over : get_or t i 0 ≡ colon → Some (record { end = i; count = count; extra = extra }) ≡ plain_key t
     keying_over c = sym (turned ∙ rw (lt-leb i start some, eq-eqb (get_or t i 0) colon c) refl)
 
     module _ (n : get_or t i 0 ≡ colon → ⊥) where
-      pub keying_other : is_binding (get_or t i 0) ≡ false → other_key ≡ plain_key t
+      pub keying_other : is_binding (get_or t i 0) ≡ false → None ≡ plain_key t
       keying_other b = sym (turned ∙ rw (lt-leb i start some, ne_eqb (get_or t i 0) colon n, b) refl)
 
       module _ (e : Ended t) (b : is_binding (get_or t i 0) ≡ true) where

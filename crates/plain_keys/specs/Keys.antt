@@ -1,7 +1,6 @@
 -- Keys of the common form: what the code answers of them, name by name. proofs/Keys.antt shows that they are the definition's.
-use Rattle.std.specs.Prelude.{List, ◌≡◌, ℕ, zero, suc, ◌+◌, ◌-◌, eqb, leb, length, drop, get_or, if◌then◌else◌}
+use Rattle.std.specs.Prelude.{Option, Some, None, List, ◌≡◌, ℕ, zero, suc, ◌+◌, ◌-◌, eqb, leb, length, drop, get_or, if◌then◌else◌}
 use Rattle.definition.specs.Lists.{take_while}
-use Rattle.definition.specs.Limits.{most_parts}
 use Rattle.definition.specs.Bytes as bytes
 use Rattle.definition.specs.Bytes.{is_name, is_binding}
 use Rattle.plain_keys.specs.declared.First.{First}
@@ -19,19 +18,15 @@ pub record FirstName (t : List ℕ) (r : First) : Type 0 where
   pub start : r.start ≡ first_start t
   pub end : r.end ≡ name_end t r.start
 
--- another form counts as too many parts
-abbrev pub other_key : Key
-other_key = record { end = 0; count = most_parts + 1; extra = 0 }
-
--- the key whose name number `count` stands from `start` to i, and n more at most behind it
-unfoldable pub key_from : ℕ → List ℕ → ℕ → ℕ → ℕ → ℕ → Key
-key_from zero t extra count start i = other_key
+-- the key whose name number `count` stands from `start` to i, and n more at most behind it; None of another form
+unfoldable pub key_from : ℕ → List ℕ → ℕ → ℕ → ℕ → ℕ → Option Key
+key_from zero t extra count start i = None
 key_from (suc n) t extra count start i =
-    if leb i start then other_key else
-    if eqb (get_or t i 0) bytes.colon then record { end = i; count = count; extra = extra } else
+    if leb i start then None else
+    if eqb (get_or t i 0) bytes.colon then Some (record { end = i; count = count; extra = extra }) else
     if is_binding (get_or t i 0) then key_from n t extra (count + 1) (i + 1) (name_end t (i + 1)) else
-    other_key
+    None
 
 -- the key at the front of a text
-unfoldable pub plain_key : List ℕ → Key
+unfoldable pub plain_key : List ℕ → Option Key
 plain_key t = key_from (length t) t (1 - first_start t) 1 (first_start t) (name_end t (first_start t))

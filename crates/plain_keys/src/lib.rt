@@ -5,12 +5,10 @@
 ghost use Rattle.std.specs.Prelude.{◌≡◌, ◌<◌, length};
 ghost use Rattle.definition.specs.Lists.{take_while};
 ghost use Rattle.definition.specs.Bytes.{is_name};
-ghost use Rattle.byte_classes.specs.Classes.{byte_classes};
 ghost use Rattle.plain_keys.specs.Ended.{Ended};
 ghost use Rattle.plain_keys.specs.Keys.{FirstName, plain_key};
 
-use byte_classes::{allowed_in_quark_name, is_binding};
-use limits::MOST_PARTS;
+use byte_classes::Classes;
 
 // The first name of a text, behind a binding or not: where it starts and ends.
 #[derive(Drop)]
@@ -21,33 +19,37 @@ struct First {
 
 // A key that is the text itself, up to a `:`: where the `:` stands, how many parts there are, and how many bytes the key has before
 // those of the text: one, a `.`, if the text begins with no binding.
-#[derive(Drop)]
+#[derive(Clone, Copy)]
 pub struct Key {
     pub end: usize,
     pub count: usize,
     pub extra: usize,
 }
 
+// That a text ends with a newline stands in each clause, here and above: a type for it would be made anew for each part that is lent on.
+
 // How many bytes of a name stand first.
-fn name_length(classes: &[u8; 256], text: &[u8]) -> usize
-    requires { (classes.now ≡ byte_classes) × Ended text.now }
+fn name_length(classes: &Classes, text: &[u8]) -> usize
+    requires { Ended text.now }
     ensures { (result ≡ length (take_while is_name text.now)) × (result < length text.now) }
 {
+    // Four bytes by hand in a turn: by `scan::next_component_by`, which is proved to do, each byte's place is tested, which the newline at the end
+    // makes needless: 512 common lines take 17 instructions of a hundred more.
     let mut i: usize = 0;
     loop {
-        if !allowed_in_quark_name(classes, text[i]) {
+        if !classes.allowed_in_quark_name(text[i]) {
             return i;
         }
         i += 1;
-        if !allowed_in_quark_name(classes, text[i]) {
+        if !classes.allowed_in_quark_name(text[i]) {
             return i;
         }
         i += 1;
-        if !allowed_in_quark_name(classes, text[i]) {
+        if !classes.allowed_in_quark_name(text[i]) {
             return i;
         }
         i += 1;
-        if !allowed_in_quark_name(classes, text[i]) {
+        if !classes.allowed_in_quark_name(text[i]) {
             return i;
         }
         i += 1;
@@ -55,11 +57,11 @@ fn name_length(classes: &[u8; 256], text: &[u8]) -> usize
 }
 
 // The name at the front of a text, behind one binding or none.
-fn first_name(classes: &[u8; 256], text: &[u8]) -> First
-    requires { (classes.now ≡ byte_classes) × Ended text.now }
+fn first_name(classes: &Classes, text: &[u8]) -> First
+    requires { Ended text.now }
     ensures { FirstName text.now result }
 {
-    if is_binding(classes, text[0]) {
+    if classes.is_binding(text[0]) {
         let n = name_length(classes, &text[1..]);
         return First {
             start: 1,
@@ -70,9 +72,9 @@ fn first_name(classes: &[u8; 256], text: &[u8]) -> First
     First { start: 0, end: n }
 }
 
-// The key at the front of a text. Another form counts as too many parts.
-pub fn plain_key(classes: &[u8; 256], text: &[u8]) -> Key
-    requires { (classes.now ≡ byte_classes) × Ended text.now }
+// The key at the front of a text, however many parts it has; None if the text begins in another form.
+pub fn plain_key(classes: &Classes, text: &[u8]) -> Option<Key>
+    requires { Ended text.now }
     ensures { result ≡ plain_key text.now }
 {
     let first = first_name(classes, text);
@@ -80,29 +82,22 @@ pub fn plain_key(classes: &[u8; 256], text: &[u8]) -> Key
     let mut i = first.end;
     let extra = 1 - start;
     let mut count: usize = 1;
+    // not by index: a turn takes a part
     while start < i {
         let c = text[i];
         if c == b':' {
-            return Key {
+            return Some(Key {
                 end: i,
                 count,
                 extra,
-            };
+            });
         }
-        if !is_binding(classes, c) {
-            return Key {
-                end: 0,
-                count: MOST_PARTS + 1,
-                extra: 0,
-            };
+        if !classes.is_binding(c) {
+            return None;
         }
         start = i + 1;
         i = start + name_length(classes, &text[start..]);
         count += 1;
     }
-    Key {
-        end: 0,
-        count: MOST_PARTS + 1,
-        extra: 0,
-    }
+    None
 }

@@ -1,3 +1,3 @@
 -- Laws of lines of the common form, one after another.
 pub mod Lines
-mod Lining
+pub mod Lining

@@ -1,5 +1,5 @@
 -- Lines of the common form, one after another: reading all of a text comes to the same as reading the rest. Assumes nothing.
-use Rattle.std.specs.Prelude.{if◌then◌else◌}
+use Rattle.std.specs.Prelude.{Option, Some, None, if◌then◌else◌}
 use mathlib.Core.Bool.{Bool, true, false, ◌&&◌}
 use mathlib.Core.List.{List, [], ◌∷◌}
 use mathlib.Core.Path.{◌≡◌, refl, sym, ap, ◌∙◌}
@@ -29,7 +29,7 @@ use Rattle.plain_keys.specs.Ended.{Ended}
 use Rattle.plain_keys.proofs.Ends.{ended_rest}
 use Rattle.plain_entries.specs.Entries.{plain_line, with_line}
 use Rattle.plain_entries.specs.declared.EntryLine.{EntryLine}
-use Rattle.plain_entries.proofs.Entries.{Takes, line_takes}
+use Rattle.plain_entries.proofs.Entries.{Takes, Taken, line_takes}
 use Rattle.plain_lines.specs.Lines.{over_at, Reached, reached, to, over_on, line_on, lines_from, readable, plain_lines}
 use Rattle.plain_lines.specs.declared.Ahead.{Ahead}
 
@@ -105,8 +105,8 @@ module _ {t c b : List ℕ} {taken used : ℕ} (p : Stands t c b taken used) (h 
     line_room = omega (arith, l.short, line_inside, p.fits, p.bytes_long)
 
 -- a line, which the rest of a text that ends with a newline begins with
-pub line_at_lem : {t : List ℕ} → Ended t → (taken : ℕ) → taken < length t → (b : List ℕ) (used : ℕ) → 0 < (plain_line (drop taken t)).taken
-    → Takes (drop taken t) b used (with_line (drop taken t) b used) (plain_line (drop taken t))
+pub line_at_lem : {t : List ℕ} → Ended t → (taken : ℕ) → taken < length t → (b : List ℕ) (used : ℕ)
+    → Taken (drop taken t) b used (with_line (drop taken t) b used) (plain_line (drop taken t))
 line_at_lem {t} e taken h b used = line_takes (rw (part_rest t taken) at (ended_rest e taken h)) b used
 
 -- ---- The lines
@@ -209,19 +209,22 @@ module _ {origin : ℕ} {t : List ℕ} {w : World} (e : Ended t) where
   unfolding lines_from line_on over_on
   goes_from zero g = g.goes
   goes_from (suc n) {c} {b} {taken} {entries} {used} g =
-      at (leb (length t) taken) refl (leb most_entries entries) refl (eqb (plain_line (drop taken t)).taken 0) refl (eqb (over_at (drop taken t)) 0) refl _ _
-      (λ h less some. goes_from n (going_next g h less (line_at_lem e taken h b used some))) (λ h some. goes_from n (going_over g h some))
+      at (leb (length t) taken) refl (leb most_entries entries) refl (eqb (over_at (drop taken t)) 0) refl (plain_line (drop taken t)) (λ h. line_at_lem e taken h b used)
+      (λ h less r k. goes_from n (going_next g h less k)) (λ h some. goes_from n (going_over g h some))
     where
-      at : (x : Bool) → leb (length t) taken ≡ x → (y : Bool) → leb most_entries entries ≡ y → (u : Bool) → eqb (plain_line (drop taken t)).taken 0 ≡ u
-          → (v : Bool) → eqb (over_at (drop taken t)) 0 ≡ v → (stored over : Reached)
-          → (taken < length t → entries < most_entries → 0 < (plain_line (drop taken t)).taken → GoesTo origin t w stored) → (taken < length t → 0 < over_at (drop taken t) → GoesTo origin t w over)
-          → GoesTo origin t w (if x then reached (to taken entries used) c b else if y then reached (to taken entries used) c b else if u then if v then reached (to taken entries used) c b else over else stored)
-      at true f y k u i v j stored over p q = g.goes
-      at false f true k u i v j stored over p q = g.goes
-      at false f false k true i true j stored over p q = g.goes
-      at false f false k true i false j stored over p q = q (leb-false (length t) taken f) (omega (arith, eqb-false (over_at (drop taken t)) 0 j))
-      at false f false k false i v j stored over p q =
-          p (leb-false (length t) taken f) (leb-false most_entries entries k) (omega (arith, eqb-false (plain_line (drop taken t)).taken 0 i))
+      at : (x : Bool) → leb (length t) taken ≡ x → (y : Bool) → leb most_entries entries ≡ y → (v : Bool) → eqb (over_at (drop taken t)) 0 ≡ v
+          → (l : Option EntryLine) → (taken < length t → Taken (drop taken t) b used (with_line (drop taken t) b used) l)
+          → (taken < length t → entries < most_entries → (r : EntryLine) → Takes (drop taken t) b used (with_line (drop taken t) b used) r
+          → GoesTo origin t w (lines_from origin n t (taken + r.taken) (entries + 1) (used + (r.key + r.value)) (with_row c entries (record { start = used; key_length = r.key; value_length = r.value }) origin) (with_line (drop taken t) b used)))
+          → (taken < length t → 0 < over_at (drop taken t) → GoesTo origin t w (lines_from origin n t (taken + over_at (drop taken t)) entries used c b))
+          → GoesTo origin t w (if x then reached (to taken entries used) c b else if y then reached (to taken entries used) c b else line_on origin (lines_from origin n t) (drop taken t) l taken entries used c b)
+      at true f y k v j l m p q = g.goes
+      at false f true k v j l m p q = g.goes
+      at false f false k true j None m p q = rw j g.goes
+      at false f false k false j None m p q = rw j (q (leb-false (length t) taken f) (omega (arith, eqb-false (over_at (drop taken t)) 0 j)))
+      at false f false k v j (Some r) m p q =
+          let h = leb-false (length t) taken f in
+          p h (leb-false most_entries entries k) r (m h)
 
 -- ---- A text that is read so
 

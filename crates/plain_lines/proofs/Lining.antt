@@ -1,13 +1,13 @@
 -- The loop over lines of the common form: the lines from here on are the text's. Assumes nothing.
-use Rattle.std.specs.Prelude.{if◌then◌else◌}
+use Rattle.std.specs.Prelude.{Option, Some, None, if◌then◌else◌}
 use mathlib.Core.Bool.{Bool, true, false, ◌&&◌}
-use mathlib.Core.List.{List}
-use mathlib.Core.Path.{◌≡◌, refl, sym, ap, ◌∙◌}
+use mathlib.Core.List.{List, [], ◌∷◌}
+use mathlib.Core.Path.{◌≡◌, refl, sym, ◌∙◌}
 use Prim.Native.Nat.{ℕ, zero, suc, ◌+◌, ◌-◌, ◌≤◌, ◌<◌}
 use native.Mathlib.Omega.{arith}
 use lib.Dec.{eqb, ltb, leb}
-use lib.ListN.{length, get_or, drop, length-drop}
-use borrow.Author.Tests.{lt-ltb, le-ltb, le-leb, lt-leb, eq-eqb, ne_eqb}
+use lib.ListN.{length, get_or, drop}
+use borrow.Author.Tests.{lt-ltb, le-ltb, le-leb, lt-leb, eq-eqb, ne_eqb, eqb-true, eqb-false}
 use Rattle.definition.specs.Lists.{take_while}
 use Rattle.definition.specs.Limits.{most_entries, body_bytes}
 use Rattle.definition.specs.Bytes.{newline, exclamation, not_newline}
@@ -16,27 +16,49 @@ use Rattle.image.specs.Rows.{with_row}
 use Rattle.image.specs.Running.{Room}
 use Rattle.image.specs.declared.Totals.{Totals}
 use Rattle.plain_keys.specs.Ended.{Ended}
-use Rattle.plain_keys.proofs.Ends.{ended_rest}
 use Rattle.plain_values.proofs.Values.{from_on}
 use Rattle.plain_entries.specs.Entries.{plain_line, with_line}
 use Rattle.plain_entries.specs.declared.EntryLine.{EntryLine}
-use Rattle.plain_entries.proofs.Entries.{Takes, none_stored}
-use Rattle.plain_lines.specs.Lines.{over_at, Reached, reached, to, over_on, line_on, lines_from, readable, plain_lines}
+use Rattle.plain_entries.proofs.Entries.{Takes, Taken}
+use Rattle.plain_lines.specs.Lines.{over_at, passed_at, Reached, reached, to, over_on, line_on, lines_from, readable, plain_lines}
 use Rattle.plain_lines.proofs.Lines.{Stands, over_inside, line_inside, line_room, line_at_lem}
 
 -- ---- A line that is passed over, as the code tells it
 
-pub over_empty : (t : List ℕ) → get_or t 0 0 ≡ newline → 1 ≡ over_at t
-unfolding over_at
+pub over_empty : (t : List ℕ) → get_or t 0 0 ≡ newline → Some 1 ≡ passed_at t
+unfolding passed_at over_at
 over_empty t e = rw (eq-eqb (get_or t 0 0) newline e) refl
 
-pub over_comment : (t : List ℕ) → (get_or t 0 0 ≡ newline → ⊥) → get_or t 0 0 ≡ exclamation → (n : ℕ) → n ≡ length (take_while not_newline t) → n ≡ over_at t
-unfolding over_at
-over_comment t o e n f = rw (ne_eqb (get_or t 0 0) newline o, eq-eqb (get_or t 0 0) exclamation e) f
+comment_some : (t : List ℕ) → get_or t 0 0 ≡ exclamation → 0 < length (take_while not_newline t)
+unfolding take_while not_newline
+comment_some [] e = absurd (omega (arith, e))
+comment_some (c ∷ u) e = rw e (omega arith)
 
-pub over_other : (t : List ℕ) → (get_or t 0 0 ≡ newline → ⊥) → (get_or t 0 0 ≡ exclamation → ⊥) → 0 ≡ over_at t
+over_some : (t : List ℕ) (n : ℕ) → over_at t ≡ n → 0 < n → Some n ≡ passed_at t
+unfolding passed_at
+over_some t n is some = rw (is, ne_eqb n 0 (λ z. omega (arith, some, z))) refl
+
+pub over_comment : (t : List ℕ) → (get_or t 0 0 ≡ newline → ⊥) → get_or t 0 0 ≡ exclamation → (n : ℕ) → n ≡ length (take_while not_newline t) → Some n ≡ passed_at t
 unfolding over_at
+over_comment t o e n f =
+    over_some t n (rw (ne_eqb (get_or t 0 0) newline o, eq-eqb (get_or t 0 0) exclamation e) (sym f)) (omega (arith, f, comment_some t e))
+
+pub over_other : (t : List ℕ) → (get_or t 0 0 ≡ newline → ⊥) → (get_or t 0 0 ≡ exclamation → ⊥) → None ≡ passed_at t
+unfolding passed_at over_at
 over_other t o e = rw (ne_eqb (get_or t 0 0) newline o, ne_eqb (get_or t 0 0) exclamation e) refl
+
+-- what the answer says
+abbrev OverIs : List ℕ → Option ℕ → Type 0
+OverIs t None = over_at t ≡ 0
+OverIs t (Some n) = (n ≡ over_at t) × (0 < n)
+
+over_is : (t : List ℕ) → OverIs t (passed_at t)
+unfolding passed_at
+over_is t = at (eqb (over_at t) 0) refl
+  where
+    at : (x : Bool) → eqb (over_at t) 0 ≡ x → OverIs t (if x then None else Some (over_at t))
+    at true e = eqb-true (over_at t) 0 e
+    at false e = let some = eqb-false (over_at t) 0 e in (refl, omega (arith, some))
 
 -- ---- The loop
 
@@ -46,6 +68,7 @@ pub record Lining (origin : ℕ) (t : List ℕ) (all : Reached) (c b : List ℕ)
   pub enough : length t ≤ taken + left
   pub same : all ≡ lines_from origin left t taken entries used c b
   pub stands : Stands t c b taken used
+  pub ends : Ended t
 
 -- a turn
 lines_turn : (origin n : ℕ) (t c b : List ℕ) (taken entries used : ℕ) → 0 < n → taken < length t → entries < most_entries
@@ -75,63 +98,70 @@ module _ {origin : ℕ} {t : List ℕ} {all : Reached} {c b : List ℕ} {taken e
   pub lining_full : most_entries ≤ entries → reached (to taken entries used) c b ≡ all
   lining_full h = sym (l.same ∙ none_left origin l.left t c b taken entries used h)
 
-  module _ (e : Ended t) (h : taken < length t) where
-    -- the rest of the text, as the code takes it
-    pub rest_ends : Ended (from_on t taken)
-    rest_ends = ended_rest e taken h
-
-    pub rest_room : used + length (from_on t taken) ≤ length b
-    rest_room = omega (arith, l.stands.fits, ap length (part_rest t taken), length-drop taken t)
-
-    module _ (less : entries < most_entries) {r : EntryLine} (is : r ≡ plain_line (from_on t taken)) {b' : List ℕ} (stored : b' ≡ with_line (from_on t taken) b used) where
-      here : r ≡ plain_line (drop taken t)
+  module _ (h : taken < length t) where
+    module _ (less : entries < most_entries) {o : Option EntryLine} (is : o ≡ plain_line (from_on t taken)) {b' : List ℕ} (stored : b' ≡ with_line (from_on t taken) b used) where
+      here : o ≡ plain_line (drop taken t)
       here = rw (part_rest t taken) at is
 
       turned : all ≡ line_on origin (lines_from origin (l.left - 1) t) (drop taken t) (plain_line (drop taken t)) taken entries used c b
       turned = l.same ∙ lines_turn origin l.left t c b taken entries used (omega (arith, l.enough, h)) h less
 
+      known : Taken (drop taken t) b used b' o
+      known = rw (stored, is, part_rest t taken) (line_at_lem l.ends taken h b used)
+
       -- ---- No line of the common form
 
-      module _ (none : r.taken ≡ 0) {n : ℕ} (over : n ≡ over_at (from_on t taken)) where
-        no_line : (plain_line (drop taken t)).taken ≡ 0
-        no_line = omega (arith, ap (λ (x : EntryLine). x.taken) here, none)
+      module _ (none : o ≡ None) {p : Option ℕ} (over : p ≡ passed_at (from_on t taken)) where
+        no_line : plain_line (drop taken t) ≡ None
+        no_line = sym here ∙ none
 
         kept : b' ≡ b
-        kept = stored ∙ none_stored rest_ends b used (rw (part_rest t taken) no_line)
+        kept = rw none at known
 
-        over_is : n ≡ over_at (drop taken t)
-        over_is = rw (part_rest t taken) at over
+        over_known : OverIs (drop taken t) p
+        over_known = rw (over, part_rest t taken) (over_is (drop taken t))
 
-        pub lining_other : n ≡ 0 → reached (to taken entries used) c b' ≡ all
+        pub lining_other : p ≡ None → reached (to taken entries used) c b' ≡ all
         unfolding line_on over_on
         lining_other z =
-            let o : over_at (drop taken t) ≡ 0 = omega (arith, over_is, z) in
-            rw kept (sym (turned ∙ rw (eq-eqb (plain_line (drop taken t)).taken 0 no_line, eq-eqb (over_at (drop taken t)) 0 o) refl))
+            let o : over_at (drop taken t) ≡ 0 = rw z at over_known in
+            rw kept (sym (turned ∙ rw (no_line, eq-eqb (over_at (drop taken t)) 0 o) refl))
 
-        pub passed_inside : taken + n ≤ length t
-        passed_inside = omega (arith, over_inside l.stands h, over_is)
+        module _ {n : ℕ} (some : p ≡ Some n) where
+          passed : (n ≡ over_at (drop taken t)) × (0 < n)
+          passed = rw some at over_known
 
-        pub lining_over : 0 < n → Lining origin t all c b' (taken + n) entries used
-        unfolding line_on over_on
-        lining_over some =
-            let o : 0 < over_at (drop taken t) = omega (arith, over_is, some) in
-            rw (kept, over_is) (record {
-              left = l.left - 1;
-              enough = omega (arith, l.enough, o);
-              same = turned ∙ rw (eq-eqb (plain_line (drop taken t)).taken 0 no_line, ne_eqb (over_at (drop taken t)) 0 (λ z. omega (arith, o, z))) refl;
-              stands = record {
-                inside = over_inside l.stands h;
-                fits = omega (arith, l.stands.fits);
-                words_long = l.stands.words_long;
-                bytes_long = l.stands.bytes_long;
-              };
-            })
+          pub passed_inside : taken + n ≤ length t
+          passed_inside = omega (arith, over_inside l.stands h, passed.0)
+
+          pub passed_some : 0 < n
+          passed_some = passed.1
+
+          pub lining_over : Lining origin t all c b' (taken + n) entries used
+          unfolding line_on over_on
+          lining_over =
+              let o : 0 < over_at (drop taken t) = omega (arith, passed.0, passed.1) in
+              rw (kept, passed.0) (record {
+                left = l.left - 1;
+                enough = omega (arith, l.enough, o);
+                same = turned ∙ rw (no_line, ne_eqb (over_at (drop taken t)) 0 (λ z. omega (arith, o, z))) refl;
+                stands = record {
+                  inside = over_inside l.stands h;
+                  fits = omega (arith, l.stands.fits);
+                  words_long = l.stands.words_long;
+                  bytes_long = l.stands.bytes_long;
+                };
+                ends = l.ends;
+              })
 
       -- ---- A line
 
-      module _ (some : 0 < r.taken) where
+      module _ {r : EntryLine} (line : o ≡ Some r) where
         takes : Takes (drop taken t) b used b' r
-        takes = rw (stored, is, part_rest t taken) (line_at_lem e taken h b used (omega (arith, ap (λ (x : EntryLine). x.taken) here, some)))
+        takes = rw line at known
+
+        pub next_some : 0 < r.taken
+        next_some = takes.some
 
         pub next_inside : taken + r.taken ≤ length t
         next_inside = line_inside l.stands h takes
@@ -143,19 +173,18 @@ module _ {origin : ℕ} {t : List ℕ} {all : Reached} {c b : List ℕ} {taken e
             → Lining origin t all c' b' (taken + r.taken) (entries + 1) (used + (r.key + r.value))
         unfolding line_on
         lining_next {c'} row hc hb =
-            let o : 0 < (plain_line (drop taken t)).taken = omega (arith, ap (λ (x : EntryLine). x.taken) here, some) in
             let b-is : with_line (drop taken t) b used ≡ b' = sym (rw (part_rest t taken) at stored) in
             record {
               left = l.left - 1;
-              enough = omega (arith, l.enough, some);
-              same =
-                  turned ∙ rw (ne_eqb (plain_line (drop taken t)).taken 0 (λ z. omega (arith, o, z))) (rw (b-is, ← here, ← row) refl);
+              enough = omega (arith, l.enough, next_some);
+              same = turned ∙ rw (sym here ∙ line) (rw (b-is, ← row) refl);
               stands = record {
                 inside = next_inside;
                 fits = omega (arith, takes.short, next_inside, l.stands.fits, hb);
                 words_long = hc ∙ l.stands.words_long;
                 bytes_long = hb ∙ l.stands.bytes_long;
               };
+              ends = l.ends;
             }
 
 -- ---- A text that is read so, or is not
@@ -191,4 +220,5 @@ lining_first origin t s c b r e h = record {
   enough = omega arith;
   same = rw (lt-ltb 0 (length t) e.some, le-leb (length t) (length b - s.used) h, eq-eqb (get_or t (length t - 1) 0) newline e.last) refl;
   stands = record { inside = omega arith; fits = omega (arith, h, r.used_most, r.bytes_long); words_long = r.words_long; bytes_long = r.bytes_long };
+  ends = e;
 }

@@ -1,6 +1,6 @@
 -- Lines of the common form, one after another: how far the code goes, and what it leaves. proofs/Lines.antt shows that reading all of a
 -- text comes to the same as reading the rest from there.
-use Rattle.std.specs.Prelude.{Bool, ◌&&◌, List, ℕ, zero, suc, ◌+◌, ◌-◌, eqb, ltb, leb, length, drop, get_or, if◌then◌else◌}
+use Rattle.std.specs.Prelude.{Option, Some, None, Bool, ◌&&◌, List, ℕ, zero, suc, ◌+◌, ◌-◌, eqb, ltb, leb, length, drop, get_or, if◌then◌else◌}
 use Rattle.definition.specs.Lists.{take_while}
 use Rattle.definition.specs.Limits.{most_entries}
 use Rattle.definition.specs.Bytes.{newline, exclamation, not_newline}
@@ -15,6 +15,10 @@ over_at t =
     if eqb (get_or t 0 0) newline then 1 else
     if eqb (get_or t 0 0) exclamation then length (take_while not_newline t) else
     0
+
+-- the same as an answer
+unfoldable pub passed_at : List ℕ → Option ℕ
+passed_at t = if eqb (over_at t) 0 then None else Some (over_at t)
 
 -- how far lines are read, and the buffers after them
 pub record Reached : Type 0 where
@@ -34,10 +38,10 @@ over_on next u taken entries used c b =
     if eqb (over_at u) 0 then reached (to taken entries used) c b else
     next (taken + over_at u) entries used c b
 
--- the line l at the front of u is stored with its origin, if it is one
-unfoldable pub line_on : ℕ → (ℕ → ℕ → ℕ → List ℕ → List ℕ → Reached) → List ℕ → EntryLine → ℕ → ℕ → ℕ → List ℕ → List ℕ → Reached
-line_on origin next u l taken entries used c b =
-    if eqb l.taken 0 then over_on next u taken entries used c b else
+-- the line at the front of u is stored with its origin, if it is one of the common form
+unfoldable pub line_on : ℕ → (ℕ → ℕ → ℕ → List ℕ → List ℕ → Reached) → List ℕ → Option EntryLine → ℕ → ℕ → ℕ → List ℕ → List ℕ → Reached
+line_on origin next u None taken entries used c b = over_on next u taken entries used c b
+line_on origin next u (Some l) taken entries used c b =
     next (taken + l.taken) (entries + 1) (used + (l.key + l.value))
     (with_row c entries (record { start = used; key_length = l.key; value_length = l.value }) origin) (with_line u b used)
 

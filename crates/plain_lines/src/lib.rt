@@ -3,10 +3,10 @@
 #![tactic(auto)]
 
 ghost use Rattle.std.specs.Prelude.{◌≡◌, ◌<◌, length};
-ghost use Rattle.byte_classes.specs.Classes.{byte_classes};
 ghost use Rattle.image.specs.Running.{Room};
-ghost use Rattle.plain_lines.specs.Lines.{over_at, reached, plain_lines};
+ghost use Rattle.plain_lines.specs.Lines.{passed_at, reached, plain_lines};
 
+use byte_classes::Classes;
 use image::{Row, Totals, write_row};
 use limits::MOST_ENTRIES;
 use plain_entries::plain_line;
@@ -20,32 +20,33 @@ pub struct Ahead {
     pub used: usize,
 }
 
-// How many bytes an empty line takes that stands first, or a comment up to its newline. 0 for any other line.
-fn passed_over(text: &[u8]) -> usize
+// How many bytes an empty line takes that stands first, or a comment up to its newline. None for any other line.
+#[tactic(auto, using(crate::proofs::Lining::over_empty, crate::proofs::Lining::over_comment, crate::proofs::Lining::over_other))]
+fn passed_over(text: &[u8]) -> Option<usize>
     requires { 0 < length text.now }
-    ensures { result ≡ over_at text.now }
+    ensures { result ≡ passed_at text.now }
 {
     let c = text[0];
     if c == b'\n' {
-        return 1;
+        return Some(1);
     }
     if c == b'!' {
-        return line_end(text);
+        return Some(line_end(text));
     }
-    0
+    None
 }
 
 // Reads the lines of the common form at the front of a text, with the empty lines and comments among them, as far as they go, if it ends
 // with a newline and surely has room. The text is that of `origin`.
 pub fn plain_lines(
-    classes: &[u8; 256],
+    classes: &Classes,
     text: &[u8],
     totals: Totals,
     words: &mut [u16],
     store: &mut [u8],
     origin: u16,
 ) -> Ahead
-    requires { (classes.now ≡ byte_classes) × Room totals words.old store.old }
+    requires { Room totals words.old store.old }
     ensures { reached result words.new store.new ≡ plain_lines origin text.now totals.entries totals.used words.old store.old }
 {
     let mut taken: usize = 0;
@@ -59,22 +60,21 @@ pub fn plain_lines(
             used,
         };
     }
+    // not by index: a turn takes a line
     while taken < n && entries < MOST_ENTRIES {
-        let line = plain_line(classes, &text[taken..], store, used);
-        let key = line.key;
-        let value = line.value;
-        if line.taken == 0 {
-            let over = passed_over(&text[taken..]);
-            if over == 0 {
+        let Some(line) = plain_line(classes, &text[taken..], store, used) else {
+            let Some(over) = passed_over(&text[taken..]) else {
                 return Ahead {
                     taken,
                     entries,
                     used,
                 };
-            }
+            };
             taken += over;
             continue;
-        }
+        };
+        let key = line.key;
+        let value = line.value;
         let row = Row {
             start: used,
             key,

@@ -1,7 +1,9 @@
 -- Values of lines of the common form: as parse_value has them, or byte by byte. Assumes nothing.
+use Rattle.std.specs.Prelude.{Option, Some, None}
+use Rattle.std.specs.Option.{IsSome}
 use mathlib.Core.Bool.{false}
 use mathlib.Core.List.{List}
-use mathlib.Core.Path.{◌≡◌, sym, ap, ◌∙◌}
+use mathlib.Core.Path.{◌≡◌, refl, sym, ap, ◌∙◌}
 use Prim.Native.Nat.{ℕ, ◌+◌, ◌-◌, ◌≤◌, ◌<◌}
 use native.Mathlib.Omega.{arith}
 use lib.ListN.{length, get_or, take, drop, set, length-drop, drop_of_length-le}
@@ -11,7 +13,7 @@ use Rattle.definition.specs.Text.{after_blanks}
 use Rattle.laws.proofs.Lists.{part_rest}
 use Rattle.copies.proofs.Copying.{plain_byte}
 use Rattle.values.specs.Decoded.{decoded_at, rest_at, Decoded}
-use Rattle.values.specs.declared.Stored.TheVariants.{Done, Full}
+use Rattle.values.specs.declared.Stored.{Stored}
 use Rattle.values.proofs.Skipping.{dropping_none, dropping_other, blanks_suffix}
 use Rattle.values.proofs.Decoding.{Decoding, decoding_first, decoded, byte_more, more_stored, ended, plain}
 use Rattle.values.proofs.Values.{decoded_within, Fits, decoded_fits, decoded_full}
@@ -32,29 +34,30 @@ from_on t from = take (length t - from) (drop from t)
 
 module _ (t : List ℕ) (from : ℕ) (h : from ≤ length t) (store : List ℕ) (at : ℕ) (store' : List ℕ) where
   -- there is room for it
-  pub never_full : at + (length t - from) ≤ length store → Decoded (from_on t from) store at store' Full → ⊥
-  never_full k d = omega (arith, decoded_full d, decoded_within (from_on t from), ap length (part_rest t from), length-drop from t)
+  pub surely : at + (length t - from) ≤ length store → (r : Option Stored) → Decoded (from_on t from) store at store' r → IsSome r
+  surely k (Some v) d = refl
+  surely k None d = absurd (omega (arith, decoded_full d, decoded_within (from_on t from), ap length (part_rest t from), length-drop from t))
 
-  module _ {end taken : ℕ} (d : Decoded (from_on t from) store at store' (Done end taken)) where
-    fits : Fits (drop from t) store at store' end taken
-    fits = rw (part_rest t from) at (decoded_fits d)
+  module _ (o : Option Stored) (r : Stored) (e : o ≡ Some r) (d : Decoded (from_on t from) store at store' o) where
+    fits : Fits (drop from t) store at store' r.end r.taken
+    fits = rw (part_rest t from) at (decoded_fits (rw e at d))
 
-    pub passed_inside : from + taken ≤ length t
+    pub passed_inside : from + r.taken ≤ length t
     passed_inside = omega (arith, fits.inside, length-drop from t)
 
-    after : drop (from + taken) t ≡ rest_at (drop from t)
-    after = sym (drop-drop taken from t) ∙ fits.rest
+    after : drop (from + r.taken) t ≡ rest_at (drop from t)
+    after = sym (drop-drop r.taken from t) ∙ fits.rest
 
-    pub valued_next : from + taken < length t → Valued t (drop from t) store at store' (record { end = end; next = from + taken + 1 })
+    pub valued_next : from + r.taken < length t → Valued t (drop from t) store at store' (record { end = r.end; next = from + r.taken + 1 })
     valued_next k =
-        let left = sym (drop-drop 1 (from + taken) t) ∙ ap (drop 1) after in
-        record { ends = fits.ends; stored = fits.stored; next = left_next t (from + taken + 1) left (omega arith); left = left }
+        let left = sym (drop-drop 1 (from + r.taken) t) ∙ ap (drop 1) after in
+        record { ends = fits.ends; stored = fits.stored; next = left_next t (from + r.taken + 1) left (omega arith); left = left }
 
-    pub valued_last : length t ≤ from + taken → Valued t (drop from t) store at store' (record { end = end; next = from + taken })
+    pub valued_last : length t ≤ from + r.taken → Valued t (drop from t) store at store' (record { end = r.end; next = from + r.taken })
     valued_last k =
-        let a : length t ≤ from + taken + 1 = omega arith in
-        let left = drop_of_length-le t k ∙ sym (drop_of_length-le t a) ∙ sym (drop-drop 1 (from + taken) t) ∙ ap (drop 1) after in
-        record { ends = fits.ends; stored = fits.stored; next = left_next t (from + taken) left passed_inside; left = left }
+        let a : length t ≤ from + r.taken + 1 = omega arith in
+        let left = drop_of_length-le t k ∙ sym (drop_of_length-le t a) ∙ sym (drop-drop 1 (from + r.taken) t) ∙ ap (drop 1) after in
+        record { ends = fits.ends; stored = fits.stored; next = left_next t (from + r.taken) left passed_inside; left = left }
 
 -- ---- Byte by byte
 

@@ -1,21 +1,23 @@
 // What getres is to do, as its arguments say it: a plan.
 #![tactic(auto)]
 
-ghost use Rattle.std.specs.Prelude.{◌≡◌, ◌<◌};
+ghost use Rattle.std.specs.Prelude.{◌≡◌, Some};
 ghost use Rattle.plans.specs.Plans.{nothing_asked, given_for, depth_unasked, misunderstood, once, placed, uncompared, unasked, settled, has_operands, is_whole};
 
 use limits::{DEFAULT_DEPTH, GREATEST_DEPTH};
-use options::{ANY, CLASS, NAME, OPERAND, TEXT, WITHOUT};
+use options::{Next, Role};
 
-// Arguments by their numbers, of which 0, the program's own name, says that there is none. `given` has those that the options name,
-// from TEXT to HOST; `wrong` is the first that is not understood; `next` is what the next one is for; `help`, `missing`, the includes that
-// find no file, `write`, the database written out, `list`, the entries that align, `shared`, the keys that two included files share, and
-// `chain`, a start-up chain, are asked for or not.
+// How many roles there are.
+pub const ROLES: usize = 12;
+
+// Arguments by their numbers. `given` has those that the options name, by their roles; `wrong` is the first that is not understood;
+// `next` is what the next one is for; `help`, `missing`, the includes that find no file, `write`, the database written out, `list`, the
+// entries that align, `shared`, the keys that two included files share, and `chain`, a start-up chain, are asked for or not.
 #[derive(Clone, Copy)]
 pub struct Plan {
-    pub given: [usize; 12],
-    pub wrong: usize,
-    pub next: usize,
+    pub given: [Option<usize>; ROLES],
+    pub wrong: Option<usize>,
+    pub next: Next,
     pub help: bool,
     pub missing: bool,
     pub write: bool,
@@ -24,30 +26,30 @@ pub struct Plan {
     pub chain: bool,
 }
 
-pub fn nothing_asked() -> Plan
-    ensures { result ≡ nothing_asked }
-{
-    Plan {
-        given: [0; 12],
-        wrong: 0,
-        next: ANY,
-        help: false,
-        missing: false,
-        write: false,
-        list: false,
-        shared: false,
-        chain: false,
+// Nothing is asked. By hand: a derive says each field by itself, and this says that the plan is the definition's.
+impl Default for Plan {
+    ghost is_default = { λ plan. plan ≡ nothing_asked };
+
+    fn default() -> Plan {
+        Plan {
+            given: [None; ROLES],
+            wrong: None,
+            next: Next::Any,
+            help: false,
+            missing: false,
+            write: false,
+            list: false,
+            shared: false,
+            chain: false,
+        }
     }
 }
 
 // The argument that was given for something.
-pub fn given(plan: Plan, what: usize) -> usize
-    ensures { result ≡ given_for plan what }
+pub fn given(plan: Plan, role: Role) -> Option<usize>
+    ensures { result ≡ given_for plan role }
 {
-    if what < 12 {
-        return plan.given[what];
-    }
-    0
+    plan.given[role as usize]
 }
 
 // The depth of a reading for which none is asked: that of a call that is given none, which for a chain is the greatest.
@@ -55,65 +57,60 @@ pub fn depth_unasked(plan: Plan) -> u64
     ensures { result ≡ depth_unasked plan }
 {
     if plan.chain {
-        return GREATEST_DEPTH;
+        GREATEST_DEPTH
+    } else {
+        DEFAULT_DEPTH
     }
-    DEFAULT_DEPTH
 }
 
-pub fn misunderstood(plan: Plan, i: usize) -> Plan
+// Argument `i`, if there is one, is not understood.
+pub fn misunderstood(plan: Plan, i: Option<usize>) -> Plan
     ensures { result ≡ misunderstood plan i }
 {
-    let mut more = plan;
-    if plan.wrong == 0 {
-        more.wrong = i;
-        return more;
+    Plan {
+        wrong: plan.wrong.or(i),
+        ..plan
     }
-    plan
 }
 
 // Argument `i`, given for something. A second one is not understood.
-pub fn once(plan: Plan, what: usize, i: usize) -> Plan
-    requires { what < 12 }
-    ensures { result ≡ once plan what i }
+pub fn once(plan: Plan, role: Role, i: usize) -> Plan
+    ensures { result ≡ once plan role i }
 {
-    if plan.given[what] == 0 {
-        let mut more = plan;
-        more.given[what] = i;
-        return more;
+    if given(plan, role).is_some() {
+        return misunderstood(plan, Some(i));
     }
-    misunderstood(plan, i)
+    let mut more = plan;
+    more.given[role as usize] = Some(i);
+    more
 }
 
 // A chain has no text among its operands, and one that is over is not understood.
 fn placed(plan: Plan) -> Plan
     ensures { result ≡ placed plan }
 {
-    if plan.chain {
-        let mut more = plan;
-        more.given[TEXT] = 0;
-        more.given[NAME] = plan.given[TEXT];
-        more.given[CLASS] = plan.given[NAME];
-        if plan.given[CLASS] == 0 {
-            return more;
-        }
-        return misunderstood(more, plan.given[CLASS]);
+    if !plan.chain {
+        return plan;
     }
-    plan
+    let mut more = plan;
+    more.given[Role::Text as usize] = None;
+    more.given[Role::Name as usize] = given(plan, Role::Text);
+    more.given[Role::Class as usize] = given(plan, Role::Name);
+    misunderstood(more, given(plan, Role::Class))
 }
 
-// What is written out or listed is one database: `--without` is not understood. Where there is none, 0 changes nothing.
+// What is written out or listed is one database: `--without` is not understood.
 fn uncompared(plan: Plan) -> Plan
     ensures { result ≡ uncompared plan }
 {
-    misunderstood(plan, given(plan, WITHOUT))
+    misunderstood(plan, given(plan, Role::Without))
 }
 
 // A database that is written out is asked no query: a name is not understood either.
 fn unasked(plan: Plan) -> Plan
     ensures { result ≡ unasked plan }
 {
-    let more = misunderstood(plan, given(plan, NAME));
-    uncompared(more)
+    uncompared(misunderstood(plan, given(plan, Role::Name)))
 }
 
 // The plan once all arguments are taken.
@@ -135,23 +132,15 @@ fn has_operands(plan: Plan) -> bool
     ensures { result ≡ has_operands plan }
 {
     if plan.write {
-        if plan.chain {
-            return true;
-        }
-        return given(plan, TEXT) != 0;
+        plan.chain || given(plan, Role::Text).is_some()
+    } else {
+        given(plan, Role::Name).is_some()
     }
-    given(plan, NAME) != 0
 }
 
 // Are the operands there, and does no option lack its value?
 pub fn is_whole(plan: Plan) -> bool
     ensures { result ≡ is_whole plan }
 {
-    if !has_operands(plan) {
-        return false;
-    }
-    if plan.next == ANY {
-        return true;
-    }
-    plan.next == OPERAND
+    has_operands(plan) && matches!(plan.next, Next::Any | Next::Operand)
 }

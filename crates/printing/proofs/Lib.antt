@@ -1,3 +1,3 @@
--- Laws of bytes put into a buffer.
+-- Laws of what is printed.
 pub mod Pieces
 pub mod Numbers

@@ -3,6 +3,7 @@ use Rattle.std.specs.Prelude.{Bool, false, ◌&&◌, not, List, [], ◌∷◌, �
 use Rattle.definition.specs.Lists.{take_while}
 use Rattle.definition.specs.Limits.{query_parts}
 use Rattle.definition.specs.Bytes.{is_name}
+use Rattle.query.specs.declared.Split.{Split}
 
 -- ---- Parts, from a text
 
@@ -40,3 +41,16 @@ pub record Inside (text starts lengths : List ℕ) : Type 0 where
   pub same : length lengths ≡ length starts
   pub some : (i : ℕ) → i < length starts → 0 < get_or lengths i 0
   pub within : (i : ℕ) → i < length starts → get_or starts i 0 + get_or lengths i 0 ≤ length text
+
+-- ---- Parts held by value
+
+abbrev pub starts_of : {n : ℕ} → Split n → List ℕ
+starts_of s = take s.count s.starts
+
+abbrev pub lengths_of : {n : ℕ} → Split n → List ℕ
+lengths_of s = take s.count s.lengths
+
+pub record SplitIn {n : ℕ} (text : List ℕ) (s : Split n) : Type 0 where
+  pub inside : Inside text (starts_of s) (lengths_of s)
+  pub starts_held : s.count ≤ length s.starts
+  pub lengths_held : s.count ≤ length s.lengths

@@ -1,11 +1,13 @@
 -- The end of a reading, and the tests before it. Assumes nothing.
+use Rattle.std.specs.Array.{IsFirstChunk}
+use Rattle.std.specs.Prelude.{Result, Ok, Err}
+use Rattle.std.proofs.lemmas.List.{take-append-drop}
 use mathlib.Core.Bool.{true, false}
 use mathlib.Core.List.{List, [], ◌++◌, append-nil}
 use mathlib.Core.Path.{◌≡◌, refl, sym, ap, ◌∙◌}
 use Prim.Native.Nat.{ℕ, ◌-◌, ◌≤◌, ◌<◌}
 use native.Mathlib.Omega.{arith}
 use lib.ListN.{length, take, drop, drop_of_length-le}
-use lib.Seq.{length-take-le}
 use borrow.Author.Tests.{lt-ltb, le-ltb}
 use Rattle.definition.specs.Lists.{any, zeroes, beyond}
 use Rattle.definition.specs.Limits.{greatest_depth, contents_words, body_bytes}
@@ -14,40 +16,44 @@ use Rattle.definition.specs.Image.{Sourced, bare, store_of, contents_of, written
 use Rattle.definition.specs.Reading.{Verdict, within, past, accepted, refused, outcome, left, judge, start, met, sourced, read_entries, too_long, reading}
 use Rattle.image.specs.Running.{world, begun, run, answered, closed_words, closed_bytes, finished}
 use Rattle.image.specs.declared.Totals.{Totals}
-use Rattle.image.specs.declared.Step.{Step}
-use Rattle.image.specs.declared.Step.TheVariants.{Go, Stop}
+use Rattle.refusal.specs.Numbers.{number}
+use Rattle.refusal.specs.declared.Refusal.{Refusal}
 use Rattle.image.proofs.Images.{room_after, finished_left}
 use Rattle.reader.specs.Said.{Ready, left_by}
 
 -- ---- The end of a reading, whatever it has met
 
 module _ (depth : ℕ) (texts : List (List ℕ)) (archive c b : List ℕ) (hc : length c ≡ contents_words) (hb : length b ≡ body_bytes) where
-  pub ready : (r : Step) (c' b' : List ℕ) → answered r c' b' ≡ run (files_of archive) (world begun c b) (met depth texts archive)
+  pub ready : (r : Result Totals Refusal) (c' b' : List ℕ) → answered r c' b' ≡ run (files_of archive) (world begun c b) (met depth texts archive)
       → length c' ≡ length c → length b' ≡ length b → Ready r c' b'
   unfolding answered
-  ready (Go s) c' b' e lc lb = room_after c b hc hb (files_of archive) (met depth texts archive) (world s c' b') (sym e)
-  ready (Stop k) c' b' e lc lb = (lc ∙ hc, lb ∙ hb)
+  ready (Ok s) c' b' e lc lb = room_after c b hc hb (files_of archive) (met depth texts archive) (world s c' b') (sym e)
+  ready (Err k) c' b' e lc lb = (lc ∙ hc, lb ∙ hb)
 
-  pub finished_is : (r : Step) (c' b' : List ℕ) → answered r c' b' ≡ run (files_of archive) (world begun c b) (met depth texts archive)
+  pub finished_is : (r : Result Totals Refusal) (c' b' : List ℕ) → answered r c' b' ≡ run (files_of archive) (world begun c b) (met depth texts archive)
       → finished (answered r c' b') ≡ left_by depth texts archive c b
   unfolding left_by
   finished_is r c' b' e = ap finished e ∙ finished_left c b hc hb (files_of archive) (met depth texts archive)
 
 -- what `empty_image` and `close_image` leave is the end of a reading
-module _ (r : Step) (c b : List ℕ) (ready : Ready r c b) where
-  pub stop_finished : {k : ℕ} {c' b' : List ℕ} → r ≡ Stop k → (c' ≡ zeroes (length c)) × (b' ≡ zeroes (length b))
-      → outcome (refused k) c' b' ≡ finished (answered r c b)
+module _ (r : Result Totals Refusal) (c b : List ℕ) (ready : Ready r c b) where
+  pub stop_finished : {k : Refusal} {c' b' : List ℕ} → r ≡ Err k → (c' ≡ zeroes (length c)) × (b' ≡ zeroes (length b))
+      → outcome (refused (number k)) c' b' ≡ finished (answered r c b)
   unfolding answered finished
   stop_finished e f =
       let l = rw e at ready in
       rw (e, f.0, f.1, l.0, l.1) refl
 
-  pub go_finished : (s : Totals) {c' b' : List ℕ} → r ≡ Go s → (c' ≡ closed_words s c) × (b' ≡ closed_bytes s b)
+  pub go_finished : (s : Totals) {c' b' : List ℕ} → r ≡ Ok s → (c' ≡ closed_words s c) × (b' ≡ closed_bytes s b)
       → outcome (accepted s.entries s.opens) c' b' ≡ finished (answered r c b)
   unfolding answered finished
   go_finished s e f = rw (e, f.0, f.1) refl
 
 -- ---- The call, in buffers of any length
+
+-- a buffer whose front was lent, and left as it was
+pub front_left : (n : ℕ) (xs ys : List ℕ) → IsFirstChunk xs ys n → ys ++ drop n xs ≡ xs
+front_left n xs ys h = rw h.same (take-append-drop n xs)
 
 -- what is written over the front of a buffer, with the rest behind it
 pub over_front : (n : ℕ) (lent xs : List ℕ) → written_over n (take n lent) xs ++ drop n lent ≡ written_over n lent xs
@@ -101,12 +107,6 @@ pub record Admitted (depth : ℕ) (texts : List (List ℕ)) (archive c b : List 
   pub shallow : depth ≤ greatest_depth
 
 module _ {depth : ℕ} {texts : List (List ℕ)} {archive c b : List ℕ} (h : Admitted depth texts archive c b) where
-  pub words_front : length (take contents_words c) ≡ contents_words
-  words_front = length-take-le contents_words c h.words
-
-  pub bytes_front : length (take body_bytes b) ≡ body_bytes
-  bytes_front = length-take-le body_bytes b h.bytes
-
   -- filling the fronts of the buffers is then the reading
   pub fronts : (a : Rattle.definition.specs.Reading.Answer) (c' b' : List ℕ)
       → outcome a c' b' ≡ left_by depth texts archive (take contents_words c) (take body_bytes b)

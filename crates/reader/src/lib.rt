@@ -1,49 +1,60 @@
 // The reading call.
 #![tactic(auto)]
 
-ghost use Rattle.std.specs.Prelude.{◌≡◌, true, [], ◌∷◌, map, length};
-ghost use Rattle.definition.specs.Limits.{contents_words, body_bytes};
-ghost use Rattle.definition.specs.Archive.{laid_out};
+ghost use Rattle.std.specs.Prelude.{◌≡◌, [], ◌∷◌, map};
 ghost use Rattle.definition.specs.Reading.{outcome, reading};
 ghost use Rattle.image.specs.Running.{answered, finished};
 ghost use Rattle.reader.specs.Said.{said, Ready, left_by};
 
-use archive::is_archive;
-use image::{Step, close_image, empty_image};
+use archive::Archive;
+use image::{Totals, close_image, empty_image};
 use limits::{BODY_BYTES, CONTENTS_WORDS, GREATEST_DEPTH};
+use refusal::Refusal;
 use texts::{is_long, parse_texts};
 
-// What the reading call answers: the entries and the opens, or the number that refuses the reading.
-#[derive(Drop)]
-pub enum Answer {
-    Accepted(usize, usize),
-    Refused(u8),
+// What a reading that is not refused has: its entries and its opens.
+#[derive(Clone, Copy)]
+pub struct Accepted {
+    pub entries: usize,
+    pub opens: usize,
 }
 
 // Closes the buffers that a reading has written, and answers.
-fn finish(step: Step, words: &mut [u16], store: &mut [u8]) -> Answer
-    requires { Ready step words.old store.old }
-    ensures { outcome (said result) words.new store.new ≡ finished (answered step words.old store.old) }
+fn finish(
+    read: Result<Totals, Refusal>,
+    words: &mut [u16],
+    store: &mut [u8],
+) -> Result<Accepted, Refusal>
+    requires { Ready read words.old store.old }
+    ensures { outcome (said result) words.new store.new ≡ finished (answered read words.old store.old) }
 {
-    match step {
-        Step::Stop(k) => {
-            empty_image(words, store);
-            Answer::Refused(k)
-        }
-        Step::Go(totals) => {
+    match read {
+        Ok(totals) => {
             close_image(totals, words, store);
-            Answer::Accepted(totals.entries, totals.opens)
+            Ok(Accepted {
+                entries: totals.entries,
+                opens: totals.opens,
+            })
+        }
+        Err(refusal) => {
+            empty_image(words, store);
+            Err(refusal)
         }
     }
 }
 
 // Reads into buffers that are just as long as an image.
-fn fill(texts: &[&[u8]], archive: &[u8], depth: u64, words: &mut [u16], store: &mut [u8]) -> Answer
-    requires { (length words.old ≡ contents_words) × (length store.old ≡ body_bytes) × (laid_out archive.now ≡ true) }
-    ensures { outcome (said result) words.new store.new ≡ left_by depth (map (λ x. x.now) texts.now) archive.now words.old store.old }
+fn fill(
+    texts: &[&[u8]],
+    archive: Archive<'_>,
+    depth: u64,
+    words: &mut [u16; CONTENTS_WORDS],
+    store: &mut [u8; BODY_BYTES],
+) -> Result<Accepted, Refusal>
+    ensures { outcome (said result) words.new store.new ≡ left_by depth (map (λ x. x.now) texts.now) archive.entry.bytes.now words.old store.old }
 {
-    let step = parse_texts(texts, archive, depth, words, store);
-    finish(step, words, store)
+    let read = parse_texts(texts, archive, depth, words, store);
+    finish(read, words, store)
 }
 
 // Reads a list of texts with an archive into a database image: document 01's reading call, over the texts of document 02 (i) and at the
@@ -54,31 +65,23 @@ pub fn read_texts(
     depth: u64,
     contents: &mut [u16],
     bodies: &mut [u8],
-) -> Answer
+) -> Result<Accepted, Refusal>
     ensures { outcome (said result) contents.new bodies.new ≡ reading depth (map (λ x. x.now) texts.now) archive.now contents.old bodies.old }
 {
-    if contents.len() < CONTENTS_WORDS {
-        return Answer::Refused(1);
-    }
-    if bodies.len() < BODY_BYTES {
-        return Answer::Refused(1);
-    }
+    let Some(words) = contents.first_chunk_mut::<CONTENTS_WORDS>() else {
+        return Err(Refusal::ShortBuffers);
+    };
+    let Some(store) = bodies.first_chunk_mut::<BODY_BYTES>() else {
+        return Err(Refusal::ShortBuffers);
+    };
     if is_long(texts) {
-        return Answer::Refused(2);
+        return Err(Refusal::LongText);
     }
-    if !is_archive(archive) {
-        return Answer::Refused(3);
-    }
+    let judged = Archive::new(archive)?;
     if depth > GREATEST_DEPTH {
-        return Answer::Refused(15);
+        return Err(Refusal::GreatDepth);
     }
-    fill(
-        texts,
-        archive,
-        depth,
-        &mut contents[..CONTENTS_WORDS],
-        &mut bodies[..BODY_BYTES],
-    )
+    fill(texts, judged, depth, words, store)
 }
 
 // Reads a main text: the list of one.
@@ -88,7 +91,7 @@ pub fn read<'a>(
     depth: u64,
     contents: &mut [u16],
     bodies: &mut [u8],
-) -> Answer
+) -> Result<Accepted, Refusal>
     ensures { outcome (said result) contents.new bodies.new ≡ reading depth (text.now ∷ []) archive.now contents.old bodies.old }
 {
     let texts: [&'a [u8]; 1] = [text];

@@ -1,5 +1,6 @@
 -- The readings of a value that was looked up. Assumes nothing.
-use Rattle.std.specs.Prelude.{if◌then◌else◌}
+use Rattle.std.specs.Prelude.{if◌then◌else◌, Result, Ok, Some, None}
+use Rattle.std.specs.Prelude.{Option as Answer}
 use mathlib.Core.Bool.{Bool, true, false}
 use mathlib.Core.List.{List}
 use mathlib.Core.Option.{Option, some, none}
@@ -10,7 +11,10 @@ use Rattle.definition.specs.Query.{Bounds}
 use Rattle.definition.specs.Lookup.{Reply, given, no_value, refused, Place, get_bytes_within, bytes_at}
 use Rattle.definition.specs.Value.{is_utf8, replied, read_as, as_string, bytes_or, shown_by, shown_within}
 use Rattle.lookup.specs.Replies.{replied as looked_up}
-use Rattle.lookup.specs.declared.Lookup.{Lookup}
+use Rattle.lookup.specs.declared.Place as code
+use Rattle.refusal.specs.declared.Refusal.{Refusal}
+use Rattle.booleans.specs.Readings.{boolean_in}
+use Rattle.readings.specs.Replies.{truth_replied}
 use Rattle.readings.specs.Showing.{shown_at}
 
 -- what any reading of the value's bytes makes of a reply
@@ -52,9 +56,15 @@ string_found bodies q (given p) e = kept (is_utf8 (bytes_at bodies p)) e
 string_found bodies q no_value e = absurd (let z : ◌≡◌ {A = ℕ} 0 1 = cc in omega arith)
 string_found bodies q (refused k) e = absurd (let z : ◌≡◌ {A = ℕ} 0 1 = cc in omega arith)
 
+-- a reading's answer, where there is one
+pub truth_given : (o : Answer Bool) → truth_replied (Ok o) ≡ replied (boolean_in o)
+unfolding replied boolean_in
+truth_given (Some b) = refl
+truth_given None = refl
+
 module _ (most : Bounds) (contents bodies name class : List ℕ) where
   -- what is shown of the answer of a lookup is what the lookup shows
-  pub shows : (r : Lookup) (default bytes : List ℕ) (atBodies atDefault starts : ℕ × ℕ) → looked_up r ≡ get_bytes_within most contents bodies name class
+  pub shows : (r : Result (Answer code.Place) Refusal) (default bytes : List ℕ) (atBodies atDefault starts : ℕ × ℕ) → looked_up r ≡ get_bytes_within most contents bodies name class
       → (bytes ≡ bytes_or bodies default (looked_up r)) × (starts ≡ shown_at (looked_up r) atBodies atDefault)
       → (bytes ≡ shown_within most contents bodies name class default) × (starts ≡ shown_at (get_bytes_within most contents bodies name class) atBodies atDefault)
   unfolding shown_by

@@ -1,137 +1,135 @@
 // The readings of a value that a lookup finds: `get_string`, `get_bool` and `get_value` of the Rust, and the value or a default.
 #![tactic(auto)]
 
-ghost use Rattle.std.specs.Prelude.{◌≡◌, ◌+◌, ◌≤◌, length};
+ghost use Rattle.std.specs.Prelude.{◌≡◌, ◌+◌, ◌≤◌, length, Ok};
 ghost use Rattle.definition.specs.Query.{window};
 ghost use Rattle.definition.specs.Lookup.{get_bytes_within, get_bytes, bytes_at};
 ghost use Rattle.definition.specs.Value.{as_string, as_bool, as_number, bytes_or, get_string_within, get_bool_within, get_value_within, shown_within, get_string, get_bool, get_value, shown};
-ghost use Rattle.lookup.specs.Replies.{replied, LiesIn};
+ghost use Rattle.lookup.specs.Replies.{replied, place_of, LiesIn};
 ghost use Rattle.readings.specs.Replies.{truth_replied, value_replied};
 ghost use Rattle.readings.specs.Showing.{shown_at};
 
-use booleans::{Boolean, to_bool};
-use integers::{Number, parse_i64};
-use lookup::{Lookup, get_bytes, window_get_bytes};
+use booleans::to_bool;
+use integers::parse_i64;
+use lookup::{Place, get_bytes, window_get_bytes};
+use refusal::Refusal;
 use utf8::is_utf8;
 
 // The bytes that stand at a value's place.
-fn bytes_at(bodies: &[u8], place: usize, size: usize) -> &[u8]
-    requires { place + size ≤ length bodies.now }
-    ensures { (result.now ≡ bytes_at bodies.now (record { start = place; length = size })) × (result.ref_ptr ≡ (bodies.entry.ref_ptr.0, place + bodies.entry.ref_ptr.1)) }
+fn bytes_at(bodies: &[u8], place: Place) -> &[u8]
+    requires { place.start + place.size ≤ length bodies.now }
+    ensures { (result.now ≡ bytes_at bodies.now (place_of place)) × (result.ref_ptr ≡ (bodies.entry.ref_ptr.0, place.start + bodies.entry.ref_ptr.1)) }
 {
-    &bodies[place..place + size]
+    &bodies[place.start..place.start + place.size]
 }
 
 // What a lookup found, if it is well-formed UTF-8.
-fn string_of(found: Lookup, bodies: &[u8]) -> Lookup
-    requires { LiesIn found (length bodies.now) }
-    ensures { replied result ≡ as_string bodies.now (replied found) }
+// That the place lies in the bodies stays in three contracts: callers want the place itself, and a type of both would be built in each call only to be
+// taken apart here.
+fn string_of(found: Option<Place>, bodies: &[u8]) -> Option<Place>
+    requires { LiesIn (Ok found) (length bodies.now) }
+    ensures said { replied (Ok result) ≡ as_string bodies.now (replied (Ok found)) }
+    ensures within { LiesIn (Ok result) (length bodies.now) }
 {
-    match found {
-        Lookup::Refused(k) => Lookup::Refused(k),
-        Lookup::Nothing => Lookup::Nothing,
-        Lookup::Found(place, size) => {
-            if is_utf8(bytes_at(bodies, place, size)) {
-                return Lookup::Found(place, size);
-            }
-            Lookup::Nothing
-        }
+    let place = found?;
+    if is_utf8(bytes_at(bodies, place)) {
+        Some(place)
+    } else {
+        None
     }
-}
-
-// What a lookup of a boolean answers.
-#[derive(Drop)]
-pub enum Truth {
-    Is(bool),
-    Nothing,
-    Refused(u8),
 }
 
 // The boolean of what a lookup found, if that is a string.
-fn bool_of(found: Lookup, bodies: &[u8]) -> Truth
-    requires { LiesIn found (length bodies.now) }
-    ensures { truth_replied result ≡ as_bool bodies.now (as_string bodies.now (replied found)) }
+fn bool_of(found: Option<Place>, bodies: &[u8]) -> Option<bool>
+    requires { LiesIn (Ok found) (length bodies.now) }
+    ensures { truth_replied (Ok result) ≡ as_bool bodies.now (as_string bodies.now (replied (Ok found))) }
 {
-    match found {
-        Lookup::Refused(k) => Truth::Refused(k),
-        Lookup::Nothing => Truth::Nothing,
-        Lookup::Found(place, size) => {
-            let bytes = bytes_at(bodies, place, size);
-            if !is_utf8(bytes) {
-                return Truth::Nothing;
-            }
-            let truth = to_bool(bytes);
-            match truth {
-                Boolean::True => Truth::Is(true),
-                Boolean::False => Truth::Is(false),
-                Boolean::Neither => Truth::Nothing,
-            }
-        }
+    let place = string_of(found, bodies)?;
+    to_bool(bytes_at(bodies, place))
+}
+
+// Why a lookup of a number has none: what it found is a string and no number, or it is refused.
+#[derive(Clone, Copy, Debug, PartialEq, Eq)]
+pub enum ValueError {
+    NotANumber,
+    Refused(Refusal),
+}
+
+impl From<Refusal> for ValueError {
+    ghost use Rattle.readings.specs.declared.ValueError.{ValueError};
+
+    ghost from_gives = { λ k e. e ≡ ValueError.Refused k };
+
+    fn from(refusal: Refusal) -> ValueError {
+        ValueError::Refused(refusal)
     }
 }
 
-// What a lookup of a number answers.
-#[derive(Drop)]
-pub enum Value {
-    Is(i64),
-    NotANumber,
-    Nothing,
-    Refused(u8),
-}
-
 // The number of what a lookup found, if that is a string.
-fn value_of(found: Lookup, bodies: &[u8]) -> Value
-    requires { LiesIn found (length bodies.now) }
-    ensures { value_replied result ≡ as_number bodies.now (as_string bodies.now (replied found)) }
+fn value_of(found: Option<Place>, bodies: &[u8]) -> Result<Option<i64>, ValueError>
+    requires { LiesIn (Ok found) (length bodies.now) }
+    ensures { value_replied result ≡ as_number bodies.now (as_string bodies.now (replied (Ok found))) }
 {
-    match found {
-        Lookup::Refused(k) => Value::Refused(k),
-        Lookup::Nothing => Value::Nothing,
-        Lookup::Found(place, size) => {
-            let bytes = bytes_at(bodies, place, size);
-            if !is_utf8(bytes) {
-                return Value::Nothing;
-            }
-            let number = parse_i64(bytes);
-            match number {
-                Number::Is(n) => Value::Is(n),
-                Number::NotANumber => Value::NotANumber,
-            }
-        }
+    let Some(place) = string_of(found, bodies) else {
+        return Ok(None);
+    };
+    match parse_i64(bytes_at(bodies, place)) {
+        Some(number) => Ok(Some(number)),
+        None => Err(ValueError::NotANumber),
     }
 }
 
 // The bytes of what a lookup found, or else the default: a part of one of the two.
-pub fn value_or<'a>(found: Lookup, bodies: &'a [u8], default: &'a [u8]) -> &'a [u8]
+pub fn value_or<'a>(
+    found: Result<Option<Place>, Refusal>,
+    bodies: &'a [u8],
+    default: &'a [u8],
+) -> &'a [u8]
     requires { LiesIn found (length bodies.now) }
     ensures { (result.now ≡ bytes_or bodies.now default.now (replied found)) × (result.ref_ptr ≡ shown_at (replied found) bodies.entry.ref_ptr default.entry.ref_ptr) }
 {
     match found {
-        Lookup::Refused(_) => default,
-        Lookup::Nothing => default,
-        Lookup::Found(place, size) => bytes_at(bodies, place, size),
+        Ok(Some(place)) => bytes_at(bodies, place),
+        Ok(None) => default,
+        Err(_) => default,
     }
 }
 
-// The shell's calls. The value's place if it is well-formed UTF-8:
-pub fn get_string(contents: &[u16], bodies: &[u8], name: &[u8], class: &[u8]) -> Lookup
+// The shell's calls and then the window's. They stay pairs, since each is but its lookup and a reading that both share: no closure over
+// the lookup is plainer. The value's place if it is well-formed UTF-8:
+pub fn get_string(
+    contents: &[u16],
+    bodies: &[u8],
+    name: &[u8],
+    class: &[u8],
+) -> Result<Option<Place>, Refusal>
     ensures { replied result ≡ get_string contents.now bodies.now name.now class.now }
 {
-    let found = get_bytes(contents, bodies, name, class);
-    string_of(found, bodies)
+    let found = get_bytes(contents, bodies, name, class)?;
+    Ok(string_of(found, bodies))
 }
 
-pub fn get_bool(contents: &[u16], bodies: &[u8], name: &[u8], class: &[u8]) -> Truth
+pub fn get_bool(
+    contents: &[u16],
+    bodies: &[u8],
+    name: &[u8],
+    class: &[u8],
+) -> Result<Option<bool>, Refusal>
     ensures { truth_replied result ≡ get_bool contents.now bodies.now name.now class.now }
 {
-    let found = get_bytes(contents, bodies, name, class);
-    bool_of(found, bodies)
+    let found = get_bytes(contents, bodies, name, class)?;
+    Ok(bool_of(found, bodies))
 }
 
-pub fn get_value(contents: &[u16], bodies: &[u8], name: &[u8], class: &[u8]) -> Value
+pub fn get_value(
+    contents: &[u16],
+    bodies: &[u8],
+    name: &[u8],
+    class: &[u8],
+) -> Result<Option<i64>, ValueError>
     ensures { value_replied result ≡ get_value contents.now bodies.now name.now class.now }
 {
-    let found = get_bytes(contents, bodies, name, class);
+    let found = get_bytes(contents, bodies, name, class)?;
     value_of(found, bodies)
 }
 
@@ -150,24 +148,39 @@ pub fn show<'a>(
 }
 
 // The dictionary window's calls, shaped as the shell's: document 02 (vi).
-pub fn window_get_string(contents: &[u16], bodies: &[u8], name: &[u8], class: &[u8]) -> Lookup
+pub fn window_get_string(
+    contents: &[u16],
+    bodies: &[u8],
+    name: &[u8],
+    class: &[u8],
+) -> Result<Option<Place>, Refusal>
     ensures { replied result ≡ get_string_within window contents.now bodies.now name.now class.now }
 {
-    let found = window_get_bytes(contents, bodies, name, class);
-    string_of(found, bodies)
+    let found = window_get_bytes(contents, bodies, name, class)?;
+    Ok(string_of(found, bodies))
 }
 
-pub fn window_get_bool(contents: &[u16], bodies: &[u8], name: &[u8], class: &[u8]) -> Truth
+pub fn window_get_bool(
+    contents: &[u16],
+    bodies: &[u8],
+    name: &[u8],
+    class: &[u8],
+) -> Result<Option<bool>, Refusal>
     ensures { truth_replied result ≡ get_bool_within window contents.now bodies.now name.now class.now }
 {
-    let found = window_get_bytes(contents, bodies, name, class);
-    bool_of(found, bodies)
+    let found = window_get_bytes(contents, bodies, name, class)?;
+    Ok(bool_of(found, bodies))
 }
 
-pub fn window_get_value(contents: &[u16], bodies: &[u8], name: &[u8], class: &[u8]) -> Value
+pub fn window_get_value(
+    contents: &[u16],
+    bodies: &[u8],
+    name: &[u8],
+    class: &[u8],
+) -> Result<Option<i64>, ValueError>
     ensures { value_replied result ≡ get_value_within window contents.now bodies.now name.now class.now }
 {
-    let found = window_get_bytes(contents, bodies, name, class);
+    let found = window_get_bytes(contents, bodies, name, class)?;
     value_of(found, bodies)
 }
 

@@ -1,86 +1,78 @@
 // One recorded line: the reading or the lookup is asked again, and what it gives is compared.
-use check::same;
 use fields::{is_reading, pass_bytes, pass_number, take_bytes};
 use limits::{BODY_BYTES, CONTENTS_WORDS, GREATEST_DEPTH, QUERY_BYTES};
-use lookup::{Lookup, get_bytes};
-use reader::Answer;
-use readings::{Truth, Value, get_bool, get_string, get_value, show};
+use lookup::{Place, get_bytes};
+use readings::{ValueError, get_bool, get_string, get_value, show};
+use refusal::Refusal;
 use scan::next_component;
 
 // Is the rest of the line one field, of so many bytes?
-fn is_whole(rest: &[u8], end: usize) -> bool {
-    end > 0 && end == rest.len()
-}
-
-// How far a number is from 0. The negative of the least `i64` does not fit one, so that is made of the number after it.
-fn magnitude(number: i64) -> usize {
-    if number >= 0 {
-        return number as usize;
+fn is_whole(rest: &[u8], end: Option<usize>) -> bool {
+    match end {
+        Some(end) => end == rest.len(),
+        None => false,
     }
-    (-1 - number) as usize + 1
 }
 
 fn is_number(rest: &[u8], number: i64) -> bool {
-    let size = magnitude(number);
+    let size = number.unsigned_abs() as usize;
     if number < 0 {
-        return is_whole(rest, pass_number(rest, b" -", size));
+        is_whole(rest, pass_number(rest, b" -", size))
+    } else {
+        is_whole(rest, pass_number(rest, b" ", size))
     }
-    is_whole(rest, pass_number(rest, b" ", size))
+}
+
+fn is_none(rest: &[u8]) -> bool {
+    matches!(rest, b" none")
 }
 
 // Is a lookup's answer that of the line? Every recorded lookup is accepted.
-fn is_place(rest: &[u8], answer: Lookup, bodies: &[u8]) -> bool {
+fn is_place(rest: &[u8], answer: Result<Option<Place>, Refusal>, bodies: &[u8]) -> bool {
     match answer {
-        Lookup::Found(start, size) => {
-            if start > bodies.len() {
-                return false;
-            }
-            if size > bodies.len() - start {
-                return false;
-            }
-            is_whole(rest, pass_bytes(rest, &bodies[start..start + size]))
+        Ok(Some(place)) => {
+            let start = place.start;
+            let size = place.size;
+            start <= bodies.len()
+                && size <= bodies.len() - start
+                && is_whole(rest, pass_bytes(rest, &bodies[start..start + size]))
         }
-        Lookup::Nothing => same(rest, b" none"),
-        Lookup::Refused(_) => false,
+        Ok(None) => is_none(rest),
+        Err(_) => false,
     }
 }
 
 // The same for a boolean, and for a number.
-fn is_truth(rest: &[u8], answer: Truth) -> bool {
+fn is_truth(rest: &[u8], answer: Result<Option<bool>, Refusal>) -> bool {
     match answer {
-        Truth::Is(truth) => {
-            if truth {
-                return same(rest, b" true");
-            }
-            same(rest, b" false")
-        }
-        Truth::Nothing => same(rest, b" none"),
-        Truth::Refused(_) => false,
+        Ok(Some(true)) => matches!(rest, b" true"),
+        Ok(Some(false)) => matches!(rest, b" false"),
+        Ok(None) => is_none(rest),
+        Err(_) => false,
     }
 }
 
-fn is_value(rest: &[u8], answer: Value) -> bool {
+fn is_value(rest: &[u8], answer: Result<Option<i64>, ValueError>) -> bool {
     match answer {
-        Value::Is(number) => is_number(rest, number),
-        Value::NotANumber => same(rest, b" notnumber"),
-        Value::Nothing => same(rest, b" none"),
-        Value::Refused(_) => false,
+        Ok(Some(number)) => is_number(rest, number),
+        Ok(None) => is_none(rest),
+        Err(ValueError::NotANumber) => matches!(rest, b" notnumber"),
+        Err(ValueError::Refused(_)) => false,
     }
 }
 
 // What is shown for a query without an answer is the default.
 fn is_shown(rest: &[u8], shown: &[u8]) -> bool {
-    if same(rest, b" none") {
-        return same(shown, b"default");
+    if is_none(rest) {
+        matches!(shown, b"default")
+    } else {
+        is_whole(rest, pass_bytes(rest, shown))
     }
-    is_whole(rest, pass_bytes(rest, shown))
 }
 
 fn is_bytes(rest: &[u8], contents: &[u16], bodies: &[u8], name: &[u8], class: &[u8]) -> bool {
-    if !is_shown(rest, show(contents, bodies, name, class, b"default")) {
-        return false;
-    }
-    is_place(rest, get_bytes(contents, bodies, name, class), bodies)
+    is_shown(rest, show(contents, bodies, name, class, b"default"))
+        && is_place(rest, get_bytes(contents, bodies, name, class), bodies)
 }
 
 // The query is asked of the image.
@@ -92,42 +84,33 @@ fn is_answer(
     name: &[u8],
     class: &[u8],
 ) -> bool {
-    if same(kind, b"bytes") {
-        return is_bytes(rest, contents, bodies, name, class);
+    match kind {
+        b"bytes" => is_bytes(rest, contents, bodies, name, class),
+        b"string" => is_place(rest, get_string(contents, bodies, name, class), bodies),
+        b"bool" => is_truth(rest, get_bool(contents, bodies, name, class)),
+        b"value" => is_value(rest, get_value(contents, bodies, name, class)),
+        _ => false,
     }
-    if same(kind, b"string") {
-        return is_place(rest, get_string(contents, bodies, name, class), bodies);
-    }
-    if same(kind, b"bool") {
-        return is_truth(rest, get_bool(contents, bodies, name, class));
-    }
-    if same(kind, b"value") {
-        return is_value(rest, get_value(contents, bodies, name, class));
-    }
-    false
 }
 
 // A query's name and class, and the answer.
 fn replay_lookup(kind: &[u8], line: &[u8], contents: &[u16], bodies: &[u8]) -> bool {
     let mut name = [0; QUERY_BYTES];
     let mut class = [0; QUERY_BYTES];
-    let first = take_bytes(line, &mut name);
-    let n = first.size;
-    let middle = first.end;
-    let rest = &line[middle..];
-    let second = take_bytes(rest, &mut class);
-    let m = second.size;
-    let end = second.end;
-    if middle == 0 || end == 0 {
+    let Some(first) = take_bytes(line, &mut name) else {
         return false;
-    }
+    };
+    let rest = &line[first.end..];
+    let Some(second) = take_bytes(rest, &mut class) else {
+        return false;
+    };
     is_answer(
         kind,
-        &rest[end..],
+        &rest[second.end..],
         contents,
         bodies,
-        &name[..n],
-        &class[..m],
+        &name[..first.size],
+        &class[..second.size],
     )
 }
 
@@ -135,14 +118,13 @@ fn replay_lookup(kind: &[u8], line: &[u8], contents: &[u16], bodies: &[u8]) -> b
 fn replay_reading(kind: &[u8], line: &[u8], text: &[u8], archive: &[u8]) -> bool {
     let mut contents = [0; CONTENTS_WORDS];
     let mut bodies = [0; BODY_BYTES];
-    let answer = reader::read(text, archive, GREATEST_DEPTH, &mut contents, &mut bodies);
-    let Answer::Accepted(entries, opens) = answer else {
+    let Ok(read) = reader::read(text, archive, GREATEST_DEPTH, &mut contents, &mut bodies) else {
         return false;
     };
-    if same(kind, b"read") {
-        return is_reading(line, entries, opens, &contents, &bodies);
+    match kind {
+        b"read" => is_reading(line, read.entries, read.opens, &contents, &bodies),
+        _ => replay_lookup(kind, line, &contents, &bodies),
     }
-    replay_lookup(kind, line, &contents, &bodies)
 }
 
 // Is a line, without its newline, what the calls answer?
@@ -151,15 +133,17 @@ pub fn replay_case(line: &[u8]) -> bool {
     let mut archive = io::large_buffer();
     let kind = next_component(line);
     let fields = &line[kind..];
-    let first = take_bytes(fields, &mut text);
-    let n = first.size;
-    let middle = first.end;
-    let rest = &fields[middle..];
-    let second = take_bytes(rest, &mut archive);
-    let m = second.size;
-    let end = second.end;
-    if middle == 0 || end == 0 {
+    let Some(first) = take_bytes(fields, &mut text) else {
         return false;
-    }
-    replay_reading(&line[..kind], &rest[end..], &text[..n], &archive[..m])
+    };
+    let rest = &fields[first.end..];
+    let Some(second) = take_bytes(rest, &mut archive) else {
+        return false;
+    };
+    replay_reading(
+        &line[..kind],
+        &rest[second.end..],
+        &text[..first.size],
+        &archive[..second.size],
+    )
 }

@@ -7,75 +7,35 @@
 mod cases;
 
 use cases::replay_case;
-use skips::line_end;
 use std::num::wrapping_add_usize;
-use tally::{Tally, count_line, file_buffer, read_file, write_tally};
+use tally::{tally_file, write_tally};
 
-fn replay_lines(lines: &[u8]) -> Tally {
-    let mut rest = lines;
-    let mut tally = Tally {
-        lines: 0,
-        equal: 0,
-        differs: 0,
-    };
-    while rest.len() > 0 {
-        let n = line_end(rest);
-        if n >= rest.len() {
-            return count_line(tally, false);
-        }
-        tally = count_line(tally, replay_case(&rest[..n]));
-        rest = &rest[n + 1..];
-    }
-    tally
-}
-
-// A file that cannot be read, or not whole, differs.
-fn replay_file(rt: &HostRuntime, name: &[u8]) -> Tally {
-    let mut lines = file_buffer();
-    let input = read_file(rt, name, &mut lines);
-    let n = input.size;
-    let mut tally = replay_lines(&lines[..n]);
-    if input.failed {
-        tally = count_line(tally, false);
-    }
-    write_tally(rt, name, tally, b", line ", b" differs");
-    tally
-}
-
-// The tally of some files and one more: `differs` counts the files that do.
-fn added(total: Tally, tally: Tally) -> Tally {
-    let mut sum = total;
-    sum.equal = wrapping_add_usize(sum.equal, tally.equal);
-    if tally.differs > 0 {
-        sum.differs = wrapping_add_usize(sum.differs, 1);
-    }
-    sum
-}
-
-// Replays the files that are named, a name a line.
-fn replay_files(rt: &HostRuntime, names: &[u8]) -> Tally {
-    let mut total = Tally {
-        lines: 0,
-        equal: 0,
-        differs: 0,
-    };
-    let mut rest = names;
-    while rest.len() > 0 {
-        let n = line_end(rest);
-        if n >= rest.len() {
-            return total;
-        }
-        total = added(total, replay_file(rt, &rest[..n]));
-        rest = &rest[n + 1..];
-    }
-    total
-}
+const NAMES: [&[u8]; 13] = [
+    b"small.txt",
+    b"named.txt",
+    b"limits.txt",
+    b"long.txt",
+    b"keys.txt",
+    b"values.txt",
+    b"lines.txt",
+    b"includes.txt",
+    b"lookups.txt",
+    b"struck.txt",
+    b"readings.txt",
+    b"damaged.txt",
+    b"realistic.txt",
+];
 
 fn main(rt: HostRuntime) {
-    let total = replay_files(
-        &rt,
-        b"small.txt\nnamed.txt\nlimits.txt\nlong.txt\nkeys.txt\nvalues.txt\nlines.txt\n\
-        includes.txt\nlookups.txt\nstruck.txt\nreadings.txt\ndamaged.txt\nrealistic.txt\n",
-    );
-    write_tally(&rt, b"total", total, b", files that differ: ", b"");
+    let mut equal = 0;
+    let mut differ = 0;
+    for name in NAMES {
+        let tally = tally_file(&rt, name, |line| replay_case(line));
+        equal = wrapping_add_usize(equal, tally.equal);
+        if tally.differs.is_some() {
+            differ = wrapping_add_usize(differ, 1);
+        }
+    }
+    let files = if differ > 0 { Some(differ) } else { None };
+    write_tally(&rt, b"total", equal, files, b", files that differ: ", b"");
 }

@@ -1,177 +1,146 @@
 // One recorded chain: it is read again, and what it gives is compared.
-ghost use Rattle.std.specs.Prelude.{◌≤◌, length};
+ghost use Rattle.std.specs.Prelude.{◌≤◌, length, IfSome};
 
 use fields::{is_reading, pass_number, take_bytes};
 use limits::{BODY_BYTES, CONTENTS_WORDS, GREATEST_DEPTH};
-use reader::Answer;
-use scan::starts_with;
+use sources::StartUp;
 use startup::read_default;
 
 // What a field says of a text.
-const BYTES: u8 = 0;
+#[derive(Clone, Copy)]
+enum Kind {
+    Bytes,
+    Unreadable,
+    Unset,
+}
 
-const UNREADABLE: u8 = 1;
-
-const UNSET: u8 = 2;
-
-// The property's format, and how many bytes the line takes up to it: none if it is no byte's number.
-#[derive(Drop)]
-struct Format {
-    format: u8,
+// A field: what it says, and where its bytes stand in the store.
+#[derive(Clone, Copy)]
+struct Field {
+    kind: Kind,
+    start: usize,
     end: usize,
 }
 
-fn take_format(line: &[u8]) -> Format
-    ensures { result.end ≤ length line.now }
+// The property's format, and how many bytes the line takes up to it.
+fn take_format(line: &[u8]) -> Option<(u8, usize)>
+    ensures { IfSome result (λ f. f.1 ≤ length line.now) }
 {
-    let mut n: usize = 0;
-    while n < 256 {
-        let end = pass_number(line, b"default ", n);
-        if end > 0 && starts_with(&line[end..], b" ") {
-            return Format {
-                format: n as u8,
-                end,
-            };
+    for format in 0..=u8::MAX {
+        if let Some(end) = pass_number(line, b"default ", format as usize) {
+            if line[end..].first() == Some(&b' ') {
+                return Some((format, end));
+            }
         }
-        n += 1;
     }
-    Format { format: 0, end: 0 }
+    None
 }
 
-// How many bytes of the line a word takes, if it stands first: none if not.
-fn pass_word(rest: &[u8], word: &[u8]) -> usize
-    ensures { result ≤ length rest.now }
+// What a field without bytes says.
+fn take_word(rest: &[u8]) -> Option<(usize, Kind)>
+    ensures { IfSome result (λ w. w.0 ≤ length rest.now) }
 {
-    if word.len() > rest.len() {
-        return 0;
+    if rest.starts_with(b" unreadable") {
+        return Some((11, Kind::Unreadable));
     }
-    if starts_with(rest, word) {
-        return word.len();
+    if rest.starts_with(b" unset") {
+        return Some((6, Kind::Unset));
     }
-    0
+    None
 }
 
-// A field: how many bytes of the line it takes, how many it is decoded to, and what it says. What is malformed takes none.
-#[derive(Drop)]
-struct Field {
-    took: usize,
-    size: usize,
-    kind: u8,
-}
-
-fn take_text(rest: &[u8], out: &mut [u8]) -> Field
-    ensures { (result.took ≤ length rest.now) × (result.size ≤ length out.new) }
+// How many bytes of the line a field takes, and the field, whose bytes are put into the store from `at` on.
+fn take_field(rest: &[u8], store: &mut [u8], at: usize) -> Option<(usize, Field)>
+    requires { at ≤ length store.old }
+    ensures { IfSome result (λ f. (f.0 ≤ length rest.now) × (f.1.end ≤ length store.old)) }
 {
-    let taken = take_bytes(rest, out);
-    if taken.end > 0 {
-        return Field {
-            took: taken.end,
-            size: taken.size,
-            kind: BYTES,
+    if let Some(taken) = take_bytes(rest, &mut store[at..]) {
+        let field = Field {
+            kind: Kind::Bytes,
+            start: at,
+            end: at + taken.size,
         };
+        return Some((taken.end, field));
     }
-    let unreadable = pass_word(rest, b" unreadable");
-    if unreadable > 0 {
-        return Field {
-            took: unreadable,
-            size: 0,
-            kind: UNREADABLE,
-        };
-    }
-    Field {
-        took: pass_word(rest, b" unset"),
-        size: 0,
-        kind: UNSET,
-    }
+    let (took, kind) = take_word(rest)?;
+    Some((
+        took,
+        Field {
+            kind,
+            start: at,
+            end: at,
+        },
+    ))
 }
 
-// Takes the property, the four texts and the archive, and answers how far the line is taken: where the bytes of each end in the store,
-// behind a first 0, and what each field says. After a malformed field none is taken.
-fn take_chain(line: &[u8], store: &mut [u8], ends: &mut [usize; 7], kinds: &mut [u8; 6]) -> usize
-    ensures { result ≤ length line.now }
-{
+// Takes the property, the four texts and the archive, and answers what is left of the line.
+fn take_chain<'a>(line: &'a [u8], store: &mut [u8], fields: &mut [Field; 6]) -> Option<&'a [u8]> {
     let mut rest = line;
     let mut at = 0;
-    let mut i = 0;
-    while i < 6 {
-        let field = take_text(rest, &mut store[at..]);
-        let took = field.took;
+    for field in fields.iter_mut() {
+        let (took, taken) = take_field(rest, store, at)?;
         rest = &rest[took..];
-        at += field.size;
-        kinds[i] = field.kind;
-        i += 1;
-        ends[i] = at;
+        at = taken.end;
+        *field = taken;
     }
-    line.len() - rest.len()
+    Some(rest)
 }
 
-// Does a field say that?
-fn says(kinds: &[u8; 6], i: usize, kind: u8) -> bool {
-    i < 6 && kinds[i] == kind
+// The bytes of a text, unless the field has none.
+fn text<'a>(store: &'a [u8], field: Field) -> Option<&'a [u8]> {
+    match field.kind {
+        Kind::Bytes => store.get(field.start..field.end),
+        Kind::Unreadable | Kind::Unset => None,
+    }
 }
 
-// Only a text can be unreadable, and only XENVIRONMENT unset.
-fn is_chain(kinds: &[u8; 6]) -> bool {
-    if says(kinds, 1, UNSET) || says(kinds, 2, UNSET) || says(kinds, 4, UNSET) {
+fn is_set(field: Field) -> bool {
+    !matches!(field.kind, Kind::Unset)
+}
+
+// The chain is read again, at the Rust's depth. Every recorded one is accepted. Only a text can be unreadable, and only XENVIRONMENT unset.
+fn replay_chain(format: u8, store: &[u8], fields: [Field; 6], rest: &[u8]) -> bool {
+    let [property, xresources, xdefaults, xenvironment, host, archive] = fields;
+    if !is_set(xresources) || !is_set(xdefaults) || !is_set(host) {
         return false;
     }
-    says(kinds, 0, BYTES) && says(kinds, 5, BYTES)
-}
-
-// The bytes of a text, by its number.
-fn text<'a>(store: &'a [u8], ends: &[usize; 7], i: usize) -> &'a [u8] {
-    if i > 5 {
-        return &store[..0];
-    }
-    let start = ends[i];
-    let end = ends[i + 1];
-    if start > end || end > store.len() {
-        return &store[..0];
-    }
-    &store[start..end]
-}
-
-// The chain is read again, at the Rust's depth. Every recorded one is accepted.
-fn replay_chain(format: u8, store: &[u8], ends: &[usize; 7], kinds: &[u8; 6], rest: &[u8]) -> bool {
-    let mut contents = [0; CONTENTS_WORDS];
-    let mut bodies = [0; BODY_BYTES];
-    let answer = read_default(
-        format,
-        text(store, ends, 0),
-        says(kinds, 1, BYTES),
-        text(store, ends, 1),
-        says(kinds, 2, BYTES),
-        text(store, ends, 2),
-        !says(kinds, 3, UNSET),
-        says(kinds, 3, BYTES),
-        text(store, ends, 3),
-        says(kinds, 4, BYTES),
-        text(store, ends, 4),
-        text(store, ends, 5),
-        GREATEST_DEPTH,
-        &mut contents,
-        &mut bodies,
-    );
-    let Answer::Accepted(entries, opens) = answer else {
+    let Some(property) = text(store, property) else {
         return false;
     };
-    is_reading(rest, entries, opens, &contents, &bodies)
+    let Some(archive) = text(store, archive) else {
+        return false;
+    };
+    let start = StartUp {
+        format,
+        property,
+        xresources: text(store, xresources),
+        xdefaults: text(store, xdefaults),
+        is_set: is_set(xenvironment),
+        xenvironment: text(store, xenvironment),
+        host: text(store, host),
+    };
+    let mut contents = [0; CONTENTS_WORDS];
+    let mut bodies = [0; BODY_BYTES];
+    match read_default(start, archive, GREATEST_DEPTH, &mut contents, &mut bodies) {
+        Ok(read) => is_reading(rest, read.entries, read.opens, &contents, &bodies),
+        Err(_) => false,
+    }
 }
 
 // Is a line, without its newline, what the call answers?
 pub fn replay_case(line: &[u8]) -> bool {
     let mut store = io::large_buffer();
-    let mut ends = [0; 7];
-    let mut kinds = [UNSET; 6];
-    let first = take_format(line);
-    let start = first.end;
-    if start == 0 {
+    let none = Field {
+        kind: Kind::Unset,
+        start: 0,
+        end: 0,
+    };
+    let mut fields = [none; 6];
+    let Some((format, end)) = take_format(line) else {
         return false;
+    };
+    match take_chain(&line[end..], &mut store, &mut fields) {
+        Some(rest) => replay_chain(format, &store, fields, rest),
+        None => false,
     }
-    let fields = &line[start..];
-    let end = take_chain(fields, &mut store, &mut ends, &mut kinds);
-    if !is_chain(&kinds) {
-        return false;
-    }
-    replay_chain(first.format, &store, &ends, &kinds, &fields[end..])
 }

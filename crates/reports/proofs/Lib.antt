@@ -1,2 +1,2 @@
--- Laws of getres's reports.
+-- Laws of what is told.
 pub mod Telling

@@ -2,11 +2,13 @@
 use Rattle.std.specs.Prelude.{Bool, true, false, List, ◌++◌, ◌≡◌, ℕ, ◌+◌, ◌*◌, if◌then◌else◌}
 use Rattle.definition.specs.Lists.{ascii}
 use Rattle.definition.specs.Limits.{body_bytes}
-use Rattle.io.specs.Counts.{IsPrefixLen}
 use Rattle.printing.specs.Putting.{Appends}
+use Rattle.printing.specs.declared.Lines.{Lines}
 use Rattle.refusals.specs.Refusals.{refusal_of}
 use Rattle.showing.specs.Showing.{Shown, value, no_value, refused_by, line_of, same_shown}
 use Rattle.reports.specs.declared.Report.{Report}
+use Rattle.reports.specs.declared.Status.{Status}
+use Rattle.reports.specs.declared.Status.TheVariants.{Yes, No, Trouble}
 
 -- the bytes, the status, and whether they go to standard error
 pub record Told : Type 0 where
@@ -51,9 +53,14 @@ argument_bytes = 4096
 abbrev pub report_bytes : ℕ
 report_bytes = 2 * (body_bytes + argument_bytes) + 64
 
--- the bytes stand at the front of `out`, which is else as it was
-pub record Reports (t : Told) (out out' : List ℕ) (r : Report) : Type 0 where
-  pub puts : Appends t.bytes out 0 out' r.size
-  pub status : r.status ≡ t.status
+-- the exit status, which is `as u8` in the code
+abbrev pub status_number : Status → ℕ
+status_number Yes = 0
+status_number No = 1
+status_number Trouble = 2
+
+-- the bytes stand behind what was written, and all else is as it was
+pub record Reports (t : Told) (w w' : Lines) (r : Report) : Type 0 where
+  pub puts : Appends t.bytes w w'
+  pub status : status_number r.status ≡ t.status
   pub wrong : r.wrong ≡ t.wrong
-  pub counts : IsPrefixLen r.size out'

@@ -3,114 +3,122 @@
 
 ghost use Rattle.std.specs.Prelude.{◌≡◌, ◌≤◌, length};
 ghost use Rattle.definition.specs.Limits.{body_bytes};
-ghost use Rattle.lookup.specs.Replies.{LiesIn};
-ghost use Rattle.showing.specs.Showing.{shown_of};
+ghost use Rattle.refusal.specs.Numbers.{number};
+ghost use Rattle.showing.specs.Showing.{lent, value_bytes};
 ghost use Rattle.reports.specs.Telling.{refused, told, both_told, not_among, Reports, report_bytes, argument_bytes};
+ghost use Rattle.printing.specs.Putting.{left};
 
 use limits::BODY_BYTES;
-use lookup::Lookup;
-use printing::put;
-use refusals::put_reason;
+use printing::Lines;
+use refusal::Refusal;
+use refusals::reason;
 use showing::{put_line, same_answer};
 
-// What is told: so many bytes at the start of a buffer, the status, and whether it goes to standard error.
-#[derive(Drop)]
+// The status that getres ends with.
+#[derive(Clone, Copy)]
+pub enum Status {
+    // a value, or two equal answers
+    Yes = 0,
+    // none, or two different answers
+    No = 1,
+    // a refusal, or an error
+    Trouble = 2,
+}
+
+// What is told beside the bytes: the status, and whether they go to standard error.
+#[derive(Clone, Copy)]
 pub struct Report {
-    pub size: usize,
-    pub status: u8,
+    pub status: Status,
+    // No part of the status: 1 goes to standard error for no value, and to standard output for two different answers.
     pub wrong: bool,
 }
 
-// Room for every report: two lines of a value and a file's name, and a few words.
+// Room for every report: two lines of a value and a file's name, and a few words. A call asks for it before it writes, and has used it up
+// after: no type that is lent to it can hold both, so each contract asks.
 pub const REPORT_BYTES: usize = 2 * (BODY_BYTES + 4096) + 64;
 
 // ---- One answer
 
-// A refusal by its number.
-pub fn refuse(number: u8, out: &mut [u8]) -> Report
-    requires { 69 ≤ length out.old }
-    ensures { Reports (refused number) out.old out.new result }
+// A refusal in words.
+pub fn refuse(refusal: Refusal, out: &mut Lines) -> Report
+    requires { 69 ≤ length (left out.old) }
+    ensures { Reports (refused (number refusal)) out.old out.new result }
 {
-    let mut end = put(b"getres: ", out, 0);
-    end = put_reason(number, out, end);
-    let size = put(b"\n", out, end);
+    out.put(b"getres: ");
+    out.put(reason(refusal));
+    out.put(b"\n");
     Report {
-        size,
-        status: 2,
+        status: Status::Trouble,
         wrong: true,
     }
 }
 
 // One answer: a value, none or a refusal.
-pub fn tell(found: Lookup, bodies: &[u8], out: &mut [u8]) -> Report
-    requires { LiesIn found (length bodies.now) × (length bodies.now ≡ body_bytes) × (report_bytes ≤ length out.old) }
-    ensures { Reports (told (shown_of bodies.now found)) out.old out.new result }
+#[tactic(auto, unfolding(crate::specs::Telling::told))]
+pub fn tell(answer: Result<Option<&[u8]>, Refusal>, out: &mut Lines) -> Report
+    requires { (value_bytes (lent answer) ≤ body_bytes) × (report_bytes ≤ length (left out.old)) }
+    ensures { Reports (told (lent answer.entry)) out.old out.new result }
 {
-    match found {
-        Lookup::Found(place, size) => {
-            let end = put(&bodies[place..place + size], out, 0);
-            let size = put(b"\n", out, end);
+    match answer {
+        Ok(Some(value)) => {
+            out.put(value);
+            out.put(b"\n");
             Report {
-                size,
-                status: 0,
+                status: Status::Yes,
                 wrong: false,
             }
         }
-        Lookup::Nothing => {
-            let size = put(b"getres: no value\n", out, 0);
+        Ok(None) => {
+            out.put(b"getres: no value\n");
             Report {
-                size,
-                status: 1,
+                status: Status::No,
                 wrong: true,
             }
         }
-        Lookup::Refused(number) => refuse(number, out),
+        Err(refusal) => refuse(refusal, out),
     }
 }
 
 // ---- Two answers
 
-// A line for each answer, and whether they differ.
+// A line for each answer, and whether they differ. `file` is an argument as it is given: one call makes it, and a type with its length would
+// be taken apart again at each of its four uses.
+#[tactic(auto, using(showing::proofs::Lines::line_most))]
 pub fn tell_both(
     file: &[u8],
-    a: Lookup,
-    bodies: &[u8],
-    b: Lookup,
-    store: &[u8],
-    out: &mut [u8],
+    a: Result<Option<&[u8]>, Refusal>,
+    b: Result<Option<&[u8]>, Refusal>,
+    out: &mut Lines,
 ) -> Report
-    requires { (length file.now ≤ argument_bytes) × LiesIn a (length bodies.now) × (length bodies.now ≡ body_bytes) × LiesIn b (length store.now) × (length store.now ≡ body_bytes) × (report_bytes ≤ length out.old) }
-    ensures { Reports (both_told file.now (shown_of bodies.now a) (shown_of store.now b)) out.old out.new result }
+    requires { (length file.now ≤ argument_bytes) × (value_bytes (lent a) ≤ body_bytes) × (value_bytes (lent b) ≤ body_bytes) × (report_bytes ≤ length (left out.old)) }
+    ensures { Reports (both_told file.now (lent a.entry) (lent b.entry)) out.old out.new result }
 {
-    let mut end = put_line(b"with ", file, a, bodies, out, 0);
-    end = put_line(b"without ", file, b, store, out, end);
-    if same_answer(a, bodies, b, store) {
-        let size = put(b"equal\n", out, end);
+    put_line(b"with ", file, a, out);
+    put_line(b"without ", file, b, out);
+    if same_answer(a, b) {
+        out.put(b"equal\n");
         return Report {
-            size,
-            status: 0,
+            status: Status::Yes,
             wrong: false,
         };
     }
-    let size = put(b"different\n", out, end);
+    out.put(b"different\n");
     Report {
-        size,
-        status: 1,
+        status: Status::No,
         wrong: false,
     }
 }
 
 // No file has that name.
-pub fn no_file(file: &[u8], out: &mut [u8]) -> Report
-    requires { (length file.now ≤ argument_bytes) × (report_bytes ≤ length out.old) }
+pub fn no_file(file: &[u8], out: &mut Lines) -> Report
+    requires { (length file.now ≤ argument_bytes) × (report_bytes ≤ length (left out.old)) }
     ensures { Reports (not_among file.now) out.old out.new result }
 {
-    let mut end = put(b"getres: ", out, 0);
-    end = put(file, out, end);
-    let size = put(b": not among the files\n", out, end);
+    out.put(b"getres: ");
+    out.put(file);
+    out.put(b": not among the files\n");
     Report {
-        size,
-        status: 2,
+        status: Status::Trouble,
         wrong: true,
     }
 }

@@ -1,6 +1,5 @@
 -- What the fact of document 02 (vi) says of the calls, by their contracts: where the window admits a query, its calls and the shell's give the
 -- same numbers, and leave and show the same. Assumes nothing.
-use mathlib.Core.Bool.{Bool}
 use mathlib.Core.List.{List}
 use mathlib.Core.Path.{◌≡◌, sym, ap, ◌∙◌}
 use Prim.Native.Nat.{ℕ}

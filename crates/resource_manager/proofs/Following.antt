@@ -4,49 +4,17 @@ use Rattle.std.specs.Prelude.{if◌then◌else◌}
 use mathlib.Core.Bool.{Bool, true, false, ◌||◌, not}
 use mathlib.Core.List.{List, [], ◌∷◌}
 use mathlib.Core.Logic.{◌↔◌, ◌⊎◌}
-use mathlib.Core.Path.{◌≡◌, refl, sym, ap, ◌∙◌}
+use mathlib.Core.Path.{◌≡◌, refl, ap, ◌∙◌}
 use Prim.Native.Nat.{ℕ}
 use native.Mathlib.Omega.{arith}
 use lib.Dec.{eqb}
 use Rattle.definition.specs.Lookup.{Reply, given, refused}
 use Rattle.definition.specs.Adding.{over}
 use Rattle.definition.specs.ThirdTerm.{NoneThroughBeats, SameBytesWithout}
-use Rattle.definition.specs.Board.{
-  Board,
-  Call,
-  leave,
-  is_present,
-  reply_to,
-  if_given,
-  history,
-  joined,
-  Found,
-  query_number,
-  watched_answer,
-  watched_answers,
-  report,
-  Lent,
-  lent,
-  board_in,
-  short_board,
-  is_board,
-  Done,
-  done,
-  board_make,
-  writing,
-  board_call,
-  board_answer,
-  board_answers,
-  board_report,
-  after_all,
-  reached,
-  Follows,
-  through_pack,
-  bytes_answered,
-}
+use Rattle.definition.specs.Board.{Call, leave, is_present, reply_to, if_given, history, joined, Found, query_number, watched_answer, watched_answers, report, Lent, lent, board_in, short_board, is_board, Done, done, board_make, writing, board_call, board_answer, board_answers, board_report, after_all, reached, Follows, through_pack, bytes_answered}
 use Rattle.board_laws.proofs.Histories.{follows}
 use Rattle.board_laws.proofs.Answers.{follows_history, leaving_strikes_off}
-use Rattle.board_codes.specs.Codes.{call_code, Answering, answering, answer_numbers, report_code}
+use Rattle.board_codes.specs.Codes.{call_code, Answering, answer_numbers, report_code}
 use Rattle.board_answers.specs.Numbers.{AllAnswered, all_numbers}
 use Rattle.resource_manager.specs.Boundary.{Crossing, crossing, board_crossed}
 

@@ -7,6 +7,7 @@ ghost use Rattle.compare.specs.Comparing.{asked};
 ghost use Rattle.codes.specs.Codes.{numbers};
 ghost use Rattle.resource_manager.specs.Boundary.{yes, compares, Crosses};
 
+use crate::start_of;
 use codes::compare_code;
 use limits::{DEFAULT_DEPTH, GREATEST_DEPTH};
 
@@ -72,18 +73,21 @@ pub fn resource_manager_compare_default_without<'a>(
 ) -> u64
     ensures { Crosses (asked greatest_depth (texts_used (start_up property_format property.now (lending (yes xresources_read) xresources.now) (lending (yes xdefaults_read) xdefaults.now) (yes xenvironment_set) (lending (yes xenvironment_read) xenvironment.now) (lending (yes host_read) host.now))) shelf.now file name.now class.now contents.old bodies.old contents_without.old bodies_without.old) struck.old with_it.old without.old (compares (numbers result with_it.new without.new) struck.new contents.new bodies.new contents_without.new bodies_without.new) }
 {
-    let answer = compare_default::compare_default_without(
+    let start = start_of(
         property_format,
         property,
-        xresources_read != 0,
+        xresources_read,
         xresources,
-        xdefaults_read != 0,
+        xdefaults_read,
         xdefaults,
-        xenvironment_set != 0,
-        xenvironment_read != 0,
+        xenvironment_set,
+        xenvironment_read,
         xenvironment,
-        host_read != 0,
+        host_read,
         host,
+    );
+    let answer = compare_default::compare_default_without(
+        start,
         shelf,
         GREATEST_DEPTH,
         file,

@@ -1,4 +1,5 @@
-// The calls that resource_manager_c gives to C, Rust and the tests to link.
+// The calls that resource_manager_c gives to C, Rust and the tests to link. Their signatures are C's: flags and buffers come one by one, and
+// each call stands alone, also where two differ by a depth or by the window's bounds.
 #![tactic(auto)]
 
 pub mod boards;
@@ -17,13 +18,41 @@ ghost use Rattle.definition.specs.Value.{get_string, get_bool, get_value};
 ghost use Rattle.definition.specs.Writing.{writing};
 ghost use Rattle.definition.specs.Adding.{adding};
 ghost use Rattle.definition.specs.Migration.{migrating};
-ghost use Rattle.sources.specs.Lending.{lending, start_up};
+ghost use Rattle.sources.specs.Lending.{lending, start_up, as_lent};
 ghost use Rattle.codes.specs.Codes.{place_code, bool_code, taking, taken};
 ghost use Rattle.resource_manager.specs.Boundary.{yes, crossed, crossing, filling, fill_code, add_crossed};
 ghost use Rattle.readings.specs.Showing.{shown_at};
 
 use codes::{add_code, bool_code, place_code, read_code, value_code, write_code};
 use limits::{DEFAULT_DEPTH, GREATEST_DEPTH};
+use sources::{StartUp, lent};
+
+// What a reader starts with, as C lends it. A flag is no if it is 0, else yes; a text is there if it could be read.
+fn start_of<'a>(
+    property_format: u8,
+    property: &'a [u8],
+    xresources_read: u8,
+    xresources: &'a [u8],
+    xdefaults_read: u8,
+    xdefaults: &'a [u8],
+    xenvironment_set: u8,
+    xenvironment_read: u8,
+    xenvironment: &'a [u8],
+    host_read: u8,
+    host: &'a [u8],
+) -> StartUp<'a>
+    ensures { as_lent result ≡ start_up property_format property.now (lending (yes xresources_read) xresources.now) (lending (yes xdefaults_read) xdefaults.now) (yes xenvironment_set) (lending (yes xenvironment_read) xenvironment.now) (lending (yes host_read) host.now) }
+{
+    StartUp {
+        format: property_format,
+        property,
+        xresources: lent(xresources_read != 0, xresources),
+        xdefaults: lent(xdefaults_read != 0, xdefaults),
+        is_set: xenvironment_set != 0,
+        xenvironment: lent(xenvironment_read != 0, xenvironment),
+        host: lent(host_read != 0, host),
+    }
+}
 
 // Document 01's reading call, at depth 20. The low 16 bits are 0, or the number of the refusal and that alone; entries stand in bits 16 to
 // 31 and opens in bits 32 to 47.
@@ -59,23 +88,20 @@ pub fn resource_manager_read_default<'a>(
 ) -> u64
     ensures { crossing result contents.new bodies.new ≡ crossed (starting greatest_depth (start_up property_format property.now (lending (yes xresources_read) xresources.now) (lending (yes xdefaults_read) xdefaults.now) (yes xenvironment_set) (lending (yes xenvironment_read) xenvironment.now) (lending (yes host_read) host.now)) shelf.now contents.old bodies.old) }
 {
-    let answer = startup::read_default(
+    let start = start_of(
         property_format,
         property,
-        xresources_read != 0,
+        xresources_read,
         xresources,
-        xdefaults_read != 0,
+        xdefaults_read,
         xdefaults,
-        xenvironment_set != 0,
-        xenvironment_read != 0,
+        xenvironment_set,
+        xenvironment_read,
         xenvironment,
-        host_read != 0,
+        host_read,
         host,
-        shelf,
-        GREATEST_DEPTH,
-        contents,
-        bodies,
     );
+    let answer = startup::read_default(start, shelf, GREATEST_DEPTH, contents, bodies);
     read_code(answer)
 }
 

@@ -7,6 +7,7 @@ ghost use Rattle.compare.specs.Comparing.{asked};
 ghost use Rattle.codes.specs.Codes.{numbers};
 ghost use Rattle.resource_manager.specs.Boundary.{yes, crossed, crossing, compares, Crosses};
 
+use crate::start_of;
 use codes::{compare_code, read_code};
 
 // `resource_manager_read` at a depth.
@@ -43,23 +44,20 @@ pub fn resource_manager_read_default_depth<'a>(
 ) -> u64
     ensures { crossing result contents.new bodies.new ≡ crossed (starting depth (start_up property_format property.now (lending (yes xresources_read) xresources.now) (lending (yes xdefaults_read) xdefaults.now) (yes xenvironment_set) (lending (yes xenvironment_read) xenvironment.now) (lending (yes host_read) host.now)) shelf.now contents.old bodies.old) }
 {
-    let answer = startup::read_default(
+    let start = start_of(
         property_format,
         property,
-        xresources_read != 0,
+        xresources_read,
         xresources,
-        xdefaults_read != 0,
+        xdefaults_read,
         xdefaults,
-        xenvironment_set != 0,
-        xenvironment_read != 0,
+        xenvironment_set,
+        xenvironment_read,
         xenvironment,
-        host_read != 0,
+        host_read,
         host,
-        shelf,
-        depth,
-        contents,
-        bodies,
     );
+    let answer = startup::read_default(start, shelf, depth, contents, bodies);
     read_code(answer)
 }
 

@@ -1,43 +1,16 @@
--- What an answer of `starts_with` says, and how its loop comes to it. Assumes nothing.
+-- What an answer of `starts_with` says. Assumes nothing.
 use Rattle.std.specs.Prelude.{if◌then◌else◌}
 use mathlib.Core.Bool.{Bool, true, false}
 use mathlib.Core.List.{List, [], ◌∷◌}
 use mathlib.Core.Option.{some, none}
 use mathlib.Core.Path.{◌≡◌, refl, sym, ◌∙◌}
-use Prim.Native.Nat.{ℕ, ◌+◌, ◌≤◌, ◌<◌}
-use native.Mathlib.Numerals.{add-one}
+use Prim.Native.Nat.{ℕ, ◌≤◌}
 use native.Mathlib.Omega.{arith}
 use lib.Dec.{eqb}
-use lib.ListN.{length, get_or, drop, drop_of_length-le}
-use lib.Seq.{drop-cons}
-use borrow.Author.Tests.{eq-eqb, ne_eqb}
+use lib.ListN.{length, drop}
 use Rattle.definition.specs.Parsing.{after}
 use Rattle.laws.proofs.Lists.{not_both, Suffix, suffix_drop}
-use Rattle.laws.proofs.Keys.{if_either}
 use Rattle.scan.specs.Scanned.{starts_with}
-
--- ---- The loop
-
-pub starts_short : (w t : List ℕ) → length t < length w → starts_with w t ≡ false
-unfolding starts_with
-starts_short [] t h = absurd (omega arith)
-starts_short (b ∷ w) [] h = refl
-starts_short (b ∷ w) (c ∷ t) h = if_either (λ r. r ≡ false) (eqb b c) (λ e. starts_short w t (omega arith)) λ e. refl
-
-module _ (w t : List ℕ) (i : ℕ) (h : i < length w) (k : i < length t) where
-  pub starts_on : get_or t i 0 ≡ get_or w i 0 → starts_with (drop i w) (drop i t) ≡ starts_with (drop (i + 1) w) (drop (i + 1) t)
-  unfolding starts_with
-  starts_on e = rw (add-one, drop-cons w i 0 h, drop-cons t i 0 k, eq-eqb (get_or w i 0) (get_or t i 0) (sym e)) refl
-
-  pub starts_other : (get_or t i 0 ≡ get_or w i 0 → ⊥) → starts_with (drop i w) (drop i t) ≡ false
-  unfolding starts_with
-  starts_other e = rw (drop-cons w i 0 h, drop-cons t i 0 k, ne_eqb (get_or w i 0) (get_or t i 0) (λ p. e (sym p))) refl
-
-pub starts_all : (w t : List ℕ) (i : ℕ) → length w ≤ i → starts_with (drop i w) (drop i t) ≡ true
-unfolding starts_with
-starts_all w t i h = rw (drop_of_length-le w h) refl
-
--- ---- The answer
 
 -- what follows the word, if it stands there
 pub after_starts : (w t : List ℕ) → after w t ≡ (if starts_with w t then some (drop (length w) t) else none)

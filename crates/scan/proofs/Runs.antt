@@ -28,6 +28,9 @@ module _ (p : ℕ → Bool) (t : List ℕ) where
     pub passed_end : length t ≤ i → i ≡ length (take_while p t)
     passed_end h = omega (arith, d.same, run_end p t i h)
 
+    pub passed_all : length t ≤ i → length t ≡ length (take_while p t)
+    passed_all h = omega (arith, passed_end h, d.inside)
+
   -- what follows a run of n, as the borrow checker gives it
   module _ (n : ℕ) (e : n ≡ length (take_while p t)) where
     pub run_inside : n ≤ length t

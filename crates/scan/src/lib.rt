@@ -4,8 +4,9 @@
 ghost use Rattle.std.specs.Prelude.{◌≡◌, length};
 ghost use Rattle.definition.specs.Lists.{take_while};
 ghost use Rattle.definition.specs.Bytes.{is_name};
-ghost use Rattle.byte_classes.specs.Classes.{byte_classes};
 ghost use Rattle.scan.specs.Scanned.{starts_with};
+
+use byte_classes::Classes;
 
 // A name byte by its ranges, the commonest bytes first.
 fn allowed_in_quark_name(c: u8) -> bool
@@ -30,44 +31,26 @@ fn allowed_in_quark_name(c: u8) -> bool
 pub fn next_component(text: &[u8]) -> usize
     ensures { result ≡ length (take_while is_name text.now) }
 {
-    let mut i = 0;
-    while i < text.len() {
-        if !allowed_in_quark_name(text[i]) {
-            return i;
-        }
-        i += 1;
-    }
-    i
+    text.iter()
+        .position(|c| !allowed_in_quark_name(*c))
+        .unwrap_or(text.len())
 }
 
 // The same in a text that is read, by the table.
-pub fn next_component_by(classes: &[u8; 256], text: &[u8]) -> usize
-    requires { classes.now ≡ byte_classes }
+pub fn next_component_by(classes: &Classes, text: &[u8]) -> usize
     ensures { result ≡ length (take_while is_name text.now) }
 {
-    let mut i = 0;
-    while i < text.len() {
-        if !byte_classes::allowed_in_quark_name(classes, text[i]) {
+    for (i, c) in text.iter().enumerate() {
+        if !classes.allowed_in_quark_name(*c) {
             return i;
         }
-        i += 1;
     }
-    i
+    text.len()
 }
 
 // Does `text` begin with `word`?
 pub fn starts_with(text: &[u8], word: &[u8]) -> bool
     ensures { result ≡ starts_with word.now text.now }
 {
-    if text.len() < word.len() {
-        return false;
-    }
-    let mut i = 0;
-    while i < word.len() {
-        if text[i] != word[i] {
-            return false;
-        }
-        i += 1;
-    }
-    true
+    text.starts_with(word)
 }

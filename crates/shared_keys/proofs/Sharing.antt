@@ -17,7 +17,8 @@ use Rattle.definition.specs.Writing.{entries_of_image}
 use Rattle.definition.specs.Lookup.{keys_of}
 use Rattle.definition.specs.Walking.{first_of}
 use Rattle.definition.specs.Orders.{same_key, numbers_with, next_with_key}
-use Rattle.laws.proofs.Lists.{get_d_map}
+use Rattle.definition.specs.Lists.{same}
+use Rattle.laws.proofs.Lists.{get_d_map, same_eq, same_refl, not_both}
 use Rattle.laws.proofs.Keys.{parts_of}
 use Rattle.laws.proofs.Image.{image_sizes}
 use Rattle.orders.proofs.Agreeing.{key_eq, key_refl}
@@ -28,15 +29,16 @@ use Rattle.walk.proofs.Walking.{entry_of}
 
 -- keys of equal bytes have equal parts, and only these
 module _ (key other : List ℕ) (h : is_key key ≡ true) (k : is_key other ≡ true) where
-  pub bytes_key : key ≡ other → same_key (key_parts key) (key_parts other) ≡ true
-  bytes_key e = rw e (key_refl (key_parts other))
+  pub same_bytes : same key other ≡ true → same_key (key_parts key) (key_parts other) ≡ true
+  same_bytes e = rw (same_eq key other e) (key_refl (key_parts other))
 
-  pub other_key : (key ≡ other → ⊥) → same_key (key_parts key) (key_parts other) ≡ false
-  other_key f = at (same_key (key_parts key) (key_parts other)) refl
+  pub other_bytes : same key other ≡ false → same_key (key_parts key) (key_parts other) ≡ false
+  other_bytes f = at (same_key (key_parts key) (key_parts other)) refl
     where
       at : (b : Bool) → same_key (key_parts key) (key_parts other) ≡ b → b ≡ false
       at true e =
-          absurd (f (sym (parts_of key h).written ∙ ap key_of (key_eq (key_parts key) (key_parts other) e) ∙ (parts_of other k).written))
+          let g : key ≡ other = sym (parts_of key h).written ∙ ap key_of (key_eq (key_parts key) (key_parts other) e) ∙ (parts_of other k).written in
+          absurd (not_both (rw g (same_refl other)) f)
       at false e = refl
 
 -- ---- The loop

@@ -2,8 +2,6 @@
 use Rattle.std.specs.Prelude.{List, ◌++◌, ℕ, ◌+◌, ◌*◌, ◌≤◌, length}
 use Rattle.definition.specs.Lists.{ascii}
 use Rattle.definition.specs.Limits.{file_name_bytes, body_bytes}
-use Rattle.io.specs.Counts.{IsPrefixLen}
-use Rattle.printing.specs.Putting.{Appends}
 use Rattle.shown_bytes.specs.Shown.{shown}
 
 -- both files and the key
@@ -18,9 +16,4 @@ abbrev pub Fits : List ℕ → List ℕ → List ℕ → Type 0
 Fits a b key = (length a ≤ file_name_bytes) × (length b ≤ file_name_bytes) × (length key ≤ body_bytes)
 
 abbrev pub Room : List ℕ → Type 0
-Room out = 9 * body_bytes + 1024 ≤ length out
-
--- the line stands at the front of `out`, which is else as it was
-pub record Tells (line out out' : List ℕ) (end : ℕ) : Type 0 where
-  pub puts : Appends line out 0 out' end
-  pub counts : IsPrefixLen end out'
+Room left = 9 * body_bytes + 1024 ≤ length left

@@ -1,8 +1,11 @@
 -- An answer as getres shows it.
-use Rattle.std.specs.Prelude.{Bool, true, false, List, ◌++◌, ℕ}
+use Rattle.std.specs.Prelude.{Bool, true, false, List, ◌++◌, ℕ, length, Option, Some, None, Result, Ok, Err}
+use Rattle.std.specs.Borrow.{Bor}
 use Rattle.definition.specs.Lists.{ascii, same}
 use Rattle.definition.specs.Lookup.{Reply, given, no_value as noReply, refused as refusedLookup, Place, bytes_at}
-use Rattle.lookup.specs.declared.Lookup.{Lookup}
+use Rattle.refusal.specs.declared.Refusal.{Refusal}
+use Rattle.refusal.specs.Numbers.{number}
+use Rattle.lookup.specs.declared.Place.{Place as Found}
 use Rattle.lookup.specs.Replies.{replied}
 
 -- a value, none, or a number of document 01's table
@@ -17,8 +20,20 @@ shown_in bodies (given p) = value (bytes_at bodies p)
 shown_in bodies noReply = no_value
 shown_in bodies (refusedLookup k) = refused_by k
 
-abbrev pub shown_of : List ℕ → Lookup → Shown
+abbrev pub shown_of : List ℕ → Result (Option Found) Refusal → Shown
 shown_of bodies x = shown_in bodies (replied x)
+
+-- a value lent, none or a refusal
+abbrev pub lent : Result (Option (Bor (List ℕ))) Refusal → Shown
+lent (Ok (Some v)) = value v.now
+lent (Ok None) = no_value
+lent (Err k) = refused_by (number k)
+
+-- how long the value is, if there is one
+abbrev pub value_bytes : Shown → ℕ
+value_bytes (value v) = length v
+value_bytes no_value = 0
+value_bytes (refused_by k) = 0
 
 -- ---- Lines
 

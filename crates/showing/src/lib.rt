@@ -1,64 +1,66 @@
 // An answer as getres shows it: its line, and whether two are the same.
 #![tactic(auto)]
 
-ghost use Rattle.std.specs.Prelude.{◌≡◌, ◌+◌, ◌≤◌, length};
-ghost use Rattle.printing.specs.Putting.{Appends};
+ghost use Rattle.std.specs.Prelude.{◌≡◌, ◌≤◌, length};
+ghost use Rattle.printing.specs.Putting.{Appends, left};
 ghost use Rattle.lookup.specs.Replies.{LiesIn};
-ghost use Rattle.showing.specs.Showing.{shown_of, same_shown, words_of, line_of};
+ghost use Rattle.showing.specs.Showing.{shown_of, lent, value_bytes, same_shown, words_of, line_of};
 
-use lookup::Lookup;
-use printing::put;
+use lookup::Place;
+use printing::Lines;
+use refusal::Refusal;
+
+// The value that a lookup found in the bodies, none or a refusal.
+pub fn value_of<'a>(
+    found: Result<Option<Place>, Refusal>,
+    bodies: &'a [u8],
+) -> Result<Option<&'a [u8]>, Refusal>
+    requires { LiesIn found (length bodies.now) }
+    ensures { (lent result ≡ shown_of bodies.now found) × (value_bytes (lent result) ≤ length bodies.now) }
+{
+    let Some(place) = found? else {
+        return Ok(None);
+    };
+    Ok(Some(&bodies[place.start..place.start + place.size]))
+}
 
 // Are two answers the same: both none, or the same bytes?
-pub fn same_answer(a: Lookup, bodies: &[u8], b: Lookup, store: &[u8]) -> bool
-    requires { LiesIn a (length bodies.now) × LiesIn b (length store.now) }
-    ensures { result ≡ same_shown (shown_of bodies.now a) (shown_of store.now b) }
+#[tactic(auto, unfolding(crate::specs::Showing::same_shown))]
+pub fn same_answer(a: Result<Option<&[u8]>, Refusal>, b: Result<Option<&[u8]>, Refusal>) -> bool
+    ensures { result ≡ same_shown (lent a.entry) (lent b.entry) }
 {
-    match a {
-        Lookup::Found(p, n) => match b {
-            Lookup::Found(q, m) => check::same(&bodies[p..p + n], &store[q..q + m]),
-            Lookup::Nothing => false,
-            Lookup::Refused(_) => false,
-        },
-        Lookup::Nothing => match b {
-            Lookup::Found(_, _) => false,
-            Lookup::Nothing => true,
-            Lookup::Refused(_) => false,
-        },
-        Lookup::Refused(_) => false,
+    match (a, b) {
+        (Ok(Some(v)), Ok(Some(w))) => v == w,
+        (Ok(None), Ok(None)) => true,
+        _ => false,
     }
 }
 
-// Puts what a line says of an answer at `at`.
-fn put_words(found: Lookup, bodies: &[u8], out: &mut [u8], at: usize) -> usize
-    requires { LiesIn found (length bodies.now) × (at + 7 + length bodies.now ≤ length out.old) }
-    ensures { Appends (words_of (shown_of bodies.now found)) out.old at out.new result }
+// Puts what a line says of an answer.
+#[tactic(auto, unfolding(crate::specs::Showing::words_of))]
+fn put_words(answer: Result<Option<&[u8]>, Refusal>, out: &mut Lines)
+    requires { length (words_of (lent answer)) ≤ length (left out.old) }
+    ensures { Appends (words_of (lent answer.entry)) out.old out.new }
 {
-    match found {
-        Lookup::Found(place, size) => {
-            let end = put(b"value ", out, at);
-            put(&bodies[place..place + size], out, end)
+    match answer {
+        Ok(Some(value)) => {
+            out.put(b"value ");
+            out.put(value);
         }
-        Lookup::Nothing => put(b"none", out, at),
-        Lookup::Refused(_) => put(b"refused", out, at),
+        Ok(None) => out.put(b"none"),
+        Err(_) => out.put(b"refused"),
     }
 }
 
-// Puts the line of an answer at `at`.
-pub fn put_line(
-    label: &[u8],
-    file: &[u8],
-    found: Lookup,
-    bodies: &[u8],
-    out: &mut [u8],
-    at: usize,
-) -> usize
-    requires { LiesIn found (length bodies.now) × (at + (length label.now + length file.now + length bodies.now + 10) ≤ length out.old) }
-    ensures { Appends (line_of label.now file.now (shown_of bodies.now found)) out.old at out.new result }
+// Puts the line of an answer.
+#[tactic(auto, using(crate::proofs::Lines::line_long))]
+pub fn put_line(label: &[u8], file: &[u8], answer: Result<Option<&[u8]>, Refusal>, out: &mut Lines)
+    requires { length (line_of label.now file.now (lent answer)) ≤ length (left out.old) }
+    ensures { Appends (line_of label.now file.now (lent answer.entry)) out.old out.new }
 {
-    let mut end = put(label, out, at);
-    end = put(file, out, end);
-    end = put(b": ", out, end);
-    end = put_words(found, bodies, out, end);
-    put(b"\n", out, end)
+    out.put(label);
+    out.put(file);
+    out.put(b": ");
+    put_words(answer, out);
+    out.put(b"\n");
 }

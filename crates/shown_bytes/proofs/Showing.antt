@@ -14,14 +14,6 @@ use Rattle.shown_bytes.specs.Shown.{is_shown, shown_byte, shown}
 -- ---- A byte
 
 module _ (c : ℕ) where
-  pub byte_itself : is_shown c ≡ true → c ∷ [] ≡ shown_byte c
-  unfolding shown_byte
-  byte_itself e = rw e refl
-
-  pub byte_octal : is_shown c ≡ false → backslash ∷ (48 + c / 64) ∷ (48 + c / 8 % 8) ∷ (48 + c % 8) ∷ [] ≡ shown_byte c
-  unfolding shown_byte
-  byte_octal e = rw e refl
-
   byte_most : length (shown_byte c) ≤ 4
   unfolding shown_byte
   byte_most = at (is_shown c)

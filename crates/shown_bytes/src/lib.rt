@@ -1,48 +1,43 @@
 // Bytes put as a terminal may show them, so that no name can steer it.
 #![tactic(auto)]
 
-ghost use Rattle.std.specs.Prelude.{◌≡◌, ◌+◌, ◌≤◌, length};
-ghost use Rattle.printing.specs.Putting.{Appends};
+ghost use Rattle.std.specs.Prelude.{◌≡◌, ◌≤◌, length};
+ghost use Rattle.printing.specs.Putting.{Appends, left};
 ghost use Rattle.shown_bytes.specs.Shown.{is_shown, shown_byte, shown};
 
-use printing::put;
+use printing::Lines;
 
 // Is a byte shown as itself?
+#[tactic(auto, unfolding(crate::specs::Shown::is_shown))]
 fn is_shown(c: u8) -> bool
     ensures { result ≡ is_shown c }
 {
-    if c < b' ' {
-        return false;
+    match c {
+        b'\\' => false,
+        b' '..=b'~' => true,
+        _ => false,
     }
-    if c > b'~' {
-        return false;
-    }
-    c != b'\\'
 }
 
-// Puts a byte, or its three octal digits, at `at`.
-fn put_byte(c: u8, out: &mut [u8], at: usize) -> usize
-    requires { at + length (shown_byte c) ≤ length out.old }
-    ensures { Appends (shown_byte c) out.old at out.new result }
+// Puts a byte, or its three octal digits.
+#[tactic(auto, unfolding(crate::specs::Shown::shown_byte))]
+fn put_byte(c: u8, out: &mut Lines)
+    requires { length (shown_byte c) ≤ length (left out.old) }
+    ensures { Appends (shown_byte c) out.old out.new }
 {
     if is_shown(c) {
-        let itself = [c];
-        return put(&itself, out, at);
+        out.put(&[c]);
+    } else {
+        out.put(&[b'\\', b'0' + c / 64, b'0' + c / 8 % 8, b'0' + c % 8]);
     }
-    let octal = [b'\\', b'0' + c / 64, b'0' + c / 8 % 8, b'0' + c % 8];
-    put(&octal, out, at)
 }
 
-// Puts bytes as a terminal may show them at `at`.
-pub fn put_shown(bytes: &[u8], out: &mut [u8], at: usize) -> usize
-    requires { at + length (shown bytes.now) ≤ length out.old }
-    ensures { Appends (shown bytes.now) out.old at out.new result }
+// Puts bytes as a terminal may show them.
+pub fn put_shown(bytes: &[u8], out: &mut Lines)
+    requires { length (shown bytes.now) ≤ length (left out.old) }
+    ensures { Appends (shown bytes.now) out.old out.new }
 {
-    let mut end = at;
-    let mut i = 0;
-    while i < bytes.len() {
-        end = put_byte(bytes[i], out, end);
-        i += 1;
+    for c in bytes {
+        put_byte(*c, out);
     }
-    end
 }

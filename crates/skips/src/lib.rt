@@ -12,6 +12,7 @@ fn line_blocks(text: &[u8]) -> usize
     ensures { (result ≤ length text.now) × (length (take_while not_newline text.now) ≡ result + length (take_while not_newline (drop result text.now))) }
 {
     let mut i: usize = 0;
+    // A turn takes a block: a range by steps of eight says no more, and hides that what is left is less than a block.
     while BLOCK <= text.len() - i {
         if block_has(text, i, b'\n', b'\n') {
             return i;
@@ -25,28 +26,25 @@ fn line_blocks(text: &[u8]) -> usize
 pub fn line_end(text: &[u8]) -> usize
     ensures { result ≡ length (take_while not_newline text.now) }
 {
-    let mut i = line_blocks(text);
-    while i < text.len() {
+    let whole = line_blocks(text);
+    for i in whole..text.len() {
         if text[i] == b'\n' {
             return i;
         }
-        i += 1;
     }
-    i
+    text.len()
 }
 
 // How many times `byte` stands first.
 fn leading(text: &[u8], byte: u8) -> usize
     ensures { result ≡ length (take_while (eqb byte) text.now) }
 {
-    let mut i = 0;
-    while i < text.len() {
-        if text[i] != byte {
+    for (i, c) in text.iter().enumerate() {
+        if *c != byte {
             return i;
         }
-        i += 1;
     }
-    i
+    text.len()
 }
 
 // The text without the `byte`s at its front.

@@ -1,18 +1,35 @@
 // The texts that a reader starts with, chosen from all that it is lent.
 #![tactic(auto)]
 
-ghost use Rattle.std.specs.Prelude.{◌≡◌};
+ghost use Rattle.std.specs.Prelude.{◌≡◌, ◌∷◌, [], Some, None, if◌then◌else◌, is_some, map};
 ghost use Rattle.definition.specs.StartUp.{first_text, second_text};
-ghost use Rattle.sources.specs.Lending.{lending, or_empty, is_text, first_source, second_source, first_at, second_at};
+ghost use Rattle.sources.specs.Lending.{lending, or_empty, is_text, first_source, second_source, first_at, second_at, lies, text_of, as_lent};
 
-#[derive(Drop)]
+// What a reader starts with: document 02 (i). A text that could not be read is `None`.
+#[derive(Clone, Copy)]
+pub struct StartUp<'a> {
+    pub format: u8,
+    pub property: &'a [u8],
+    pub xresources: Option<&'a [u8]>,
+    pub xdefaults: Option<&'a [u8]>,
+    // is XENVIRONMENT set?
+    pub is_set: bool,
+    // the text that it names
+    pub xenvironment: Option<&'a [u8]>,
+    // the host's .Xdefaults
+    pub host: Option<&'a [u8]>,
+}
+
+// Where the first text is from.
+#[derive(Clone, Copy)]
 pub enum FirstSource {
     Property,
     Xresources,
     Xdefaults,
 }
 
-#[derive(Drop)]
+// Where the second is from.
+#[derive(Clone, Copy)]
 pub enum SecondSource {
     Xenvironment,
     Host,
@@ -22,10 +39,7 @@ pub enum SecondSource {
 fn is_text(format: u8, property: &[u8]) -> bool
     ensures { result ≡ is_text format property.now }
 {
-    if format != 8 {
-        return false;
-    }
-    property.len() > 0
+    format == 8 && property.len() > 0
 }
 
 // Such a property, else .Xresources if it could be read, even if empty, else .Xdefaults.
@@ -51,46 +65,55 @@ pub fn second_source(xenvironment_set: bool) -> SecondSource
     SecondSource::Host
 }
 
-// A text that could not be read adds nothing, and goes on as an empty one.
-fn readable(read: bool, text: &[u8]) -> &[u8]
-    ensures { (result.now ≡ or_empty (lending read text.now)) × (result.ref_ptr ≡ text.entry.ref_ptr) }
+// A text that is lent with whether it could be read.
+pub fn lent(read: bool, text: &[u8]) -> Option<&[u8]>
+    ensures { (result ≡ (if read then Some text.entry else None)) × (text_of result ≡ lending read text.now) }
 {
-    if read {
-        return text;
-    }
-    &text[..0]
+    if read { Some(text) } else { None }
 }
 
-pub fn first_text<'a>(
-    format: u8,
-    property: &'a [u8],
-    xresources_read: bool,
-    xresources: &'a [u8],
-    xdefaults_read: bool,
-    xdefaults: &'a [u8],
-) -> &'a [u8]
-    ensures { (result.now ≡ or_empty (first_text format property.now (lending xresources_read xresources.now) (lending xdefaults_read xdefaults.now))) × (result.ref_ptr ≡ first_at (first_source format property.now xresources_read) property.entry.ref_ptr xresources.entry.ref_ptr xdefaults.entry.ref_ptr) }
-{
-    let source = first_source(format, property, xresources_read);
-    match source {
-        FirstSource::Property => property,
-        FirstSource::Xresources => xresources,
-        FirstSource::Xdefaults => readable(xdefaults_read, xdefaults),
+impl<'a> StartUp<'a> {
+    // The property if it is a text, else .Xresources if it could be read, even if empty, else .Xdefaults.
+    fn first_read(self) -> Option<&'a [u8]>
+        ensures { (result ≡ first_at (first_source self.entry.format self.entry.property.now (is_some self.entry.xresources)) self.entry) × (text_of result ≡ first_text self.entry.format self.entry.property.now (text_of self.entry.xresources) (text_of self.entry.xdefaults)) }
+    {
+        match first_source(self.format, self.property, self.xresources.is_some()) {
+            FirstSource::Property => Some(self.property),
+            FirstSource::Xresources => self.xresources,
+            FirstSource::Xdefaults => self.xdefaults,
+        }
     }
-}
 
-pub fn second_text<'a>(
-    xenvironment_set: bool,
-    xenvironment_read: bool,
-    xenvironment: &'a [u8],
-    host_read: bool,
-    host: &'a [u8],
-) -> &'a [u8]
-    ensures { (result.now ≡ or_empty (second_text xenvironment_set (lending xenvironment_read xenvironment.now) (lending host_read host.now))) × (result.ref_ptr ≡ second_at (second_source xenvironment_set) xenvironment.entry.ref_ptr host.entry.ref_ptr) }
-{
-    let source = second_source(xenvironment_set);
-    match source {
-        SecondSource::Xenvironment => readable(xenvironment_read, xenvironment),
-        SecondSource::Host => readable(host_read, host),
+    // The text that XENVIRONMENT names if that is set, else the host's.
+    fn second_read(self) -> Option<&'a [u8]>
+        ensures { (result ≡ second_at (second_source self.entry.is_set) self.entry) × (text_of result ≡ second_text self.entry.is_set (text_of self.entry.xenvironment) (text_of self.entry.host)) }
+    {
+        match second_source(self.is_set) {
+            SecondSource::Xenvironment => self.xenvironment,
+            SecondSource::Host => self.host,
+        }
+    }
+
+    // The first text. One that could not be read adds nothing, and goes on as an empty one, which lies where `unread` starts.
+    pub fn first_text(self, unread: &'a [u8]) -> &'a [u8]
+        ensures { (result.now ≡ or_empty (first_text self.entry.format self.entry.property.now (text_of self.entry.xresources) (text_of self.entry.xdefaults))) × (result.ref_ptr ≡ lies (first_at (first_source self.entry.format self.entry.property.now (is_some self.entry.xresources)) self.entry) unread.entry.ref_ptr) }
+    {
+        self.first_read().unwrap_or(&unread[..0])
+    }
+
+    // The second, likewise.
+    pub fn second_text(self, unread: &'a [u8]) -> &'a [u8]
+        ensures { (result.now ≡ or_empty (second_text self.entry.is_set (text_of self.entry.xenvironment) (text_of self.entry.host))) × (result.ref_ptr ≡ lies (second_at (second_source self.entry.is_set) self.entry) unread.entry.ref_ptr) }
+    {
+        self.second_read().unwrap_or(&unread[..0])
+    }
+
+    // Both. An empty one for a text that could not be read lies where the property starts.
+    pub fn texts(self) -> [&'a [u8]; 2]
+        ensures { (map (λ x. x.now) result ≡ or_empty (first_text self.entry.format self.entry.property.now (text_of self.entry.xresources) (text_of self.entry.xdefaults)) ∷ or_empty (second_text self.entry.is_set (text_of self.entry.xenvironment) (text_of self.entry.host)) ∷ []) × (map (λ x. x.ref_ptr) result ≡ lies (first_at (first_source self.entry.format self.entry.property.now (is_some self.entry.xresources)) self.entry) self.entry.property.ref_ptr ∷ lies (second_at (second_source self.entry.is_set) self.entry) self.entry.property.ref_ptr ∷ []) }
+    {
+        let first = self.first_text(self.property);
+        let second = self.second_text(self.property);
+        [first, second]
     }
 }

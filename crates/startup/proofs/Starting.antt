@@ -36,7 +36,7 @@ module _ (s : StartUp) where
   abbrev second : Option (List ℕ)
   second = second_text s.is_set s.xenvironment s.host
 
-  pub reads_start : (depth : ℕ) (t u : List ℕ) → t ≡ or_empty first → u ≡ or_empty second
-      → (archive contents bodies : List ℕ) → reading depth (t ∷ u ∷ []) archive contents bodies ≡ starting depth s archive contents bodies
+  pub reads_start : (depth : ℕ) (texts : List (List ℕ)) → texts ≡ handed first second
+      → (archive contents bodies : List ℕ) → reading depth texts archive contents bodies ≡ starting depth s archive contents bodies
   unfolding reading texts_used
-  reads_start depth t u e f archive contents bodies = rw (e, f, met_handed depth first second archive, long_handed first second) refl
+  reads_start depth texts e archive contents bodies = rw (e, met_handed depth first second archive, long_handed first second) refl

@@ -1,8 +1,6 @@
 -- Which text each step of a start-up chain uses, in words.
 use Rattle.std.specs.Prelude.{Bool, true, false, List, ◌++◌, ℕ}
 use Rattle.definition.specs.Lists.{ascii}
-use Rattle.io.specs.Counts.{IsPrefixLen}
-use Rattle.printing.specs.Putting.{Appends}
 use Rattle.sources.specs.declared.FirstSource.{FirstSource}
 use Rattle.sources.specs.declared.FirstSource.TheVariants.{Property, Xresources, Xdefaults}
 use Rattle.sources.specs.declared.SecondSource.{SecondSource}
@@ -31,8 +29,3 @@ steps_of format property xresources xdefaults is_set xenvironment host =
 -- room for two lines
 abbrev pub steps_bytes : ℕ
 steps_bytes = 200
-
--- the lines stand at the front of `out`, which is else as it was
-pub record Steps (lines out out' : List ℕ) (end : ℕ) : Type 0 where
-  pub puts : Appends lines out 0 out' end
-  pub counts : IsPrefixLen end out'

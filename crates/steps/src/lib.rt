@@ -1,89 +1,59 @@
 // Which text each step of a start-up chain uses, in words.
 #![tactic(auto)]
 
-ghost use Rattle.std.specs.Prelude.{◌+◌, ◌≤◌, length};
-ghost use Rattle.printing.specs.Putting.{Appends};
-ghost use Rattle.steps.specs.Steps.{first_line, second_line, steps_of, steps_bytes, Steps};
+ghost use Rattle.std.specs.Prelude.{◌≡◌, ◌≤◌, length};
+ghost use Rattle.printing.specs.Putting.{Appends, left};
+ghost use Rattle.steps.specs.Steps.{first_line, second_line, steps_of, steps_bytes};
 
-use printing::put;
+use printing::Lines;
 use sources::{FirstSource, SecondSource, first_source, second_source};
 
 // Room for both lines.
 pub const STEPS_BYTES: usize = 200;
 
-// Puts the line of the first step at `at`.
-fn put_first(source: FirstSource, xdefaults_read: bool, out: &mut [u8], at: usize) -> usize
-    requires { at + 100 ≤ length out.old }
-    ensures { Appends (first_line source xdefaults_read) out.old at out.new result }
+// The line of the first step.
+#[tactic(auto, unfolding(crate::specs::Steps::first_line))]
+fn first_line(source: FirstSource, xdefaults_read: bool) -> &'static [u8]
+    ensures { (result.now ≡ first_line source xdefaults_read) × (length result.now ≤ 100) }
 {
-    match source {
-        FirstSource::Property => put(b"getres: first text: the property\n", out, at),
-        FirstSource::Xresources => put(
-            b"getres: first text: .Xresources, as the property is empty or not of format 8\n",
-            out,
-            at,
-        ),
-        FirstSource::Xdefaults => {
-            if xdefaults_read {
-                return put(
-                    b"getres: first text: .Xdefaults, as .Xresources could not be read\n",
-                    out,
-                    at,
-                );
-            }
-            put(
-                b"getres: first text: none, as neither .Xresources nor .Xdefaults could be read\n",
-                out,
-                at,
-            )
+    match (source, xdefaults_read) {
+        (FirstSource::Property, _) => b"getres: first text: the property\n",
+        (FirstSource::Xresources, _) => {
+            b"getres: first text: .Xresources, as the property is empty or not of format 8\n"
+        }
+        (FirstSource::Xdefaults, true) => {
+            b"getres: first text: .Xdefaults, as .Xresources could not be read\n"
+        }
+        (FirstSource::Xdefaults, false) => {
+            b"getres: first text: none, as neither .Xresources nor .Xdefaults could be read\n"
         }
     }
 }
 
-// Puts the line of the second step at `at`.
-fn put_second(
-    source: SecondSource,
-    xenvironment_read: bool,
-    host_read: bool,
-    out: &mut [u8],
-    at: usize,
-) -> usize
-    requires { at + 100 ≤ length out.old }
-    ensures { Appends (second_line source xenvironment_read host_read) out.old at out.new result }
+// The line of the second step.
+#[tactic(auto, unfolding(crate::specs::Steps::second_line))]
+fn second_line(source: SecondSource, xenvironment_read: bool, host_read: bool) -> &'static [u8]
+    ensures { (result.now ≡ second_line source xenvironment_read host_read) × (length result.now ≤ 100) }
 {
-    match source {
-        SecondSource::Xenvironment => {
-            if xenvironment_read {
-                return put(
-                    b"getres: second text: the one that XENVIRONMENT names\n",
-                    out,
-                    at,
-                );
-            }
-            put(
-                b"getres: second text: none, as the one that XENVIRONMENT names could not be read\n",
-                out,
-                at,
-            )
+    match (source, xenvironment_read, host_read) {
+        (SecondSource::Xenvironment, true, _) => {
+            b"getres: second text: the one that XENVIRONMENT names\n"
         }
-        SecondSource::Host => {
-            if host_read {
-                return put(
-                    b"getres: second text: the host's .Xdefaults, as XENVIRONMENT is not set\n",
-                    out,
-                    at,
-                );
-            }
-            put(
-                b"getres: second text: none, as XENVIRONMENT is not set and the host's .Xdefaults could not be read\n",
-                out,
-                at,
-            )
+        (SecondSource::Xenvironment, false, _) => {
+            b"getres: second text: none, as the one that XENVIRONMENT names could not be read\n"
+        }
+        (SecondSource::Host, _, true) => {
+            b"getres: second text: the host's .Xdefaults, as XENVIRONMENT is not set\n"
+        }
+        (SecondSource::Host, _, false) => {
+            b"getres: second text: none, as XENVIRONMENT is not set and the host's .Xdefaults could not be read\n"
         }
     }
 }
 
-// Puts a line for each step at the start of `out`: which text it uses, or that there is none, and why.
+// Puts a line for each step: which text it uses, or that there is none, and why.
+// Seven arguments: of four texts it asks only whether they were read. A `StartUp` asks for the texts too, and what docs/TRACE.md names
+// may not ask more.
 pub fn put_steps(
     property_format: u8,
     property: &[u8],
@@ -92,13 +62,13 @@ pub fn put_steps(
     xenvironment_set: bool,
     xenvironment_read: bool,
     host_read: bool,
-    out: &mut [u8],
-) -> usize
-    requires { steps_bytes ≤ length out.old }
-    ensures { Steps (steps_of property_format property.now xresources_read xdefaults_read xenvironment_set xenvironment_read host_read) out.old out.new result }
+    out: &mut Lines,
+)
+    requires { steps_bytes ≤ length (left out.old) }
+    ensures { Appends (steps_of property_format property.now xresources_read xdefaults_read xenvironment_set xenvironment_read host_read) out.old out.new }
 {
     let first = first_source(property_format, property, xresources_read);
-    let end = put_first(first, xdefaults_read, out, 0);
+    out.put(first_line(first, xdefaults_read));
     let second = second_source(xenvironment_set);
-    put_second(second, xenvironment_read, host_read, out, end)
+    out.put(second_line(second, xenvironment_read, host_read));
 }

@@ -1,20 +1,21 @@
 -- The texts of a reading, one after another. Assumes nothing.
-use mathlib.Core.Bool.{true, false}
+use Rattle.std.specs.Prelude.{Ok, Err}
+use Rattle.std.specs.List.{list_any}
+use mathlib.Core.Bool.{Bool, ◌||◌}
 use mathlib.Core.List.{List, [], ◌∷◌, map}
-use mathlib.Core.Path.{◌≡◌, refl, sym, ◌∙◌}
+use mathlib.Core.Path.{◌≡◌, refl, sym, ap, ◌∙◌}
 use Prim.Native.Nat.{ℕ, suc, ◌+◌, ◌≤◌, ◌<◌}
 use native.Mathlib.Omega.{arith}
 use lib.ListN.{length, drop, get_or, drop_of_length-le}
 use lib.Seq.{drop-cons}
-use borrow.Author.Tests.{lt-ltb, le-ltb}
 use Rattle.definition.specs.Lists.{any}
-use Rattle.definition.specs.Limits.{text_bytes, contents_words, body_bytes}
+use Rattle.definition.specs.Limits.{contents_words, body_bytes}
 use Rattle.definition.specs.Archive.{files_of}
 use Rattle.definition.specs.Including.{Event, events, events_of_all}
 use Rattle.definition.specs.Reading.{too_long, met}
 use Rattle.image.specs.Running.{world, begun, Room, and_then, run, answered}
 use Rattle.image.specs.declared.Totals.{Totals}
-use Rattle.image.specs.declared.Step.TheVariants.{Go, Stop}
+use Rattle.refusal.specs.declared.Refusal.{Refusal}
 use Rattle.image.proofs.Runs.{run_append, run_room}
 use Rattle.image.proofs.Images.{room_first}
 use Rattle.includes.specs.Texts.{text_events}
@@ -32,22 +33,11 @@ module _ {D : Type 0} (now : D → List ℕ) where
 
   -- ---- Their lengths
 
-  -- whether one is too long is left to those from i on
-  pub record Passed (ds : List D) (i : ℕ) : Type 0 where
-    pub same : any too_long (map now ds) ≡ any too_long (from i ds)
-
-  module _ {ds : List D} {i : ℕ} (p : Passed ds i) where
-    pub long_here : (d : D) → i < length ds → text_bytes < length (now (get_or ds i d)) → true ≡ any too_long (map now ds)
-    unfolding any
-    long_here d h l = sym (p.same ∙ rw (from_next ds i d h, lt-ltb text_bytes (length (now (get_or ds i d))) l) refl)
-
-    pub long_later : (d : D) → i < length ds → length (now (get_or ds i d)) ≤ text_bytes → Passed ds (i + 1)
-    unfolding any
-    long_later d h l = record { same = p.same ∙ rw (from_next ds i d h, le-ltb text_bytes (length (now (get_or ds i d))) l) refl }
-
-    pub long_nowhere : length ds ≤ i → false ≡ any too_long (map now ds)
-    unfolding any
-    long_nowhere h = sym (p.same ∙ rw (from_end ds i h) refl)
+  -- whether one is too long, as `any` has it
+  pub some_long : (ds : List D) → list_any (λ d. too_long (now d)) ds ≡ any too_long (map now ds)
+  unfolding any
+  some_long [] = refl
+  some_long (d ∷ ds) = ap (λ (b : Bool). too_long (now d) || b) (some_long ds)
 
   -- ---- What is read
 
@@ -55,14 +45,12 @@ module _ {D : Type 0} (now : D → List ℕ) where
   pub record Reading (depth : ℕ) (archive : List ℕ) (ds : List D) (c₀ b₀ : List ℕ) (s : Totals) (c b : List ℕ) (i : ℕ) : Type 0 where
     pub same : run (files_of archive) (world begun c₀ b₀) (met depth (map now ds) archive) ≡ run (files_of archive) (world s c b) (met depth (from i ds) archive)
     pub room : Room s c b
-    pub words_same : length c ≡ length c₀
-    pub bytes_same : length b ≡ length b₀
 
   pub reading_first : {depth : ℕ} {archive : List ℕ} {ds : List D} (c b : List ℕ) → length c ≡ contents_words → length b ≡ body_bytes → Reading depth archive ds c b begun c b 0
-  reading_first c b hc hb = record { same = refl; room = room_first c b hc hb; words_same = refl; bytes_same = refl }
+  reading_first c b hc hb = record { same = refl; room = room_first c b hc hb }
 
   module _ {depth : ℕ} {archive : List ℕ} {ds : List D} {c₀ b₀ : List ℕ} {s : Totals} {c b : List ℕ} {i : ℕ} (r : Reading depth archive ds c₀ b₀ s c b i) where
-    pub reading_done : length ds ≤ i → answered (Go s) c b ≡ run (files_of archive) (world begun c₀ b₀) (met depth (map now ds) archive)
+    pub reading_done : length ds ≤ i → answered (Ok s) c b ≡ run (files_of archive) (world begun c₀ b₀) (met depth (map now ds) archive)
     unfolding answered events_of_all run
     reading_done h = sym (r.same ∙ rw (from_end ds i h) refl)
 
@@ -74,17 +62,15 @@ module _ {D : Type 0} (now : D → List ℕ) where
       unfolding events_of_all text_events events
       next = rw (from_next ds i d h) (run_append (files_of archive) here (met depth (from (i + 1) ds) archive) (world s c b))
 
-      pub reading_text : (s' : Totals) (c' b' : List ℕ) → answered (Go s') c' b' ≡ run (files_of archive) (world s c b) here
-          → length c' ≡ length c → length b' ≡ length b → Reading depth archive ds c₀ b₀ s' c' b' (i + 1)
+      pub reading_text : (s' : Totals) (c' b' : List ℕ) → answered (Ok s') c' b' ≡ run (files_of archive) (world s c b) here
+          → Reading depth archive ds c₀ b₀ s' c' b' (i + 1)
       unfolding answered and_then
-      reading_text s' c' b' e hc hb = record {
+      reading_text s' c' b' e = record {
         same = r.same ∙ next ∙ rw (← e) refl;
         room = run_room (files_of archive) here (world s c b) (world s' c' b') r.room (sym e);
-        words_same = hc ∙ r.words_same;
-        bytes_same = hb ∙ r.bytes_same;
       }
 
-      pub text_stops : (k : ℕ) (c' b' : List ℕ) → answered (Stop k) c' b' ≡ run (files_of archive) (world s c b) here
-          → answered (Stop k) c' b' ≡ run (files_of archive) (world begun c₀ b₀) (met depth (map now ds) archive)
+      pub text_stops : (k : Refusal) (c' b' : List ℕ) → answered (Err k) c' b' ≡ run (files_of archive) (world s c b) here
+          → answered (Err k) c' b' ≡ run (files_of archive) (world begun c₀ b₀) (met depth (map now ds) archive)
       unfolding answered and_then
       text_stops k c' b' e = sym (r.same ∙ next ∙ rw (← e) refl)

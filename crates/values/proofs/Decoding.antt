@@ -1,5 +1,5 @@
 -- The loop that decodes a value: what is stored is a beginning of the value, and the text that is left gives the rest. Assumes nothing.
-use Rattle.std.specs.Prelude.{if◌then◌else◌}
+use Rattle.std.specs.Prelude.{Some, None, if◌then◌else◌}
 use mathlib.Core.Bool.{Bool, true, false}
 use mathlib.Core.List.{List, [], ◌∷◌, ◌++◌, flatten}
 use mathlib.Core.Path.{◌≡◌, refl, sym, ap, ◌∙◌}
@@ -19,9 +19,10 @@ use Rattle.laws.proofs.Parsing.{many_stop}
 use Rattle.laws.proofs.Keys.{piece_shrinks}
 use Rattle.copies.specs.Plain.{is_plain}
 use Rattle.copies.proofs.Copying.{paste_more, plain_byte}
-use Rattle.values.specs.declared.Stored.TheVariants.{Done, Full}
+use Rattle.escapes.specs.declared.Piece.{Piece}
+use Rattle.escapes.specs.Pieces.{escape_in}
 use Rattle.values.specs.Decoded.{decoded_at, rest_at, stored_at, Decoded}
-use Rattle.values.proofs.Pieces.{Yields, plain_yields, run_yields}
+use Rattle.values.proofs.Pieces.{Yields, IsPiece, plain_yields, run_yields, answer_piece}
 
 -- ---- The piece at i of a text
 
@@ -39,8 +40,12 @@ module _ (t : List ℕ) (i : ℕ) where
     plain e = rw (drop-cons t i 0 h) (plain_yields (get_or t i 0) (drop (suc i) t) e)
 
     -- the text after a backslash, as the code takes it
-    pub escaped : get_or t i 0 ≡ backslash → backslash ∷ take (length t - (i + 1)) (drop (i + 1) t) ≡ drop i t
+    escaped : get_or t i 0 ≡ backslash → backslash ∷ take (length t - (i + 1)) (drop (i + 1) t) ≡ drop i t
     escaped e = rw (part_rest t (i + 1), add-one, ← e) (sym (drop-cons t i 0 h))
+
+    -- p is the code's answer on it
+    pub escape_there : get_or t i 0 ≡ backslash → {p : Piece} → p ≡ escape_in (take (length t - (i + 1)) (drop (i + 1) t)) → IsPiece (drop i t) p
+    escape_there e f = rw (escaped e) at (answer_piece _ f)
 
 -- where a byte that passes follows a run in the first m bytes, the run is all of them
 run_whole : (p : ℕ → Bool) (m : ℕ) (t : List ℕ) → let n = length (take_while p (take m t)) in n < length t → p (get_or t n 0) ≡ true → m ≤ n
@@ -91,7 +96,7 @@ module _ {t s₀ : List ℕ} {at : ℕ} {s : List ℕ} {end i : ℕ} (d : Decodi
   left_length : length (decoded_at (drop i t)) ≡ length (decoded_at t) - (end - at)
   left_length = ap length d.left ∙ length-drop (end - at) (decoded_at t)
 
-  pub decoded : piece_at (drop i t) ≡ nothing → Decoded t s₀ at s (Done end i)
+  pub decoded : piece_at (drop i t) ≡ nothing → Decoded t s₀ at s (Some (record { end = end; taken = i }))
   unfolding flatten stored_at
   decoded e =
       let m = many_stop piece_at piece_shrinks (drop i t) e in
@@ -140,7 +145,7 @@ module _ {t s₀ : List ℕ} {at : ℕ} {s : List ℕ} {end i : ℕ} (d : Decodi
       pub byte_more : end < length s → Decoding t s₀ at (set s end b) (end + 1) (i + n)
       byte_more k = more g 1 (b ∷ []) (set s end b) refl refl (paste_one s end b k) (omega arith)
 
-      pub full : length s ≤ end → Decoded t s₀ at s Full
+      pub full : length s ≤ end → Decoded t s₀ at s None
       unfolding stored_at
       full k =
           let f = next_fits g in
@@ -156,18 +161,42 @@ module _ {t s₀ : List ℕ} {at : ℕ} {s : List ℕ} {end i : ℕ} (d : Decodi
         let z : end + 0 ≡ end = omega arith in
         rw z at (more g 0 [] s refl refl (paste-zero s end []) (omega (arith, d.in_store)))
 
--- a run: the plain bytes among the m that are left and have room, as the code takes them
-module _ {t s₀ : List ℕ} {at : ℕ} {s : List ℕ} {end i : ℕ} (d : Decoding t s₀ at s end i) (m n : ℕ) {s' : List ℕ} (room : m ≡ min (length t - i) (length s - end))
-    (run : n ≡ length (take_while is_plain (take (i + m - i) (drop i t)))) (copied : s' ≡ paste s end (take (i + m - i) (drop i t)) n) where
+-- a run: the plain bytes among the m that are left and have room, as the code takes and copies them
+abbrev pub Ran : List ℕ → List ℕ → ℕ → ℕ → ℕ → ℕ → List ℕ → Type 0
+Ran t s end i m n s' =
+    let u = take (i + m - i) (drop i t) in (n ≡ length (take_while is_plain u)) × (s' ≡ paste s end u n)
+
+module _ {t s₀ : List ℕ} {at : ℕ} {s : List ℕ} {end i : ℕ} (d : Decoding t s₀ at s end i) {m n : ℕ} {s' : List ℕ} (room : m ≡ min (length t - i) (length s - end)) (ran : Ran t s end i m n s') where
   pub run_more : Decoding t s₀ at s' (end + n) (i + n)
   run_more =
       let u = take (i + m - i) (drop i t) in
       let l = length_take_while_le is_plain u in
-      more d (run_yields (drop i t) (i + m - i) n run) n u s' (sym run) (rw run (take_run is_plain u)) copied (omega (arith, length-take (i + m - i) (drop i t), d.in_store))
+      more d (run_yields (drop i t) (i + m - i) n ran.0) n u s' (sym ran.0) (rw ran.0 (take_run is_plain u)) ran.1 (omega (arith, length-take (i + m - i) (drop i t), d.in_store, ran))
 
   -- a plain byte follows it
-  pub run_full : i + n < length t → (get_or t (i + n) 0 ≡ newline → ⊥) → (get_or t (i + n) 0 ≡ backslash → ⊥) → Decoded t s₀ at s' Full
+  pub run_full : i + n < length t → (get_or t (i + n) 0 ≡ newline → ⊥) → (get_or t (i + n) 0 ≡ backslash → ⊥) → Decoded t s₀ at s' None
   run_full h e f =
       let p = plain_byte (get_or t (i + n) 0) e f in
-      let w = run_whole is_plain (i + m - i) (drop i t) (omega (arith, length-drop i t)) (rw (← get_or-drop i t n 0, run) at p) in
-      full run_more (plain t (i + n) h p) (omega (arith, run_more.kept, d.kept))
+      let w = run_whole is_plain (i + m - i) (drop i t) (omega (arith, length-drop i t, ran)) (rw (← get_or-drop i t n 0, ran.0) at p) in
+      full run_more (plain t (i + n) h p) (omega (arith, run_more.kept, d.kept, ran))
+
+  -- an escape follows it
+  module _ (h : i + n < length t) (e : get_or t (i + n) 0 ≡ backslash) {p : Piece} (f : p ≡ escape_in (take (length t - (i + n + 1)) (drop (i + n + 1) t))) where
+    there : IsPiece (drop (i + n) t) p
+    there = escape_there t (i + n) h e f
+
+    pub escape_fits : (1 ≤ p.len) × (i + n + p.len ≤ length t)
+    escape_fits = (there.1, piece_fits run_more there.0)
+
+    pub escape_nothing : p.byte ≡ None → Decoding t s₀ at s' (end + n) (i + n + p.len)
+    escape_nothing g = drop_more run_more (rw g at there.0)
+
+    module _ {b : ℕ} (g : p.byte ≡ Some b) where
+      gives : Yields (drop (i + n) t) (b ∷ []) p.len
+      gives = rw g at there.0
+
+      pub escape_full : length s' ≤ end + n → Decoded t s₀ at s' None
+      escape_full k = full run_more gives k
+
+      pub escape_byte : end + n < length s' → Decoding t s₀ at (set s' (end + n) b) (end + n + 1) (i + n + p.len)
+      escape_byte k = byte_more run_more gives k

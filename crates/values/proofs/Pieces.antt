@@ -1,4 +1,5 @@
 -- Pieces of a value: what plain bytes and the code's answer on an escape give of it. Assumes nothing.
+use Rattle.std.specs.Prelude.{Option, Some, None}
 use mathlib.Core.Bool.{true, ◌||◌}
 use mathlib.Core.List.{List, [], ◌∷◌, ◌++◌, flatten}
 use mathlib.Core.Path.{◌≡◌, refl, sym, ap, ◌∙◌}
@@ -19,7 +20,6 @@ use Rattle.laws.proofs.Keys.{piece_shrinks, if_either}
 use Rattle.copies.specs.Plain.{is_plain}
 use Rattle.copies.proofs.Copying.{plain_byte, newline_ends, backslash_ends}
 use Rattle.escapes.specs.declared.Piece.{Piece}
-use Rattle.escapes.specs.declared.Piece.TheVariants.{Byte, Drop}
 use Rattle.escapes.specs.Pieces.{digits, octal_in, escape_in}
 use Rattle.escapes.proofs.Escapes.{octal_range, digits_inside, digits_take}
 use Rattle.values.specs.Decoded.{decoded_at, rest_at}
@@ -30,10 +30,14 @@ pub record Yields (t ys : List ℕ) (n : ℕ) : Type 0 where
   pub rest : rest_at t ≡ rest_at (drop n t)
   pub inside : n ≤ length t
 
+-- the byte that a piece gives, if it gives one
+abbrev pub given : Option ℕ → List ℕ
+given (Some b) = b ∷ []
+given None = []
+
 -- p stands at the front of t
 abbrev pub IsPiece : List ℕ → Piece → Type 0
-IsPiece t (Byte b n) = Yields t (b ∷ []) n × (1 ≤ n)
-IsPiece t (Drop n) = Yields t [] n × (1 ≤ n)
+IsPiece t p = Yields t (given p.byte) p.len × (1 ≤ p.len)
 
 -- a piece of the definition
 piece_yields : (t ys : List ℕ) (n : ℕ) → piece_at t ≡ found ys (drop n t) → n ≤ length t → Yields t ys n

@@ -1,8 +1,8 @@
 -- What a caller of `parse_value` reads off its answer. Assumes nothing.
-use Rattle.std.specs.Prelude.{if◌then◌else◌}
+use Rattle.std.specs.Prelude.{Some, None, if◌then◌else◌}
 use mathlib.Core.Bool.{Bool, true, false, ◌||◌}
 use mathlib.Core.List.{List, [], ◌∷◌, flatten}
-use mathlib.Core.Path.{◌≡◌, refl, ◌∙◌}
+use mathlib.Core.Path.{◌≡◌, refl, ap, ◌∙◌}
 use Prim.Native.Nat.{ℕ, zero, suc, ◌+◌, ◌-◌, ◌≤◌, ◌<◌}
 use native.Mathlib.Nat.{min-eq_left}
 use native.Mathlib.Omega.{arith}
@@ -18,7 +18,7 @@ use Rattle.laws.proofs.Keys.{Finds, if_either}
 use Rattle.scan.proofs.Suffixes.{LeavesRest, suffix_cons, many_suffix}
 use Rattle.escapes.specs.Pieces.{digits}
 use Rattle.escapes.proofs.Escapes.{digits_inside}
-use Rattle.values.specs.declared.Stored.TheVariants.{Done, Full}
+use Rattle.values.specs.declared.Stored.{Stored}
 use Rattle.values.specs.Decoded.{decoded_at, rest_at, stored_at, Decoded}
 
 -- ---- The text after a value is the text from some place on
@@ -106,17 +106,20 @@ pub record Fits (t store : List ℕ) (at : ℕ) (store' : List ℕ) (end taken :
   pub inside : taken ≤ length t
 
 module _ {t store : List ℕ} {at : ℕ} {store' : List ℕ} where
-  pub decoded_fits : {end taken : ℕ} → Decoded t store at store' (Done end taken) → Fits t store at store' end taken
+  pub decoded_fits : {r : Stored} → Decoded t store at store' (Some r) → Fits t store at store' r.end r.taken
   unfolding stored_at
-  decoded_fits {end} {taken} d = by (leb (at + length (decoded_at t)) (length store)) refl d.answer
+  decoded_fits {r} d = by (leb (at + length (decoded_at t)) (length store)) refl d.answer
     where
-      by : (b : Bool) → leb (at + length (decoded_at t)) (length store) ≡ b → Done end taken ≡ (if b then Done (at + length (decoded_at t)) (length t - length (rest_at t)) else Full)
-          → Fits t store at store' end taken
+      value : Stored
+      value = record { end = at + length (decoded_at t); taken = length t - length (rest_at t) }
+
+      by : (b : Bool) → leb (at + length (decoded_at t)) (length store) ≡ b → Some r ≡ (if b then Some value else None) → Fits t store at store' r.end r.taken
       by true e f =
           let room = leb-true (at + length (decoded_at t)) (length store) e in
           let h : length (decoded_at t) ≤ length store - at = omega arith in
-          let x : end ≡ at + length (decoded_at t) = cc in
-          let y : taken ≡ length t - length (rest_at t) = cc in
+          let g : r ≡ value = cc in
+          let x : r.end ≡ at + length (decoded_at t) = ap (λ (v : Stored). v.end) g in
+          let y : r.taken ≡ length t - length (rest_at t) = ap (λ (v : Stored). v.taken) g in
           record {
             room = room;
             ends = x;
@@ -126,10 +129,13 @@ module _ {t store : List ℕ} {at : ℕ} {store' : List ℕ} where
           }
       by false e f = absurd (let z : ◌≡◌ {A = ℕ} 0 1 = cc in omega arith)
 
-  pub decoded_full : Decoded t store at store' Full → length store < at + length (decoded_at t)
+  pub decoded_full : Decoded t store at store' None → length store < at + length (decoded_at t)
   unfolding stored_at
   decoded_full d = by (leb (at + length (decoded_at t)) (length store)) refl d.answer
     where
-      by : (b : Bool) → leb (at + length (decoded_at t)) (length store) ≡ b → Full ≡ (if b then Done (at + length (decoded_at t)) (length t - length (rest_at t)) else Full) → length store < at + length (decoded_at t)
+      value : Stored
+      value = record { end = at + length (decoded_at t); taken = length t - length (rest_at t) }
+
+      by : (b : Bool) → leb (at + length (decoded_at t)) (length store) ≡ b → None ≡ (if b then Some value else None) → length store < at + length (decoded_at t)
       by true e f = absurd (let z : ◌≡◌ {A = ℕ} 0 1 = cc in omega arith)
       by false e f = leb-false (at + length (decoded_at t)) (length store) e

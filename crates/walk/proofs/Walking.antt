@@ -1,5 +1,6 @@
 -- A step is a search for the first entry that aligns; and the tests before a start. Assumes nothing.
-use Rattle.std.specs.Prelude.{if◌then◌else◌}
+use Rattle.std.specs.Prelude as std
+use Rattle.std.specs.Prelude.{if◌then◌else◌, Result, Ok, Err, Some, None}
 use mathlib.Core.Bool.{Bool, true, false, ◌&&◌, not}
 use mathlib.Core.List.{List, [], ◌∷◌}
 use mathlib.Core.Option.{Option, some, none}
@@ -14,15 +15,18 @@ use Rattle.definition.specs.Image.{Row, rows_from, rows_in, count_of, entry_at, 
 use Rattle.definition.specs.Writing.{entries_of_image}
 use Rattle.definition.specs.Query.{Position, Query, positions, malformed, past_limit, shell, query_of}
 use Rattle.definition.specs.Ranking.{no_entry, rank_of, better}
-use Rattle.definition.specs.Lookup.{keys_of, refused}
+use Rattle.definition.specs.Lookup.{keys_of, given, refused}
 use Rattle.definition.specs.Walking.{has_row, aligns, aligned_from, first_of, walk, next_of, begun, walk_start_by, walk_start, number_or, stepped, walk_step_by, walk_step}
 use Rattle.laws.proofs.Lists.{get_d_inside}
 use Rattle.laws.proofs.Image.{image_sizes}
-use Rattle.query.specs.Shapes.{shaped}
-use Rattle.query.specs.declared.Shape.{Shape}
+use Rattle.query.specs.Shapes.{asked}
+use Rattle.query.specs.declared.Split.{Split}
 use Rattle.image.specs.Rows.{row_at, rows_left}
 use Rattle.image.proofs.Rows.{rows_turn, row_is}
+use Rattle.refusal.specs.declared.Refusal.{Refusal}
 use Rattle.lookup.specs.Searches.{is_entry, searched, numbered, entry_in, entry_within}
+use Rattle.lookup.specs.Replies.{entry_replied}
+use Rattle.walk.specs.Replies.{step_replied}
 
 -- ---- The first that aligns
 
@@ -87,6 +91,12 @@ module _ (contents bodies : List ℕ) (image : is_image contents bodies ≡ true
 
 -- ---- The calls
 
+-- a step tells what its search tells
+pub step_told : (r : Result (std.Option ℕ) Refusal) → step_replied r ≡ entry_replied r
+step_told (Ok (Some i)) = refl
+step_told (Ok None) = refl
+step_told (Err k) = refl
+
 module _ (contents bodies name class : List ℕ) where
   pub steps : (next count : ℕ) → entry_within shell true next count contents bodies name class ≡ walk_step contents bodies name class (walk next count)
   unfolding entry_within walk_step_by
@@ -102,7 +112,16 @@ module _ (contents bodies name class : List ℕ) where
   unfolding walk_start_by
   start_no_image e = rw e refl
 
-  -- what the shape of both decides
-  pub start_by_shape : is_image contents bodies ≡ true → (s : Shape) (ps : List Position) → query_of name class ≡ shaped s ps → begun (count_of contents) (shaped s ps) ≡ walk_start contents bodies name class
+  -- what the query decides
+  start_asked : is_image contents bodies ≡ true → (q : Query) → q ≡ query_of name class → begun (count_of contents) q ≡ walk_start contents bodies name class
   unfolding walk_start_by
-  start_by_shape e s ps f = sym (rw (e, f) refl)
+  start_asked e q f = rw (e, ← f) refl
+
+  pub start_past : is_image contents bodies ≡ true → (k : ℕ) → past_limit k ≡ query_of name class → refused k ≡ walk_start contents bodies name class
+  start_past e k f = unfold begun in start_asked e (past_limit k) f
+
+  -- the parts that are told, or none where the query is malformed
+  pub start_told : is_image contents bodies ≡ true → {n : ℕ} (o : std.Option (Split n × Split n)) → asked name class (Ok o) ≡ query_of name class
+      → given (walk 0 (count_of contents)) ≡ walk_start contents bodies name class
+  start_told e None f = unfold begun in start_asked e malformed f
+  start_told e (Some p) f = unfold begun in start_asked e _ f

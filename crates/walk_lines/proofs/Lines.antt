@@ -1,4 +1,4 @@
--- A line is put piece by piece, and how long the lines are. Assumes nothing.
+-- How long the lines are. Assumes nothing.
 use Rattle.std.specs.Prelude.{if◌then◌else◌}
 use mathlib.Core.Bool.{Bool, true, false}
 use mathlib.Core.List.{List, [], ◌∷◌, ◌++◌}
@@ -9,7 +9,6 @@ use native.Mathlib.Numerals.{add-one}
 use native.Mathlib.Omega.{arith}
 use lib.ListN.{length, drop, get_or, length-append}
 use lib.Seq.{drop-drop, get_or-drop}
-use Rattle.definition.specs.Lists.{ascii}
 use Rattle.definition.specs.Limits.{file_name_bytes}
 use Rattle.definition.specs.Archive.{File, files_of, laid_out}
 use Rattle.definition.specs.Text.{Entry}
@@ -17,8 +16,7 @@ use Rattle.definition.specs.Image.{key_of, Sourced, bare, store_of}
 use Rattle.definition.specs.Query.{Position, Query, positions, malformed, past_limit}
 use Rattle.definition.specs.Walking.{aligns, aligned_from}
 use Rattle.definition.specs.Adding.{numbers_from}
-use Rattle.printing.specs.Putting.{Appends, decimal}
-use Rattle.printing.proofs.Pieces.{then_piece}
+use Rattle.printing.specs.Putting.{decimal}
 use Rattle.printing.proofs.Numbers.{decimal_most}
 use Rattle.shown_bytes.specs.Shown.{shown}
 use Rattle.shown_bytes.proofs.Showing.{shown_most}
@@ -31,11 +29,6 @@ module _ (i : ℕ) (place : List ℕ) where
   unfolding head_of
   head_long = simp length-append
 
-  pub head_put : {out o₁ o₂ o₃ o₄ : List ℕ} {at e₁ e₂ e₃ e₄ : ℕ} → Appends (decimal i) out at o₁ e₁ → Appends (ascii " ") o₁ e₁ o₂ e₂ → Appends place o₂ e₂ o₃ e₃
-      → Appends (ascii ": ") o₃ e₃ o₄ e₄ → Appends (head_of i place) out at o₄ e₄
-  unfolding head_of
-  head_put p₁ p₂ p₃ p₄ = then_piece (then_piece (then_piece p₁ p₂) p₃) p₄
-
 module _ (i : ℕ) (place key value : List ℕ) where
   pub listed_long : length (listed_line i place key value) ≡ length (head_of i place) + length key + 2 + length (shown value) + 1
   unfolding listed_line
@@ -43,11 +36,6 @@ module _ (i : ℕ) (place key value : List ℕ) where
 
   listed_most : length place ≤ file_name_bytes → length (listed_line i place key value) ≤ 122 + length key + 4 * length value
   listed_most h = omega (arith, listed_long, head_long i place, decimal_most i, shown_most value)
-
-  pub listed_put : {out o₁ o₂ o₃ o₄ o₅ : List ℕ} {at e₁ e₂ e₃ e₄ e₅ : ℕ} → Appends (head_of i place) out at o₁ e₁ → Appends key o₁ e₁ o₂ e₂
-      → Appends (ascii ": ") o₂ e₂ o₃ e₃ → Appends (shown value) o₃ e₃ o₄ e₄ → Appends (ascii "\n") o₄ e₄ o₅ e₅ → Appends (listed_line i place key value) out at o₅ e₅
-  unfolding listed_line
-  listed_put p₁ p₂ p₃ p₄ p₅ = then_piece (then_piece (then_piece (then_piece p₁ p₂) p₃) p₄) p₅
 
 -- ---- All lines
 

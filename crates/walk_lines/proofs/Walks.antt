@@ -3,13 +3,13 @@ use mathlib.Core.Bool.{true}
 use mathlib.Core.List.{List, [], ◌∷◌, ◌++◌, append-nil}
 use mathlib.Core.Option.{Option, some, none}
 use mathlib.Core.Path.{◌≡◌, refl, sym, ap, ◌∙◌}
-use Prim.Native.Nat.{ℕ, suc, ◌+◌, ◌-◌, ◌≤◌, ◌<◌}
+use Prim.Native.Nat.{ℕ, suc, ◌+◌, ◌≤◌, ◌<◌}
 use native.Mathlib.Numerals.{add-one}
 use native.Mathlib.Omega.{arith}
-use lib.ListN.{length, take, drop, drop_of_length-le}
+use lib.ListN.{length, drop, drop_of_length-le}
 use Rattle.definition.specs.Text.{Entry}
 use Rattle.definition.specs.Archive.{File}
-use Rattle.definition.specs.Image.{Sourced, count_of, origins_in, key_at, is_image}
+use Rattle.definition.specs.Image.{Sourced, count_of, origins_in, key_at, value_at, is_image}
 use Rattle.definition.specs.Query.{Query, positions, malformed, past_limit, query_of}
 use Rattle.definition.specs.Lookup.{given, no_value, refused}
 use Rattle.definition.specs.Writing.{entries_of_image, sources_of_image}
@@ -20,11 +20,9 @@ use Rattle.laws.proofs.Image.{image_sizes}
 use Rattle.laws.proofs.Origins.{bare_with, with_at}
 use Rattle.laws.proofs.Walking.{step_within}
 use Rattle.laws.proofs.Adding.{Starts, starts, step_gives, numbers_rest}
-use Rattle.image.specs.declared.Row.{Row}
-use Rattle.image.specs.Rows.{row_at, origin_at, RowIs}
+use Rattle.image.specs.Rows.{row_at, origin_at}
 use Rattle.image.proofs.Rows.{origin_is}
 use Rattle.image_judge.proofs.Judged.{judged}
-use Rattle.image_judge.proofs.Parts.{key_part_lem, value_part_lem}
 use Rattle.walk.proofs.Walking.{entry_of}
 use Rattle.places.specs.Places.{file_told}
 use Rattle.walk_lines.specs.Lines.{listed_line, blank, line_at, lines_at, walk_lines}
@@ -96,7 +94,7 @@ module _ (contents bodies name class : List ℕ) (count : ℕ) (begun : walk_sta
   step_is next = rw image (ap (λ (l : List Entry). stepped (walk next count) l query) (sym (append-nil held)) ∙ step_gives query held [] (walk next count) start.asked many)
 
   module _ (next : ℕ) where
-    pub lines_next : (fs : List File) (i : ℕ) → given i ≡ walk_step contents bodies name class (walk next count) → lines fs next ≡ line_at fs sources i ++ lines fs (i + 1)
+    lines_next : (fs : List File) (i : ℕ) → given i ≡ walk_step contents bodies name class (walk next count) → lines fs next ≡ line_at fs sources i ++ lines fs (i + 1)
     unfolding number_or first_of lines_at
     lines_next fs i h = at (numbers next) refl (h ∙ step_is next)
       where
@@ -131,9 +129,14 @@ module _ (contents bodies name class : List ℕ) (count : ℕ) (begun : walk_sta
         (s.0, s.1, omega (arith, s.1, count_is))
 
   -- entry i's line, as the code puts it together
-  pub line_is : (fs : List File) (i : ℕ) (r : Row) → RowIs contents i r → i < count_of contents
-      → line_at fs sources i ≡ listed_line i (file_told fs (origin_at contents i)) (take (r.start + r.key - r.start) (drop r.start bodies)) (take (r.start + r.key + r.value - (r.start + r.key)) (drop (r.start + r.key) bodies))
+  line_is : (fs : List File) (i : ℕ) → i < count_of contents
+      → line_at fs sources i ≡ listed_line i (file_told fs (origin_at contents i)) (key_at bodies (row_at contents i)) (value_at bodies (row_at contents i))
   unfolding line_at
-  line_is fs i r e h =
+  line_is fs i h =
       rw (with_at held (origins_in contents) i blank (omega (arith, h, count_is, many)), origin_is contents i h, entry_of contents bodies i blank.entry image h, (parts_of (key_at bodies (row_at contents i)) ((judged contents bodies image).row_key i h)).written)
-      (sym (rw (key_part_lem contents bodies i r e, value_part_lem contents bodies i r e) refl))
+      refl
+
+  -- the lines from there on, where the walk gives entry i next
+  pub lines_turn : (fs : List File) (next i : ℕ) → given i ≡ walk_step contents bodies name class (walk next count)
+      → lines fs next ≡ listed_line i (file_told fs (origin_at contents i)) (key_at bodies (row_at contents i)) (value_at bodies (row_at contents i)) ++ lines fs (i + 1)
+  lines_turn fs next i h = lines_next next fs i h ∙ ap (λ (l : List ℕ). l ++ lines fs (i + 1)) (line_is fs i (within next i h).2)

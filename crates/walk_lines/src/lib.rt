@@ -1,91 +1,70 @@
 // The lines of the entries that a walk lists: number, where the line stands, key and value, where no value can steer a terminal.
 #![tactic(auto)]
 
-ghost use Rattle.std.specs.Prelude.{◌≡◌, true, ◌+◌, ◌≤◌, length};
-ghost use Rattle.definition.specs.Archive.{files_of, laid_out};
+ghost use Rattle.std.specs.Prelude.{◌≡◌, ◌≤◌, length};
+ghost use Rattle.definition.specs.Archive.{files_of};
 ghost use Rattle.definition.specs.Query.{query_of};
 ghost use Rattle.definition.specs.Lookup.{given};
 ghost use Rattle.definition.specs.Walking.{walk, walk_start};
 ghost use Rattle.definition.specs.Writing.{sources_of_image};
-ghost use Rattle.printing.specs.Putting.{Appends};
-ghost use Rattle.places.specs.Places.{file_told};
+ghost use Rattle.printing.specs.Putting.{Appends, left};
 ghost use Rattle.walk_lines.specs.Lines.{head_of, listed_line, walk_lines};
 
-use image::{origin_at, row_at};
-use places::put_place;
-use printing::{put, put_number};
+use archive::Archive;
+use image_judge::Image;
+use places::place_of;
+use printing::Lines;
 use shown_bytes::put_shown;
-use walk::{Stepped, walk_step};
+use walk::walk_step;
 
-// Puts the number of entry `i` and where its line stands at `at`.
-fn put_head(i: usize, archive: &[u8], origin: usize, out: &mut [u8], at: usize) -> usize
-    requires { (laid_out archive.now ≡ true) × (at + length (head_of i (file_told (files_of archive.now) origin)) ≤ length out.old) }
-    ensures { Appends (head_of i (file_told (files_of archive.now) origin)) out.old at out.new result }
+// Puts the number of entry `i` and where its line stands.
+#[tactic(auto, using(crate::proofs::Lines::head_long))]
+fn put_head(i: usize, place: &[u8], out: &mut Lines)
+    requires { length (head_of i place.now) ≤ length (left out.old) }
+    ensures { Appends (head_of i place.now) out.old out.new }
 {
-    let mut end = put_number(i, out, at);
-    end = put(b" ", out, end);
-    end = put_place(archive, origin, out, end);
-    put(b": ", out, end)
+    out.put_number(i);
+    out.put(b" ");
+    out.put(place);
+    out.put(b": ");
 }
 
-// Puts the line of entry `i` at `at`.
-fn put_entry(
-    i: usize,
-    archive: &[u8],
-    origin: usize,
-    key: &[u8],
-    value: &[u8],
-    out: &mut [u8],
-    at: usize,
-) -> usize
-    requires { (laid_out archive.now ≡ true) × (at + length (listed_line i (file_told (files_of archive.now) origin) key.now value.now) ≤ length out.old) }
-    ensures { Appends (listed_line i (file_told (files_of archive.now) origin) key.now value.now) out.old at out.new result }
+// Puts the line of entry `i`.
+#[tactic(auto, using(crate::proofs::Lines::listed_long))]
+fn put_entry(i: usize, place: &[u8], key: &[u8], value: &[u8], out: &mut Lines)
+    requires { length (listed_line i place.now key.now value.now) ≤ length (left out.old) }
+    ensures { Appends (listed_line i place.now key.now value.now) out.old out.new }
 {
-    let mut end = put_head(i, archive, origin, out, at);
-    end = put(key, out, end);
-    end = put(b": ", out, end);
-    end = put_shown(value, out, end);
-    put(b"\n", out, end)
+    put_head(i, place, out);
+    out.put(key);
+    out.put(b": ");
+    put_shown(value, out);
+    out.put(b"\n");
 }
 
-// Puts the lines of all entries that a walk lists, which was begun at `count` entries, at the start of `out`; files are named by the archive.
+// Puts the lines of all entries that a walk lists, which was begun at `count` entries; files are named by the archive.
 pub fn put_walk(
-    contents: &[u16],
-    bodies: &[u8],
-    archive: &[u8],
+    image: &Image,
+    archive: Archive<'_>,
     name: &[u8],
     class: &[u8],
     count: usize,
-    out: &mut [u8],
-) -> usize
-    requires { (walk_start contents.now bodies.now name.now class.now ≡ given (walk 0 count)) × (laid_out archive.now ≡ true) × (length (walk_lines (files_of archive.now) (query_of name.now class.now) (sources_of_image contents.now bodies.now)) ≤ length out.old) }
-    ensures { Appends (walk_lines (files_of archive.now) (query_of name.now class.now) (sources_of_image contents.now bodies.now)) out.old 0 out.new result }
+    out: &mut Lines,
+)
+    requires { (walk_start image.now.contents.now image.now.bodies.now name.now class.now ≡ given (walk 0 count)) × (length (walk_lines (files_of archive.bytes.now) (query_of name.now class.now) (sources_of_image image.now.contents.now image.now.bodies.now)) ≤ length (left out.old)) }
+    ensures { Appends (walk_lines (files_of archive.entry.bytes.now) (query_of name.now class.now) (sources_of_image image.now.contents.now image.now.bodies.now)) out.old out.new }
 {
-    let mut end = 0;
     let mut next = 0;
-    while next < count {
-        let stepped = walk_step(contents, bodies, name, class, next, count);
-        match stepped {
-            Stepped::Listed(i) => {
-                let row = row_at(contents, i);
-                let start = row.start;
-                let middle = start + row.key;
-                let last = middle + row.value;
-                let origin = origin_at(contents, i);
-                end = put_entry(
-                    i,
-                    archive,
-                    origin,
-                    &bodies[start..middle],
-                    &bodies[middle..last],
-                    out,
-                    end,
-                );
+    // not by index: a turn takes a step of the walk, to the next entry that aligns
+    loop {
+        match walk_step(image.contents, image.bodies, name, class, next, count) {
+            Ok(Some(i)) => {
+                let place = place_of(archive, image.origin(i));
+                put_entry(i, place, image.key(i), image.value(i), out);
                 next = i + 1;
             }
-            Stepped::End => return end,
-            Stepped::Refused(_) => return end,
+            Ok(None) => return,
+            Err(_) => return,
         }
     }
-    end
 }

@@ -13,7 +13,7 @@ use Rattle.definition.specs.Writing.{escaped, begins_blank, value_text, entry_te
 use Rattle.laws.proofs.Lists.{and_true}
 use Rattle.laws.proofs.Keys.{is_legal, is_legal_component, passes_not}
 use Rattle.laws.proofs.Image.{is_storable, storable, store_is, image_holds, image_sizes, image_held}
-use Rattle.blocks.proofs.Blocks.{bit_of}
+use mir.Val.{bool_byte}
 use Rattle.entry_text.specs.Lines.{bytes_of}
 use Rattle.entry_text.proofs.Texts.{leading_escape_long, value_long}
 
@@ -68,7 +68,7 @@ key_plain (p ∷ ps) h =
 -- how many values begin with a blank
 unfoldable pub leading_escapes_in : List Entry → ℕ
 leading_escapes_in [] = 0
-leading_escapes_in (e ∷ es) = bit_of (begins_blank e.value) + leading_escapes_in es
+leading_escapes_in (e ∷ es) = bool_byte (begins_blank e.value) + leading_escapes_in es
 
 text_size : (es : List Entry) → all is_storable es ≡ true → length (text_of es) ≡ 3 * length es + length (bytes_of (store_of es)) + leading_escapes_in es
 unfolding all text_of flatten store_of leading_escapes_in entry_text

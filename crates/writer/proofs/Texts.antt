@@ -10,20 +10,18 @@ use lib.ListN.{length, take, drop}
 use lib.Seq.{take-length, length-take-le}
 use borrow.Author.Tests.{le-leb, leb-false, lt-ltb, le-ltb}
 use Rattle.definition.specs.Image as image
-use Rattle.definition.specs.Image.{rows_from, rows_in, count_of, used_of, key_at, entries_in, is_image}
+use Rattle.definition.specs.Image.{rows_from, rows_in, count_of, used_of, key_at, value_at, entries_in, is_image}
 use Rattle.definition.specs.Writing.{begins_blank, entry_text, text_of, image_text, written, refused, filled, put_into, writing_by, writing}
 use Rattle.laws.proofs.Keys.{parts_of}
 use Rattle.laws.proofs.Writing.{image_text_most}
 use Rattle.copies.specs.Appended.{Appends}
 use Rattle.copies.proofs.Pieces.{Walk, walk_begun, walk_next, walk_room, walk_ended}
-use Rattle.blocks.proofs.Blocks.{bit_of}
+use mir.Val.{bool_byte}
 use Rattle.entry_text.specs.Lines.{bytes_of, line_of}
 use Rattle.entry_text.proofs.Texts.{bytes_least}
-use Rattle.image.specs.declared.Row.{Row}
-use Rattle.image.specs.Rows.{row_at, rows_left, RowIs}
+use Rattle.image.specs.Rows.{row_at, rows_left}
 use Rattle.image.proofs.Rows.{rows_turn}
 use Rattle.image_judge.proofs.Judged.{judged}
-use Rattle.image_judge.proofs.Parts.{key_part_lem, value_part_lem}
 use Rattle.writer.proofs.Sizes.{leading_escapes_in, image_text_size}
 
 -- ---- Row by row
@@ -40,20 +38,14 @@ module _ (contents bodies : List ℕ) where
   unfolding rows_from entries_in text_of flatten
   text_none i h = let z : count_of contents - i ≡ 0 = omega arith in rw z refl
 
-  -- row i, as the code has it
-  module _ (g : is_image contents bodies ≡ true) (i : ℕ) (h : i < count_of contents) (r : Row) (e : RowIs contents i r) where
-    -- its key and its value, as the borrow checker gives them
-    abbrev pub key_part : List ℕ
-    key_part = take (r.start + r.key - r.start) (drop r.start bodies)
-
-    abbrev pub value_part : List ℕ
-    value_part = take (r.start + r.key + r.value - (r.start + r.key)) (drop (r.start + r.key) bodies)
-
-    pub text_next : text_left contents bodies i ≡ line_of key_part value_part ++ text_left contents bodies (i + 1)
+  -- row i, with its key and its value
+  module _ (g : is_image contents bodies ≡ true) (i : ℕ) (h : i < count_of contents) {key value : List ℕ}
+      (k : key ≡ key_at bodies (row_at contents i)) (v : value ≡ value_at bodies (row_at contents i)) where
+    pub text_next : text_left contents bodies i ≡ line_of key value ++ text_left contents bodies (i + 1)
     unfolding entries_in text_of flatten entry_text line_of
     text_next =
         ap (λ (rows : List image.Row). text_of (entries_in rows bodies)) (rows_turn contents (count_of contents) i h)
-        ∙ rw (key_part_lem contents bodies i r e, value_part_lem contents bodies i r e, (parts_of (key_at bodies (row_at contents i)) ((judged contents bodies g).row_key i h)).written) refl
+        ∙ rw (k, v, (parts_of (key_at bodies (row_at contents i)) ((judged contents bodies g).row_key i h)).written) refl
 
 -- ---- Measured
 
@@ -66,7 +58,6 @@ leading_escapes_all contents bodies = rw (sub-zero (count_of contents)) refl
 
 -- all is counted but for these
 pub record Measuring (contents bodies : List ℕ) (size i : ℕ) : Type 0 where
-  pub passed : i ≤ count_of contents
   pub same : length (image_text contents bodies) ≡ size + leading_escapes_left contents bodies i
 
 pub measuring_first : (contents bodies : List ℕ) (n : ℕ) → is_image contents bodies ≡ true
@@ -77,21 +68,19 @@ measuring_first contents bodies n g e =
     let j = judged contents bodies g in
     let l : length bs ≡ used_of contents = length-take-le (used_of contents) bodies (omega (arith, j.used_most, j.bodies_long)) in
     record {
-      passed = omega arith;
       same = omega (arith, e, l, bytes_least bs, leading_escapes_all contents bodies, image_text_size contents bodies g);
     }
 
 module _ {contents bodies : List ℕ} {size i : ℕ} (m : Measuring contents bodies size i) where
-  module _ (g : is_image contents bodies ≡ true) (h : i < count_of contents) (r : Row) (e : RowIs contents i r) (k : ℕ)
-      (f : k ≡ bit_of (begins_blank (value_part contents bodies g i h r e))) where
+  module _ (h : i < count_of contents) {value : List ℕ} (v : value ≡ value_at bodies (row_at contents i)) (k : ℕ) (f : k ≡ bool_byte (begins_blank value)) where
     leading_escapes_next : leading_escapes_left contents bodies i ≡ k + leading_escapes_left contents bodies (i + 1)
     unfolding entries_in leading_escapes_in
     leading_escapes_next =
         ap (λ (rows : List image.Row). leading_escapes_in (entries_in rows bodies)) (rows_turn contents (count_of contents) i h)
-        ∙ rw (f, value_part_lem contents bodies i r e) refl
+        ∙ rw (f, v) refl
 
     pub measuring_next : Measuring contents bodies (size + k) (i + 1)
-    measuring_next = record { passed = omega arith; same = omega (arith, m.same, leading_escapes_next) }
+    measuring_next = record { same = omega (arith, m.same, leading_escapes_next) }
 
   pub measured : count_of contents ≤ i → size ≡ length (image_text contents bodies)
   unfolding rows_from entries_in leading_escapes_in
@@ -106,28 +95,26 @@ surely_room contents bodies room g h = sym (le-leb (length (image_text contents 
 
 -- the text from row i on is still to be written, from `size` on
 pub record Writing (contents bodies text₀ text : List ℕ) (size i : ℕ) : Type 0 where
-  pub passed : i ≤ count_of contents
   pub walk : Walk (image_text contents bodies) text₀ 0 (text_left contents bodies i) text size
 
 pub writing_first : (contents bodies text : List ℕ) → Writing contents bodies text text 0 0
-writing_first contents bodies text = record { passed = omega arith; walk = rw (text_all contents bodies) (walk_begun (image_text contents bodies) text 0) }
+writing_first contents bodies text = record { walk = rw (text_all contents bodies) (walk_begun (image_text contents bodies) text 0) }
 
 module _ {contents bodies text₀ text : List ℕ} {size i : ℕ} (w : Writing contents bodies text₀ text size i) where
   module _ (fits : length (image_text contents bodies) ≤ length text₀) where
     in_front : 0 + length (image_text contents bodies) ≤ length text₀
     in_front = omega arith
 
-    pub line_room : (g : is_image contents bodies ≡ true) (h : i < count_of contents) (r : Row) (e : RowIs contents i r)
-        → size + length (line_of (key_part contents bodies g i h r e) (value_part contents bodies g i h r e)) ≤ length text
-    line_room g h r e = walk_room (line_of (key_part contents bodies g i h r e) (value_part contents bodies g i h r e)) (text_left contents bodies (i + 1)) in_front w.walk (text_next contents bodies g i h r e)
-
     pub all_written : count_of contents ≤ i → Appends (image_text contents bodies) text₀ 0 text size
     all_written h = walk_ended in_front w.walk (text_none contents bodies i h)
 
-  pub line_written : (g : is_image contents bodies ≡ true) (h : i < count_of contents) (r : Row) (e : RowIs contents i r) {text' : List ℕ} {size' : ℕ}
-      → Appends (line_of (key_part contents bodies g i h r e) (value_part contents bodies g i h r e)) text size text' size'
-      → Writing contents bodies text₀ text' size' (i + 1)
-  line_written g h r e p = record { passed = omega arith; walk = walk_next w.walk (text_next contents bodies g i h r e) p }
+    pub line_room : is_image contents bodies ≡ true → i < count_of contents → {key value : List ℕ} → key ≡ key_at bodies (row_at contents i) → value ≡ value_at bodies (row_at contents i)
+        → size + length (line_of key value) ≤ length text
+    line_room g h {key} {value} k v = walk_room (line_of key value) (text_left contents bodies (i + 1)) in_front w.walk (text_next contents bodies g i h k v)
+
+  pub line_written : is_image contents bodies ≡ true → i < count_of contents → {key value : List ℕ} → key ≡ key_at bodies (row_at contents i) → value ≡ value_at bodies (row_at contents i)
+      → {text' : List ℕ} {size' : ℕ} → Appends (line_of key value) text size text' size' → Writing contents bodies text₀ text' size' (i + 1)
+  line_written g h k v p = record { walk = walk_next w.walk (text_next contents bodies g i h k v) p }
 
 -- ---- The call
 

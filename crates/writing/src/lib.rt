@@ -2,6 +2,7 @@
 #![tactic(auto)]
 
 use io::write_all;
+use reports::Status;
 use std::io::{Error, Print};
 
 // Says why the system refuses what.
@@ -60,12 +61,10 @@ pub fn write_help(out: &impl Print) {
     );
 }
 
-pub fn write_status(fd: i32, status: u8) {
-    if status == 0 {
-        write_all(fd, b"0");
-    } else if status == 1 {
-        write_all(fd, b"1");
-    } else {
-        write_all(fd, b"2");
-    }
+pub fn write_status(fd: i32, status: Status) {
+    match status {
+        Status::Yes => write_all(fd, b"0"),
+        Status::No => write_all(fd, b"1"),
+        Status::Trouble => write_all(fd, b"2"),
+    };
 }

@@ -1,25 +1,22 @@
 -- `answers_listed::list_image` meets its contract. Assumes nothing.
-use mathlib.Core.Path.{◌≡◌, sym}
+use mathlib.Core.Path.{sym, ap, ◌∙◌}
 use native.Mathlib.Omega.{arith}
-use Rattle.definition.specs.Lookup.{given}
-use Rattle.definition.specs.Walking.{walk, walk_start}
+use lib.ListN.{length}
 use Rattle.answers_listed.proofs.Telling.{lines_room, told_none, told_some, told_refused}
 use Rattle.answers_listed.proofs.list_image.Goals as goal
 
-pub put_walk-size-requires : goal.put_walk-size-requires
-put_walk-size-requires c =
-    let begun : given (walk 0 c.in-Begun.count) ≡ walk_start c.args.contents.now c.args.bodies.now c.args.name.now c.args.class.now = rw c.in-Begun.is at c.walk_start-started.ensures in
-    (sym begun, c.requires.1, lines_room _ _ _ _ _ _ begun c.args.out.now c.requires.1 c.requires.2)
+pub put_walk-requires : goal.put_walk-requires
+put_walk-requires c = (sym c.in-Ok.ensures, lines_room _ _ _ _ _ _ c.in-Ok.ensures _ c.args.archive.judged c.requires)
 
-pub returns-then-size-eq0 : goal.returns-then-size-eq0
-returns-then-size-eq0 c =
-    let begun : given (walk 0 c.in-Begun.count) ≡ walk_start c.args.contents.now c.args.bodies.now c.args.name.now c.args.class.now = rw c.in-Begun.is at c.walk_start-started.ensures in
-    told_none _ _ _ _ _ _ begun c.put_walk-size.ensures c.if-size-eq0.true c.put-end.ensures
+pub returns-then-written-before : goal.returns-then-written-before
+returns-then-written-before c =
+    told_none _ _ _ _ _ _ c.in-Ok.ensures c.put_walk.ensures
+    (omega (arith, c.if-written-before.true, ap length c.written.ensures, ap length c.written-before.ensures)) c.put.ensures
 
-pub returns-in-Refused : goal.returns-in-Refused
-returns-in-Refused c = told_refused c.args.contents.now c.args.bodies.now c.args.archive.now c.args.name.now c.args.class.now c.requires.0 _ (rw c.in-Refused.is at c.walk_start-started.ensures) c.refuse.ensures
+pub returns-else-written-before : goal.returns-else-written-before
+returns-else-written-before c =
+    told_some _ _ _ _ _ _ c.in-Ok.ensures c.put_walk.ensures
+    (λ e. c.if-written-before.false (ap length c.written.ensures ∙ e ∙ sym (ap length c.written-before.ensures)))
 
-pub returns-else-size-eq0 : goal.returns-else-size-eq0
-returns-else-size-eq0 c =
-    let begun : given (walk 0 c.in-Begun.count) ≡ walk_start c.args.contents.now c.args.bodies.now c.args.name.now c.args.class.now = rw c.in-Begun.is at c.walk_start-started.ensures in
-    told_some _ _ _ _ _ _ begun c.put_walk-size.ensures (omega (arith, c.if-size-eq0.false))
+pub returns-in-Err : goal.returns-in-Err
+returns-in-Err c = told_refused c.args.image.now.contents.now c.args.image.now.bodies.now c.args.archive.bytes.now c.args.name.now c.args.class.now c.args.image.now.judged _ c.in-Err.ensures c.refuse.ensures

@@ -1,9 +1,7 @@
 -- `archive::fits` meets its contract. The invariant: the archive fits if the files from j on do. Assumes nothing.
 use mathlib.Core.Path.{sym, ◌∙◌}
-use Prim.Native.Nat.{◌-◌}
 use native.Mathlib.Omega.{arith}
 use borrow.Author.Rules.{rules}
-use Rattle.laws.proofs.Walked.{fits}
 use Rattle.archive.proofs.Walk.{fits_none, fits_few, fits_first, fits_over, fits_on, fits_end}
 use Rattle.archive.proofs.fits.Goals as goal
 

@@ -1,17 +1,10 @@
 -- `archive_find::find` meets its contract. The invariants: the file is among those from j on, if any; from byte i on the row's name is the path. Assumes nothing.
-use Prim.Native.Nat.{◌-◌}
 use Rattle.archive_find.proofs.Comparing.{Ending}
 use Rattle.archive_find.proofs.Finding.{Searching}
 use Rattle.archive_find.proofs.find.Given as goal
 
 abbrev pub invariant-bytes : goal.invariant-bytes
-invariant-bytes l = Ending l.archive l.path l.start l.i
-
-abbrev pub decreases-bytes : goal.decreases-bytes
-decreases-bytes l = l.i
+invariant-bytes l = Ending l.bytes l.path l.start l.i
 
 abbrev pub invariant-rows : goal.invariant-rows
-invariant-rows l = Searching l.archive l.path l.count l.found l.at l.j
-
-abbrev pub decreases-rows : goal.decreases-rows
-decreases-rows l = l.count - l.j
+invariant-rows l = Searching l.bytes l.path l.count l.at l.j

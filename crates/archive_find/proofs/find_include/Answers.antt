@@ -7,20 +7,20 @@ use Rattle.archive_find.proofs.find_include.Goals as goal
 
 pub slice_bounds-path-end : goal.slice_bounds-path-end
 slice_bounds-path-end c =
-    let p = rw c.in-At.is at c.path_of-sought.ensures in
+    let p = rw c.in_ok-n.was at c.path_of.ensures in
     omega (arith, p.2)
 
 pub slice_bounds-find-end : goal.slice_bounds-find-end
 slice_bounds-find-end c =
-    let p = rw c.in-At.is at c.path_of-sought.ensures in
-    sym (length-take-le _ _ (omega (arith, p.2, c.path_of-sought.auto)))
+    let p = rw c.in_ok-n.was at c.path_of.ensures in
+    sym (length-take-le _ _ (omega (arith, p.2, c.path_of.auto)))
 
-pub returns-in-At : goal.returns-in-At
-returns-in-At c =
-    let p = rw c.in-At.is at c.path_of-sought.ensures in
-    sought_at c.args.archive.now p.1 c.find.ensures
+pub returns : goal.returns
+returns c =
+    let p = rw c.in_ok-n.was at c.path_of.ensures in
+    sought_at c.args.archive.bytes.now p.1 c.find.ensures
 
-pub returns-in-Nothing : goal.returns-in-Nothing
-returns-in-Nothing c =
-    let p = rw c.in-Nothing.is at c.path_of-sought.ensures in
-    sought_none c.args.archive.now p.1
+pub returns-in_err-n : goal.returns-in_err-n
+returns-in_err-n c =
+    let p = rw c.in_err-n.was at c.path_of.ensures in
+    rw c.from_residual.ensures (sought_none c.args.archive.bytes.now p.1)

@@ -1,36 +1,29 @@
 -- `argument_words::format_of` meets its contract. Assumes nothing.
-use mathlib.Core.Bool.{false}
-use mathlib.Core.List.{List}
-use mathlib.Core.Path.{◌≡◌, refl, sym, ◌∙◌}
-use Prim.Native.Nat.{ℕ}
+use Rattle.std.proofs.Common.{ap, sym, ◌∙◌, refl}
 use Rattle.definition.specs.Lists.{ascii, same}
 use Rattle.argument_words.specs.Words.{format_of}
+use Rattle.argument_words.proofs.Words.{other_word, no_text}
 use Rattle.argument_words.proofs.format_of.Goals as goal
 
-pub returns-then-is_word : goal.returns-then-is_word
-unfolding format_of
-returns-then-is_word c = rw (← c.is_word.ensures, c.if-is_word.true) refl
+pub returns-in-text : goal.returns-in-text
+unfolding format_of same
+returns-in-text c = ap format_of (sym c.in-text.is ∙ c.in-Ok.ensures.cases.0)
 
-pub returns-then-is_word-2 : goal.returns-then-is_word-2
-unfolding format_of
-returns-then-is_word-2 c =
-    let given : List ℕ = c.args.argument.now in
-    let not_8 : same given (ascii "8") ≡ false = sym c.is_word.ensures ∙ c.if-is_word.false in
-    rw (not_8, ← c.is_word-2.ensures, c.if-is_word-2.true) refl
+pub returns-in-text-2 : goal.returns-in-text-2
+unfolding format_of same
+returns-in-text-2 c = ap format_of (sym c.in-text-2.is ∙ c.in-Ok.ensures.cases.0)
 
-pub returns-then-is_word-3 : goal.returns-then-is_word-3
-unfolding format_of
-returns-then-is_word-3 c =
-    let given : List ℕ = c.args.argument.now in
-    let not_8 : same given (ascii "8") ≡ false = sym c.is_word.ensures ∙ c.if-is_word.false in
-    let not_16 : same given (ascii "16") ≡ false = sym c.is_word-2.ensures ∙ c.if-is_word-2.false in
-    rw (not_8, not_16, ← c.is_word-3.ensures, c.if-is_word-3.true) refl
+pub returns-in-text-3 : goal.returns-in-text-3
+unfolding format_of same
+returns-in-text-3 c = ap format_of (sym c.in-text-3.is ∙ c.in-Ok.ensures.cases.0)
 
-pub returns : goal.returns
+pub returns-in_default-word : goal.returns-in_default-word
 unfolding format_of
-returns c =
-    let given : List ℕ = c.args.argument.now in
-    let not_8 : same given (ascii "8") ≡ false = sym c.is_word.ensures ∙ c.if-is_word.false in
-    let not_16 : same given (ascii "16") ≡ false = sym c.is_word-2.ensures ∙ c.if-is_word-2.false in
-    let not-32 : same given (ascii "32") ≡ false = sym c.is_word-3.ensures ∙ c.if-is_word-3.false in
-    rw (not_8, not_16, not-32) refl
+returns-in_default-word c =
+    rw (← c.in-Ok.ensures.cases.0, other_word _ (ascii "8") c.in_default-word.not-text, other_word _ (ascii "16") c.in_default-word.not-text-2, other_word _ (ascii "32") c.in_default-word.not-text-3) refl
+
+pub returns-in_default : goal.returns-in_default
+unfolding format_of
+returns-in_default c =
+    let n = c.in_default.ensures.cases.0 in
+    rw (no_text _ (ascii "8") n refl, no_text _ (ascii "16") n refl, no_text _ (ascii "32") n refl) refl

@@ -1,29 +1,22 @@
 -- `arguments::name_end` meets its contract. Assumes nothing.
-use mathlib.Core.Path.{refl, sym}
-use lib.Seq.{length-take-le}
-use borrow.Author.Tests.{eq-eqb, ne_eqb}
-use Rattle.scan.proofs.Runs.{passed_none, passed_more, passed_stop, passed_end}
+use Rattle.std.proofs.Common.{rules, tests, ◌≡◌, ◌≤◌, ◌∙◌, ℕ, Bool, length, nat_eq, refl, sym, arith, length-take-le}
+use Rattle.std.proofs.lemmas.Iterator.{YieldsList-from_slice}
+use Rattle.std.proofs.lemmas.Iterator.Search.{position_from_yields_List}
+use Rattle.std.specs.List.{position}
+use Rattle.definition.specs.Lists.{take_while}
+use Rattle.laws.proofs.Lists.{length_take_while_le}
+use Rattle.scan.proofs.Bridges.{position_run_by}
 use Rattle.arguments.specs.Planning.{not_equals}
 use Rattle.arguments.proofs.name_end.Goals as goal
 
-pub returns-then-argument-i-eq61 : goal.returns-then-argument-i-eq61
-unfolding not_equals
-returns-then-argument-i-eq61 c =
-    record {
-      is = passed_stop not_equals _ c.loop-i.invariant c.loop-i-test.true (rw (eq-eqb _ _ c.if-argument-i-eq61.true) refl);
-      counts = (c.loop-i.invariant.inside, sym (length-take-le _ _ c.loop-i.invariant.inside));
-    }
-
-pub loop-i-preserved : goal.loop-i-preserved
-unfolding not_equals
-loop-i-preserved c = passed_more not_equals _ c.loop-i.invariant c.loop-i-test.true (rw (ne_eqb _ _ c.if-argument-i-eq61.false) refl)
+abbrev equals : ℕ → Bool
+equals x = nat_eq x 61
 
 pub returns : goal.returns
+unfolding not_equals
 returns c =
-    record {
-      is = passed_end not_equals _ c.loop-i.invariant c.loop-i-test.false;
-      counts = (c.loop-i.invariant.inside, sym (length-take-le _ _ c.loop-i.invariant.inside));
-    }
-
-pub loop-i-init : goal.loop-i-init
-loop-i-init c = passed_none not_equals _
+    let a = c.args.argument.now in
+    let found : c.position.result ≡ position equals a = position_from_yields_List equals _ _ c.position.result c.position.ensures.ran (YieldsList-from_slice _ c.iter.ensures.rest) (λ x b q k. search (rules, tests)) in
+    let is : c.unwrap_or.result ≡ length (take_while not_equals a) = c.unwrap_or.ensures ∙ position_run_by not_equals equals (λ x. refl) a found in
+    let inside : c.unwrap_or.result ≤ length a = omega (arith, is, length_take_while_le not_equals a) in
+    record { is = is; counts = (inside, sym (length-take-le _ _ inside)) }

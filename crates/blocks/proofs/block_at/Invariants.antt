@@ -1,6 +1,6 @@
 -- `blocks::block_at` meets its contract: the first i bytes are copied. Assumes nothing.
 use mathlib.Core.Path.{◌≡◌}
-use Prim.Native.Nat.{◌-◌, ◌≤◌}
+use Prim.Native.Nat.{◌≤◌}
 use lib.ListN.{drop}
 use lib.Seq.{paste}
 use Rattle.definition.specs.Lists.{zeroes}
@@ -8,6 +8,3 @@ use Rattle.blocks.proofs.block_at.Given as goal
 
 abbrev pub invariant-loop-i : goal.invariant-loop-i
 invariant-loop-i l = (l.i ≤ l.size) × (l.block ≡ paste (zeroes 8) 0 (drop l.from l.source) l.i)
-
-abbrev pub decreases-loop-i : goal.decreases-loop-i
-decreases-loop-i l = l.size - l.i

@@ -2,17 +2,17 @@
 use mathlib.Core.Path.{◌≡◌, refl}
 use native.Mathlib.Omega.{arith}
 use Rattle.definition.specs.Lists.{any}
-use Rattle.blocks.proofs.Blocks.{bit_is, block_more}
+use Rattle.blocks.proofs.Blocks.{block_more}
 use Rattle.blocks.proofs.block_has.Goals as goal
 
 pub loop-i-init : goal.loop-i-init
 unfolding any
-loop-i-init c = (omega arith, refl)
+loop-i-init c = refl
 
 pub loop-i-preserved : goal.loop-i-preserved
-loop-i-preserved c = (omega arith, block_more c.args.text.now c.args.at c.args.a c.args.b c.loop-i.found c.bit-found.result c.loop-i.i (omega arith) c.loop-i.invariant.1 c.bit-found.ensures)
+loop-i-preserved c = block_more c.args.text.now c.args.at c.args.a c.args.b c.loop-i.found c.loop-i.i (omega arith) c.loop-i.invariant
 
 pub returns : goal.returns
 returns c =
     let e : c.loop-i.i ≡ 8 = omega arith in
-    rw (c.loop-i.invariant.1, e) (bit_is _)
+    rw (c.loop-i.invariant, e) refl

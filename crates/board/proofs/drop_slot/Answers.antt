@@ -1,16 +1,8 @@
 -- `board::drop_slot` meets its contract. Assumes nothing.
 use native.Mathlib.Omega.{arith}
-use Rattle.definition.specs.Board.{lent, slot_start, body_start}
+use Rattle.definition.specs.Board.{lent}
 use Rattle.board.proofs.Writing.{slot_dropped}
 use Rattle.board.proofs.drop_slot.Goals as goal
-
-pub move_words-requires : goal.move_words-requires
-unfolding slot_start
-move_words-requires c = (omega arith, omega (arith, c.requires.1), omega (arith, c.requires.0.words_long, c.requires.2))
-
-pub move_bytes-requires : goal.move_bytes-requires
-unfolding body_start
-move_bytes-requires c = (omega arith, omega (arith, c.requires.1), omega (arith, c.requires.0.bytes_long, c.requires.2))
 
 pub returns : goal.returns
 returns c =

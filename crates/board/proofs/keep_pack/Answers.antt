@@ -1,98 +1,46 @@
 -- `board::keep_pack` meets its contract. Assumes nothing.
-use mathlib.Core.Path.{◌≡◌, refl, sym}
-use Prim.Native.Nat.{◌+◌, ◌*◌}
+use mathlib.Core.Path.{refl, sym}
 use native.Mathlib.Omega.{arith}
-use lib.ListN.{length, take, length-set}
-use lib.Seq.{length-take-le}
-use Rattle.definition.specs.Limits.{row_words}
-use Rattle.definition.specs.Image.{count_of, used_of}
+use lib.ListN.{length-set}
 use Rattle.definition.specs.Board.{lent, slot_start, body_start}
-use Rattle.laws.proofs.Image.{Holds, image_holds}
-use Rattle.board.proofs.Writing.{pack_written}
+use Rattle.laws.proofs.Image.{image_holds}
+use Rattle.board.proofs.Writing.{rows_there, bytes_there, pack_written}
 use Rattle.board.proofs.keep_pack.Goals as goal
 
 pub bounds-contents-0 : goal.bounds-contents-0
-bounds-contents-0 c =
-    let image : Holds c.args.contents.now c.args.bodies.now = image_holds c.args.contents.now c.args.bodies.now c.requires.3 in
-    omega (arith, image.contents_long)
+bounds-contents-0 c = omega (arith, (image_holds _ _ c.requires.3).contents_long)
 
 pub overflow_cast-rows : goal.overflow_cast-rows
-overflow_cast-rows c =
-    let image : Holds c.args.contents.now c.args.bodies.now = image_holds c.args.contents.now c.args.bodies.now c.requires.3 in
-    omega (arith, image.count_most)
+overflow_cast-rows c = omega (arith, (image_holds _ _ c.requires.3).count_most)
 
 pub overflow_mul-rows : goal.overflow_mul-rows
-overflow_mul-rows c =
-    let image : Holds c.args.contents.now c.args.bodies.now = image_holds c.args.contents.now c.args.bodies.now c.requires.3 in
-    omega (arith, image.count_most)
+overflow_mul-rows c = omega (arith, (image_holds _ _ c.requires.3).count_most)
 
 pub overflow_add-rows : goal.overflow_add-rows
-overflow_add-rows c =
-    let image : Holds c.args.contents.now c.args.bodies.now = image_holds c.args.contents.now c.args.bodies.now c.requires.3 in
-    omega (arith, image.count_most)
+overflow_add-rows c = omega (arith, (image_holds _ _ c.requires.3).count_most)
 
 pub bounds-contents-1 : goal.bounds-contents-1
-bounds-contents-1 c =
-    let image : Holds c.args.contents.now c.args.bodies.now = image_holds c.args.contents.now c.args.bodies.now c.requires.3 in
-    omega (arith, image.contents_long)
+bounds-contents-1 c = omega (arith, (image_holds _ _ c.requires.3).contents_long)
 
 pub overflow_cast-used : goal.overflow_cast-used
-overflow_cast-used c =
-    let image : Holds c.args.contents.now c.args.bodies.now = image_holds c.args.contents.now c.args.bodies.now c.requires.3 in
-    omega (arith, image.used_most)
-
-pub offset_bounds-words-at : goal.offset_bounds-words-at
-unfolding slot_start
-offset_bounds-words-at c = omega arith
-
-pub bounds-words-at : goal.bounds-words-at
-unfolding slot_start
-bounds-words-at c = omega (arith, c.requires.0.words_long)
+overflow_cast-used c = omega (arith, (image_holds _ _ c.requires.3).used_most)
 
 pub slice_bounds-copy_words-end : goal.slice_bounds-copy_words-end
-slice_bounds-copy_words-end c =
-    let image : Holds c.args.contents.now c.args.bodies.now = image_holds c.args.contents.now c.args.bodies.now c.requires.3 in
-    let rows-there : length (take (2 + row_words * count_of c.args.contents.now) c.args.contents.now) ≡ 2 + row_words * count_of c.args.contents.now =
-    let h = image in
-    length-take-le (2 + row_words * count_of c.args.contents.now) c.args.contents.now (omega (arith, h.count_most, h.contents_long))
-    in
-    sym rows-there
-
-pub overflow_add-at : goal.overflow_add-at
-unfolding slot_start
-overflow_add-at c = omega arith
+slice_bounds-copy_words-end c = sym (rows_there _ _ c.requires.3)
 
 pub copy_words-requires : goal.copy_words-requires
 unfolding slot_start
-copy_words-requires c =
-    let image : Holds c.args.contents.now c.args.bodies.now = image_holds c.args.contents.now c.args.bodies.now c.requires.3 in
-    let rows-there : length (take (2 + row_words * count_of c.args.contents.now) c.args.contents.now) ≡ 2 + row_words * count_of c.args.contents.now =
-    let h = image in
-    length-take-le (2 + row_words * count_of c.args.contents.now) c.args.contents.now (omega (arith, h.count_most, h.contents_long))
-    in
-    simp length-set (omega (arith, rows-there, image.count_most, c.requires.0.words_long))
+copy_words-requires c = simp length-set (omega (arith, rows_there _ _ c.requires.3, (image_holds _ _ c.requires.3).count_most, c.requires.0.words_long))
 
 pub bounds-words-0 : goal.bounds-words-0
 bounds-words-0 c = omega (arith, simp length-set at c.copy_words.auto.store, c.requires.0.words_long)
 
 pub slice_bounds-copy_in-end : goal.slice_bounds-copy_in-end
-slice_bounds-copy_in-end c =
-    let image : Holds c.args.contents.now c.args.bodies.now = image_holds c.args.contents.now c.args.bodies.now c.requires.3 in
-    let bytes_there : length (take (used_of c.args.contents.now) c.args.bodies.now) ≡ used_of c.args.contents.now =
-    let h = image in
-    length-take-le (used_of c.args.contents.now) c.args.bodies.now (omega (arith, h.used_most, h.bodies_long))
-    in
-    sym bytes_there
+slice_bounds-copy_in-end c = sym (bytes_there _ _ c.requires.3)
 
 pub copy_in-requires : goal.copy_in-requires
 unfolding body_start
-copy_in-requires c =
-    let image : Holds c.args.contents.now c.args.bodies.now = image_holds c.args.contents.now c.args.bodies.now c.requires.3 in
-    let bytes_there : length (take (used_of c.args.contents.now) c.args.bodies.now) ≡ used_of c.args.contents.now =
-    let h = image in
-    length-take-le (used_of c.args.contents.now) c.args.bodies.now (omega (arith, h.used_most, h.bodies_long))
-    in
-    omega (arith, bytes_there, image.used_most, c.requires.0.bytes_long)
+copy_in-requires c = omega (arith, bytes_there _ _ c.requires.3, (image_holds _ _ c.requires.3).used_most, c.requires.0.bytes_long)
 
 pub shape_of-words : goal.shape_of-words
 shape_of-words c = simp length-set (simp length-set at c.copy_words.auto.store)

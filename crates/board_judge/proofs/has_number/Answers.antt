@@ -3,13 +3,13 @@ use mathlib.Core.Path.{refl, sym, ◌∙◌}
 use Rattle.board_judge.proofs.Judging.{number_found, number_on, number_none}
 use Rattle.board_judge.proofs.has_number.Goals as goal
 
-pub returns-then-pack_number-number : goal.returns-then-pack_number-number
-returns-then-pack_number-number c =
-    let e = sym c.pack_number.ensures ∙ c.if-pack_number-number.true in
+pub returns-then-slot_at-number : goal.returns-then-slot_at-number
+returns-then-slot_at-number c =
+    let e = sym c.slot_at.ensures.number ∙ c.if-slot_at-number.true in
     sym (sym c.loop-i.invariant ∙ number_found _ _ c.loop-i.i _ c.loop-i-test.true e)
 
 pub loop-i-preserved : goal.loop-i-preserved
-loop-i-preserved c = sym (number_on _ _ c.loop-i.i _ c.loop-i-test.true (λ z. c.if-pack_number-number.false (c.pack_number.ensures ∙ z))) ∙ c.loop-i.invariant
+loop-i-preserved c = sym (number_on _ _ c.loop-i.i _ c.loop-i-test.true (λ z. c.if-slot_at-number.false (c.slot_at.ensures.number ∙ z))) ∙ c.loop-i.invariant
 
 pub returns : goal.returns
 returns c = sym (sym c.loop-i.invariant ∙ number_none _ _ c.loop-i.i _ c.loop-i-test.false)

@@ -1,11 +1,7 @@
 -- `board_judge::has_number` meets its contract. The invariant: the slots from i on decide. Assumes nothing.
 use mathlib.Core.Path.{◌≡◌}
-use Prim.Native.Nat.{◌-◌}
 use Rattle.board_judge.specs.Slots.{has_number_from}
 use Rattle.board_judge.proofs.has_number.Given as goal
 
 abbrev pub invariant-loop-i : goal.invariant-loop-i
-invariant-loop-i l = has_number_from l.words l.number l.i l.last ≡ has_number_from l.words l.number l.from l.last
-
-abbrev pub decreases-loop-i : goal.decreases-loop-i
-decreases-loop-i l = l.last - l.i
+invariant-loop-i l = has_number_from l.buffers.words.now l.number l.i l.last ≡ has_number_from l.buffers.words.now l.number l.from l.last

@@ -5,10 +5,13 @@ use native.Mathlib.Omega.{arith}
 use Rattle.definition.specs.Limits.{most_entries}
 use Rattle.codes.proofs.add_code.Goals as goal
 
-pub returns-in-Number : goal.returns-in-Number
-returns-in-Number c = rw c.in-Number.is refl
+pub returns-in-Ok : goal.returns-in-Ok
+returns-in-Ok c = rw c.in-Ok.is refl
+
+pub returns-in-Err : goal.returns-in-Err
+returns-in-Err c = rw (c.in-Err.is, c.from.ensures) refl
 
 pub overflow_mul-result : goal.overflow_mul-result
 overflow_mul-result c =
-    let numbered : c.in-Number.number ≤ most_entries = rw c.in-Number.is at c.requires in
+    let numbered : c.in-Ok.number ≤ most_entries = rw c.in-Ok.is at c.requires in
     omega (arith, numbered)

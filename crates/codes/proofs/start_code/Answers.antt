@@ -2,8 +2,8 @@
 use mathlib.Core.Path.{refl}
 use Rattle.codes.proofs.start_code.Goals as goal
 
-pub returns-in-Begun : goal.returns-in-Begun
-returns-in-Begun c = rw c.in-Begun.is refl
+pub returns-in-Ok : goal.returns-in-Ok
+returns-in-Ok c = rw c.in-Ok.is refl
 
-pub returns-in-Refused : goal.returns-in-Refused
-returns-in-Refused c = rw c.in-Refused.is refl
+pub returns-in-Err : goal.returns-in-Err
+returns-in-Err c = rw (c.in-Err.is, c.from.ensures) refl

@@ -5,10 +5,13 @@ use native.Mathlib.Omega.{arith}
 use Rattle.definition.specs.Limits.{written_bytes}
 use Rattle.codes.proofs.write_code.Goals as goal
 
-pub returns-in-Done : goal.returns-in-Done
-returns-in-Done c = rw c.in-Done.is refl
+pub returns-in-Ok : goal.returns-in-Ok
+returns-in-Ok c = rw c.in-Ok.is refl
+
+pub returns-in-Err : goal.returns-in-Err
+returns-in-Err c = rw (c.in-Err.is, c.from.ensures) refl
 
 pub overflow_mul-result : goal.overflow_mul-result
 overflow_mul-result c =
-    let bounded : c.in-Done.size ≤ written_bytes = rw c.in-Done.is at c.requires in
+    let bounded : c.in-Ok.size ≤ written_bytes = rw c.in-Ok.is at c.requires in
     omega (arith, bounded)

@@ -1,5 +1,4 @@
 -- `copies::copy_blocks` meets its contract. Assumes nothing.
-use Prim.Native.Nat.{◌-◌}
 use borrow.Author.Rules.{rules}
 use Rattle.copies.proofs.Copying.{copied_none, copied_more}
 use Rattle.copies.proofs.copy_blocks.Goals as goal

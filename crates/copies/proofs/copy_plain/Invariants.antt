@@ -1,7 +1,7 @@
 -- `copies::copy_plain` meets its contract. Assumes nothing.
 use mathlib.Core.List.{List}
 use mathlib.Core.Path.{◌≡◌}
-use Prim.Native.Nat.{ℕ, ◌+◌, ◌-◌, ◌≤◌}
+use Prim.Native.Nat.{ℕ, ◌+◌, ◌≤◌}
 use lib.ListN.{length}
 use Rattle.scan.proofs.Runs.{Passed}
 use Rattle.copies.specs.Plain.{is_plain}
@@ -13,6 +13,3 @@ abbrev pub invariant-loop-i : goal.invariant-loop-i
 invariant-loop-i l =
     ((d : List ℕ) → l.at + length l.text ≤ length d → Copied d l.at l.text l.initial.store l.initial.i → Copied d l.at l.text l.store l.i)
     × Passed is_plain l.text l.i × (length l.store ≡ length l.initial.store)
-
-abbrev pub decreases-loop-i : goal.decreases-loop-i
-decreases-loop-i l = length l.text - l.i

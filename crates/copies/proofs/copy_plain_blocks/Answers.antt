@@ -1,6 +1,5 @@
 -- `copies::copy_plain_blocks` meets its contract. Assumes nothing.
 use mathlib.Core.Path.{sym, ◌∙◌}
-use Prim.Native.Nat.{◌-◌}
 use borrow.Author.Rules.{rules}
 use Rattle.definition.specs.Bytes.{newline, backslash}
 use Rattle.blocks.specs.Either.{either}

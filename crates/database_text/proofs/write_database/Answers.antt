@@ -6,12 +6,12 @@ use Rattle.database_text.proofs.write_database.Goals as goal
 
 pub write_image-requires : goal.write_image-requires
 unfolding zeroes
-write_image-requires c = (read_image c.args.depth (map (λ c. c.now) c.args.texts.now) c.args.archive.now _ _ (rw c.in-Accepted.is at c.read_texts-answer.ensures), c.requires)
+write_image-requires c = (read_image c.args.depth (map (λ c. c.now) c.args.texts.now) c.args.archive.now _ _ c.in-Ok.ensures, c.requires)
 
-pub returns-in-Accepted : goal.returns-in-Accepted
+pub returns-in-Ok : goal.returns-in-Ok
 unfolding zeroes
-returns-in-Accepted c = text_told c.args.depth (map (λ c. c.now) c.args.texts.now) c.args.archive.now _ _ (rw c.in-Accepted.is at c.read_texts-answer.ensures) c.write_image.ensures
+returns-in-Ok c = text_told c.args.depth (map (λ c. c.now) c.args.texts.now) c.args.archive.now _ _ c.in-Ok.ensures c.write_image.ensures
 
-pub returns-in-Refused : goal.returns-in-Refused
+pub returns-in-Err : goal.returns-in-Err
 unfolding zeroes
-returns-in-Refused c = refused_told c.args.depth (map (λ c. c.now) c.args.texts.now) c.args.archive.now _ (rw c.in-Refused.is at c.read_texts-answer.ensures) c.refuse.ensures
+returns-in-Err c = refused_told c.args.depth (map (λ c. c.now) c.args.texts.now) c.args.archive.now _ c.in-Err.ensures c.refuse.ensures

@@ -1,30 +1,36 @@
 -- `entry_text::escapes_in` meets its contract. Assumes nothing.
-use Prim.Native.Nat.{◌<◌}
+use mathlib.Core.Path.{◌∙◌}
 use native.Mathlib.Omega.{arith}
-use Rattle.entry_text.proofs.Texts.{escapes_none, escapes_then, escapes_all}
+use borrow.Author.Rules.{rules}
+use Rattle.std.specs.Slice.Iter.{chunks_rest}
+use Rattle.entry_text.proofs.Texts.{counted_none, counted_part, counted_few, counted_all}
 use Rattle.entry_text.proofs.escapes_in.Goals as goal
-use Rattle.entry_text.proofs.escapes_in.Goals.{then-left-lt224, else-left-lt224}
 
-pub escapes_from-requires : goal.escapes_from-requires
-escapes_from-requires c =
-    elim c.if-left-lt224.branch [
-      | then-left-lt224 w ↦ (omega (arith, c.loop-i-test.true, w.end-is), omega (arith, w.end-is), omega (arith, c.loop-i-test.true, w.if-left-lt224.true, w.end-is))
-      | else-left-lt224 w ↦ (omega (arith, w.end-is), omega (arith, c.loop-i-test.true, w.if-left-lt224.false, w.end-is), omega (arith, w.end-is))
-    ]
+pub loop-part-init : goal.loop-part-init
+loop-part-init c =
+    let e = c.into_iter-part-iterator.ensures.into_iter_gives in
+    (search rules, tt, rw (e, c.chunks-part-items.ensures.size) (omega arith), rw (e, c.chunks-part-items.ensures.rest) (counted_none _))
 
-pub loop-i-preserved : goal.loop-i-preserved
-loop-i-preserved c = escapes_then c.loop-i.invariant c.escapes_from.ensures
+pub escapes_of-requires : goal.escapes_of-requires
+escapes_of-requires c = omega (arith, c.in-Some.ensures.steps.1.1, c.loop-part.invariant.2)
 
 pub overflow_add-n : goal.overflow_add-n
-overflow_add-n c = omega (arith, (escapes_then c.loop-i.invariant c.escapes_from.ensures).few)
+overflow_add-n c =
+    omega (
+      arith,
+      counted_few
+          (counted_part c.loop-part.invariant.3 c.in-Some.part.now (chunks_rest c.next.new.self) c.in-Some.ensures.steps.1.0 _ (c.from-n.ensures ∙ c.escapes_of.ensures)),
+      c.well_formed,
+    )
 
-pub loop-i-smaller : goal.loop-i-smaller
-loop-i-smaller c =
-    let ahead : c.loop-i.i < c.if-left-lt224.end = elim c.if-left-lt224.branch [ then-left-lt224 w ↦ omega (arith, c.loop-i-test.true, w.end-is) | else-left-lt224 w ↦ omega (arith, c.loop-i-test.true, w.end-is) ] in
-    omega (arith, c.loop-i-test.true, ahead)
-
-pub loop-i-init : goal.loop-i-init
-loop-i-init c = escapes_none _ _ (omega arith)
+pub loop-part-preserved : goal.loop-part-preserved
+loop-part-preserved c =
+    let steps = c.in-Some.ensures.steps in (
+      search rules,
+      tt,
+      rw steps.0 c.loop-part.invariant.2,
+      counted_part c.loop-part.invariant.3 _ _ steps.1.0 _ (c.from-n.ensures ∙ c.escapes_of.ensures),
+    )
 
 pub returns : goal.returns
-returns c = escapes_all c.loop-i.invariant c.loop-i-test.false
+returns c = counted_all c.loop-part.invariant.3 c.in-None.ensures.steps.1.0

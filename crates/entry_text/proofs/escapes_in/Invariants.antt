@@ -1,11 +1,12 @@
 -- `entry_text::escapes_in` meets its contract. Assumes nothing.
-use Prim.Native.Nat.{◌-◌}
-use lib.ListN.{length}
-use Rattle.entry_text.specs.Lines.{Escapes}
+use Rattle.std.specs.Slice.Iter.{chunks_rest, chunks_size}
+use Prim.Native.Nat.{◌≤◌}
+use Rattle.entry_text.proofs.Texts.{Counted}
 use Rattle.entry_text.proofs.escapes_in.Given as goal
 
-abbrev pub invariant-loop-i : goal.invariant-loop-i
-invariant-loop-i l = Escapes l.bytes 0 l.i l.n
-
-abbrev pub decreases-loop-i : goal.decreases-loop-i
-decreases-loop-i l = length l.bytes - l.i
+abbrev pub invariant-loop-part : goal.invariant-loop-part
+invariant-loop-part l =
+    goal.iterator-loop-part.can_next l.part-iterator
+    × goal.iterator-loop-part.is_finite l.part-iterator
+    × (chunks_size l.part-iterator ≤ 255)
+    × Counted l.bytes (chunks_rest l.part-iterator) l.n

@@ -1,27 +1,16 @@
 -- `escapes::octal_digits` meets its contract. Assumes nothing.
-use Rattle.std.proofs.Common.{◌-◌, sym, ◌∙◌, arith, ltb-false, ltb-true}
+use Rattle.std.proofs.Common.{rules, tests, ◌≡◌, ◌∙◌, ap, List, ℕ, length, take, not}
+use Rattle.std.proofs.lemmas.Iterator.{YieldsList-from_slice}
+use Rattle.std.proofs.lemmas.Iterator.Search.{position_from_yields_List}
+use Rattle.std.specs.List.{position}
+use Rattle.definition.specs.Lists.{take_while}
 use Rattle.definition.specs.Bytes.{is_octal}
-use Rattle.scan.proofs.Runs.{passed_none}
-use Rattle.escapes.proofs.Escapes.{digits_short, digits_stop, digits_more, digits_end}
+use Rattle.scan.proofs.Bridges.{position_run}
+use Rattle.escapes.proofs.Escapes.{three_most}
 use Rattle.escapes.proofs.octal_digits.Goals as goal
 
-pub loop-n-preserved : goal.loop-n-preserved
-loop-n-preserved c = (
-  omega arith,
-  digits_more c.args.text.now c.loop-n.invariant.1 c.loop-n-test.true (ltb-true _ _ c.if-n-text.true-raw)
-      (sym c.is_octal_digit.ensures ∙ c.if-is_octal_digit.true),
-)
-
-pub returns-else-is_octal_digit : goal.returns-else-is_octal_digit
-returns-else-is_octal_digit c =
-    digits_stop c.args.text.now c.loop-n.invariant.1 c.loop-n-test.true (ltb-true _ _ c.if-n-text.true-raw)
-    (sym c.is_octal_digit.ensures ∙ c.if-is_octal_digit.false)
-
-pub loop-n-init : goal.loop-n-init
-loop-n-init c = (omega arith, passed_none is_octal _)
-
-pub returns-else-n-text : goal.returns-else-n-text
-returns-else-n-text c = digits_short c.args.text.now c.loop-n.invariant.1 (ltb-false _ _ c.if-n-text.false-raw)
-
-pub returns-after-loop-n : goal.returns-after-loop-n
-returns-after-loop-n c = digits_end c.args.text.now c.loop-n.invariant.1 c.loop-n-test.false
+pub returns : goal.returns
+returns c =
+    let first : List ℕ = take c.min.result c.args.text.now in
+    let found : c.position.result ≡ position (λ x. not (is_octal x)) first = position_from_yields_List (λ x. not (is_octal x)) _ _ c.position.result c.position.ensures.ran (YieldsList-from_slice _ c.iter.ensures.rest) (λ x b q k. search (rules, tests)) in
+    c.unwrap_or.ensures ∙ position_run is_octal first found ∙ ap (λ (t : List ℕ). length (take_while is_octal t)) (rw c.min.ensures (three_most c.args.text.now))

@@ -1,25 +1,20 @@
 -- `fields::decode` meets its contract. Assumes nothing.
+use Rattle.std.proofs.Common.{◌≡◌, length, subst}
+use Rattle.fields.specs.Fields.{Decodes}
 use native.Mathlib.Omega.{arith}
-use Rattle.fields.proofs.Digits.{no_room, no_pair, no_high, no_low, begun, more, ended}
+use Rattle.fields.proofs.Digits.{no_room, no_pair, no_byte, more, ended}
 use Rattle.fields.proofs.decode.Goals as goal
-
-pub returns-then-high-gt15 : goal.returns-then-high-gt15
-returns-then-high-gt15 c = ended c.loop-n.invariant (no_high _ _ (omega (arith, c.digit-high.ensures, c.if-high-gt15.true)))
-
-pub returns-then-low-gt15 : goal.returns-then-low-gt15
-returns-then-low-gt15 c = ended c.loop-n.invariant (no_low _ _ (omega (arith, c.digit-high.ensures, c.if-high-gt15.false)) (omega (arith, c.digit-low.ensures, c.if-low-gt15.true)))
-
-pub loop-n-preserved : goal.loop-n-preserved
-loop-n-preserved c =
-    rw (c.digit-high.ensures, c.digit-low.ensures)
-    (more c.loop-n.invariant c.loop-n-test.true c.if-rest-lt2.false (omega (arith, c.digit-high.ensures, c.if-high-gt15.false))
-    (omega (arith, c.digit-low.ensures, c.if-low-gt15.false)))
-
-pub returns : goal.returns
-returns c = ended c.loop-n.invariant (no_room _ _ (omega (arith, c.loop-n-test.false, c.loop-n.invariant.long)))
-
-pub loop-n-init : goal.loop-n-init
-loop-n-init c = begun _ _
 
 pub returns-then-rest-lt2 : goal.returns-then-rest-lt2
 returns-then-rest-lt2 c = ended c.loop-n.invariant (no_pair _ _ c.if-rest-lt2.true)
+
+pub returns-in_default : goal.returns-in_default
+returns-in_default c = ended c.loop-n.invariant (no_byte _ _ (rw c.in_default.is at c.byte.ensures))
+
+pub loop-n-preserved : goal.loop-n-preserved
+loop-n-preserved c = more c.loop-n.invariant c.in-Some.c (omega (arith, c.loop-n-test.true, c.loop-n.invariant.long)) c.if-rest-lt2.false (rw c.in-Some.is at c.byte.ensures)
+
+pub returns : goal.returns
+returns c =
+    let e : c.loop-n.n ≡ length c.loop-n.out = omega (arith, c.loop-n-test.false, c.loop-n.invariant.inside, c.loop-n.invariant.long) in
+    subst (Decodes _ _ _) e (ended c.loop-n.invariant (no_room _ _ (omega (arith, c.loop-n-test.false))))

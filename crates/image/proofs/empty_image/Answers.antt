@@ -1,6 +1,7 @@
 -- `image::empty_image` meets its contract. Assumes nothing.
-use Rattle.image.proofs.Clearing.{cleared_whole}
+use borrow.Author.Rules.{rules}
+use Rattle.image.proofs.Clearing.{filled}
 use Rattle.image.proofs.empty_image.Goals as goal
 
 pub returns : goal.returns
-returns c = (cleared_whole c.args.words.now c.clear_words.ensures, cleared_whole c.args.store.now c.clear_bytes.ensures)
+returns c = (filled _ (c.fill.ensures.after (search rules)), filled _ (c.fill-2.ensures.after (search rules)))

@@ -1,17 +1,13 @@
 -- `include_lines::line_after` meets its contract. Assumes nothing.
-use native.Mathlib.Omega.{arith}
 use Rattle.parser.proofs.Entries.{value_inside}
-use Rattle.include_lines.proofs.Passing.{passed_inside, after_newline, at_the_end}
+use Rattle.include_lines.proofs.Passing.{after_newline, at_the_end}
 use Rattle.include_lines.proofs.line_after.Goals as goal
 
 pub overflow_sub-passed : goal.overflow_sub-passed
-overflow_sub-passed c = value_inside c.args.text.now _ c.requires.1 _ c.skip_blanks-rest.ensures.0
-
-pub overflow_add-passed : goal.overflow_add-passed
-overflow_add-passed c = omega (arith, passed_inside c.args.text.now _ c.requires.1 _ c.skip_blanks-rest.ensures.0 _ c.value_length-taken.ensures, c.well_formed.1.0.0)
+overflow_sub-passed c = value_inside c.args.text.now _ c.requires _ c.skip_blanks-rest.ensures.0
 
 pub returns-then-passed-text : goal.returns-then-passed-text
-returns-then-passed-text c = after_newline c.args.text.now _ c.requires.1 _ c.skip_blanks-rest.ensures.0 _ c.value_length-taken.ensures c.if-passed-text.true
+returns-then-passed-text c = after_newline c.args.text.now _ c.requires _ c.skip_blanks-rest.ensures.0 _ c.value_length-taken.ensures c.if-passed-text.true
 
 pub returns-else-passed-text : goal.returns-else-passed-text
-returns-else-passed-text c = at_the_end c.args.text.now _ c.requires.1 _ c.skip_blanks-rest.ensures.0 _ c.value_length-taken.ensures c.if-passed-text.false
+returns-else-passed-text c = at_the_end c.args.text.now _ c.requires _ c.skip_blanks-rest.ensures.0 _ c.value_length-taken.ensures c.if-passed-text.false

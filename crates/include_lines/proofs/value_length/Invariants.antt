@@ -4,8 +4,8 @@ use lib.ListN.{length}
 use Rattle.include_lines.proofs.Passing.{Passing}
 use Rattle.include_lines.proofs.value_length.Given as goal
 
-abbrev pub invariant-loop-i : goal.invariant-loop-i
-invariant-loop-i l = Passing l.text l.i
+abbrev pub invariant-loop-n : goal.invariant-loop-n
+invariant-loop-n l = Passing l.text l.i
 
-abbrev pub decreases-loop-i : goal.decreases-loop-i
-decreases-loop-i l = length l.text - l.i
+abbrev pub decreases-loop-n : goal.decreases-loop-n
+decreases-loop-n l = length l.text - l.i

@@ -12,26 +12,26 @@ parts-init c = taking_first c.args.folder.now c.args.name.now c.args.path.now c.
 pub slice_bounds-take_part-end : goal.slice_bounds-take_part-end
 slice_bounds-take_part-end c = sym (length-take-le c.part_len-n.result c.parts.rest.now (part_most _ _ c.part_len-n.ensures))
 
-pub take_part-reduced-requires : goal.take_part-reduced-requires
-take_part-reduced-requires c = (c.parts.invariant.fits, omega (arith, c.parts.invariant.over_most, c.parts-test.true))
+pub take_part-requires : goal.take_part-requires
+take_part-requires c = (c.parts.invariant.fits, omega (arith, c.parts.invariant.over_most, c.parts-test.true))
 
-pub returns-in_default : goal.returns-in_default
-returns-in_default c = taking_none c.parts.invariant c.part_len-n.ensures c.take_part-reduced.ensures c.in_default.is
+pub returns-in_err-so_far : goal.returns-in_err-so_far
+returns-in_err-so_far c = rw c.from_residual.ensures (taking_none c.parts.invariant c.part_len-n.ensures c.take_part.ensures c.in_err-so_far.was)
 
 pub parts-smaller-then-n-rest : goal.parts-smaller-then-n-rest
-parts-smaller-then-n-rest c = taking_less c.parts.invariant c.part_len-n.ensures c.take_part-reduced.ensures c.in-Go.is c.if-n-rest.true
+parts-smaller-then-n-rest c = taking_less c.parts.invariant c.part_len-n.ensures c.take_part.ensures c.in_ok-so_far.was c.if-n-rest.true
 
 pub parts-preserved-then-n-rest : goal.parts-preserved-then-n-rest
-parts-preserved-then-n-rest c = taking_next c.parts.invariant c.part_len-n.ensures c.take_part-reduced.ensures c.in-Go.is c.if-n-rest.true
+parts-preserved-then-n-rest c = taking_next c.parts.invariant c.part_len-n.ensures c.take_part.ensures c.in_ok-so_far.was c.if-n-rest.true
 
 pub returns-then-in_name : goal.returns-then-in_name
-returns-then-in_name c = taking_last c.parts.invariant c.part_len-n.ensures c.take_part-reduced.ensures c.in-Go.is c.if-n-rest.false c.if-in_name.true
+returns-then-in_name c = taking_last c.parts.invariant c.part_len-n.ensures c.take_part.ensures c.in_ok-so_far.was c.if-n-rest.false c.if-in_name.true
 
 pub parts-smaller : goal.parts-smaller
-parts-smaller c = name_less c.parts.invariant c.part_len-n.ensures c.take_part-reduced.ensures c.in-Go.is c.if-n-rest.false c.if-in_name.false
+parts-smaller c = name_less c.parts.invariant c.part_len-n.ensures c.take_part.ensures c.in_ok-so_far.was c.if-n-rest.false c.if-in_name.false
 
 pub parts-preserved : goal.parts-preserved
-parts-preserved c = taking_name c.parts.invariant c.part_len-n.ensures c.take_part-reduced.ensures c.in-Go.is c.if-n-rest.false c.if-in_name.false c.parts-test.true
+parts-preserved c = taking_name c.parts.invariant c.part_len-n.ensures c.take_part.ensures c.in_ok-so_far.was c.if-n-rest.false c.if-in_name.false c.parts-test.true
 
 pub returns : goal.returns
 returns c = taking_end c.parts.invariant c.parts-test.false

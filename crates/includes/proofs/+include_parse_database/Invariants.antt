@@ -13,7 +13,7 @@ abbrev pub decreases-parse_database : goal.decreases-parse_database
 decreases-parse_database l = 2 * l.depth + 1
 
 abbrev pub invariant-parse_database-loop-rest : goal.invariant-parse_database-loop-rest
-invariant-parse_database-loop-rest l = Reading l.origin l.depth (files_of l.archive) l.folder l.text (world l.initial.s l.initial.words l.initial.store) l.s l.words l.store l.rest
+invariant-parse_database-loop-rest l = Reading l.origin l.depth (files_of l.archive.bytes.now) l.folder l.text (world l.initial.s l.initial.words l.initial.store) l.s l.words l.store l.rest
 
 abbrev pub decreases-parse_database-loop-rest : goal.decreases-parse_database-loop-rest
 decreases-parse_database-loop-rest l = length l.rest

@@ -1,6 +1,6 @@
 -- `kept_parts::take_part` meets its contract. Assumes nothing.
 use mathlib.Core.Path.{sym, ap, ◌∙◌}
-use Rattle.kept_parts.specs.declared.Reduced.TheVariants.{Go}
+use Rattle.std.specs.Prelude.{Some}
 use Rattle.kept_parts.specs.Keeping.{did}
 use Rattle.kept_parts.proofs.Storing.{part_empty, part_dot, part_up, part_name}
 use Rattle.kept_parts.proofs.take_part.Goals as goal
@@ -16,7 +16,7 @@ returns-then-is_dot_dot c =
 
 pub returns : goal.returns
 returns c =
-    ((λ i. did (Go (c.add_part.ensures.0 i)) (c.add_part.ensures.1 i))
+    ((λ i. did (Some (c.add_part.ensures.0 i)) (c.add_part.ensures.1 i))
     ∙ part_name c.args.part.now c.args.kept c.args.path.now c.if-part-eq0.false
     (sym c.is_dot.ensures ∙ c.if-is_dot.false) (sym c.is_dot_dot.ensures ∙ c.if-is_dot_dot.false))
 

@@ -2,10 +2,7 @@
 use mathlib.Core.Path.{◌≡◌, sym, ◌∙◌}
 use Prim.Native.Nat.{◌+◌, ◌-◌}
 use native.Mathlib.Omega.{arith}
-use lib.ListN.{length, get_or}
-use Rattle.definition.specs.Bytes.{is_binding}
-use Rattle.key_end.specs.Ends.{ends_in}
-use Rattle.key_end.proofs.Ends.{short_end, ends_first, ends_more, other_end, ends_binding, dot_binds, star_binds}
+use Rattle.key_end.proofs.Ends.{short_end, ends_first, ends_more, other_end, ends_binding}
 use Rattle.key_end.proofs.ends_in.Goals as goal
 
 pub returns-then-key-n : goal.returns-then-key-n
@@ -22,12 +19,5 @@ loop-i-preserved c =
     let z : c.loop-i.i ≡ c.loop-i.i - 1 + 1 = omega arith in
     (omega arith, ends_more c.args.key.now c.args.name.now c.if-key-n.false (c.loop-i.i - 1) (omega arith) (rw z at c.loop-i.invariant.1) c.if-key-at.false)
 
-pub returns-then-b-eq46 : goal.returns-then-b-eq46
-returns-then-b-eq46 c =
-    let name_ends : ends_in c.args.key.now c.args.name.now ≡ is_binding (get_or c.args.key.now (length c.args.key.now - length c.args.name.now - 1) 0) = ends_binding _ _ c.if-key-n.false c.loop-i.i c.loop-i-test.false c.loop-i.invariant.1 in
-    sym (name_ends ∙ dot_binds _ c.if-b-eq46.true)
-
 pub returns : goal.returns
-returns c =
-    let name_ends : ends_in c.args.key.now c.args.name.now ≡ is_binding (get_or c.args.key.now (length c.args.key.now - length c.args.name.now - 1) 0) = ends_binding _ _ c.if-key-n.false c.loop-i.i c.loop-i-test.false c.loop-i.invariant.1 in
-    sym (name_ends ∙ star_binds _ c.if-b-eq46.false)
+returns c = c.is_binding.ensures ∙ sym (ends_binding _ _ c.if-key-n.false c.loop-i.i c.loop-i-test.false c.loop-i.invariant.1)

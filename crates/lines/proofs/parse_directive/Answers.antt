@@ -1,21 +1,17 @@
 -- `lines::parse_directive` meets its contract. Assumes nothing.
-use mathlib.Core.Path.{◌≡◌, sym, ◌∙◌}
+use mathlib.Core.Path.{sym, ◌∙◌}
 use native.Mathlib.Omega.{arith}
-use Rattle.lines.specs.Places.{directive_in, line_in}
+use Rattle.lines.specs.Places.{directive_in}
 use Rattle.lines.proofs.Fronts.{directive_line, name_start}
 use Rattle.lines.proofs.parse_directive.Goals as goal
 
 pub overflow_add-result : goal.overflow_add-result
-overflow_add-result c = omega (arith, name_start c.args.text.now c.requires.0 _ _ (sym c.in-Named.is ∙ c.parse_include-named.ensures), c.well_formed.0.0)
+overflow_add-result c = omega (arith, name_start c.args.text.now c.requires.0 (sym c.in-Some.is ∙ c.parse_include.ensures), c.well_formed.0.0)
 
-pub returns-in-Named : goal.returns-in-Named
+pub returns-in-Some : goal.returns-in-Some
 unfolding directive_in
-returns-in-Named c =
-    let line-in : directive_in c.line_end-end.result c.parse_include-named.result ≡ line_in c.args.text.now = directive_line _ c.requires.0 c.requires.1 _ c.line_end-end.ensures _ c.parse_include-named.ensures in
-    rw c.in-Named.is at line-in
+returns-in-Some c = rw c.in-Some.is at (directive_line _ c.requires.0 c.requires.1 _ c.line_end-end.ensures _ c.parse_include.ensures)
 
-pub returns-in-Other : goal.returns-in-Other
+pub returns-in-None : goal.returns-in-None
 unfolding directive_in
-returns-in-Other c =
-    let line-in : directive_in c.line_end-end.result c.parse_include-named.result ≡ line_in c.args.text.now = directive_line _ c.requires.0 c.requires.1 _ c.line_end-end.ensures _ c.parse_include-named.ensures in
-    rw c.in-Other.is at line-in
+returns-in-None c = rw c.in-None.is at (directive_line _ c.requires.0 c.requires.1 _ c.line_end-end.ensures _ c.parse_include.ensures)

@@ -1,11 +1,7 @@
 -- `list_lines::put_entries` meets its contract. Assumes nothing.
-use Prim.Native.Nat.{◌-◌, ◌≤◌}
 use Rattle.printing.proofs.Pieces.{Walk}
 use Rattle.list_lines.proofs.Rows.{lines_left}
 use Rattle.list_lines.proofs.put_entries.Given as goal
 
 abbrev pub invariant-loop-i : goal.invariant-loop-i
-invariant-loop-i l = Walk (lines_left l.contents l.bodies l.count 0) l.initial.out l.at (lines_left l.contents l.bodies l.count l.i) l.out l.end × (l.i ≤ l.count)
-
-abbrev pub decreases-loop-i : goal.decreases-loop-i
-decreases-loop-i l = l.count - l.i
+invariant-loop-i l = Walk (lines_left l.contents l.bodies l.count 0) l.initial.out (lines_left l.contents l.bodies l.count l.i) l.out

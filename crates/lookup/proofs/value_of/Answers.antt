@@ -1,15 +1,10 @@
 -- `lookup::value_of` meets its contract. Assumes nothing.
-use mathlib.Core.List.{[]}
-use mathlib.Core.Path.{refl}
-use borrow.Author.Tests.{lt-ltb, le-ltb}
-use Rattle.lookup.specs.Searches.{entry_found, value_in}
-use Rattle.lookup.proofs.Looking.{found_is}
+use mathlib.Core.Path.{ap}
+use Rattle.definition.specs.Lookup.{Place, given}
+use Rattle.lookup.specs.Searches.{value_in}
+use Rattle.lookup.proofs.Looking.{place_is}
 use Rattle.lookup.proofs.value_of.Goals as goal
 
-pub returns-then-entry-last : goal.returns-then-entry-last
-unfolding value_in entry_found
-returns-then-entry-last c = rw (lt-ltb _ _ c.if-entry-last.true) (found_is _ [] _ _ c.row_at-row.ensures)
-
 pub returns : goal.returns
-unfolding value_in entry_found
-returns c = rw (le-ltb _ _ c.if-entry-last.false) refl
+unfolding value_in
+returns c = rw c.in-Some.is (ap (λ (x : Place). given x) (place_is _ _ _ c.row-row.ensures))

@@ -1,10 +1,6 @@
 -- `migration::carry_rows` meets its contract. The invariant: the rows before row i are written. Assumes nothing.
-use Prim.Native.Nat.{◌-◌}
 use Rattle.migration.proofs.Carrying.{Carrying}
 use Rattle.migration.proofs.carry_rows.Given as goal
 
 abbrev pub invariant-loop-i : goal.invariant-loop-i
 invariant-loop-i l = Carrying l.old l.initial.words l.count l.words l.i
-
-abbrev pub decreases-loop-i : goal.decreases-loop-i
-decreases-loop-i l = l.count - l.i

@@ -1,11 +1,8 @@
 -- `paths::folder_of` meets its contract. The invariant: no `/` stands from i on. Assumes nothing.
-use mathlib.Core.Bool.{false}
 use mathlib.Core.Path.{◌≡◌, sym, ap, refl}
-use Prim.Native.Nat.{◌-◌}
 use native.Mathlib.Omega.{arith}
-use lib.Seq.{drop-length, length-take-le}
+use lib.Seq.{drop-length}
 use lib.Dec.{eqb}
-use borrow.Author.Rules.{rules}
 use Rattle.definition.specs.Bytes.{slash}
 use Rattle.definition.specs.Lists.{any}
 use Rattle.paths.proofs.Folders.{folder_none, folder_here, folder_back}
@@ -13,18 +10,15 @@ use Rattle.paths.proofs.folder_of.Goals as goal
 
 pub loop-i-init : goal.loop-i-init
 unfolding any
-loop-i-init c = (search rules, ap (any (eqb slash)) (drop-length c.args.name.now))
-
-pub slice_bounds-result-end : goal.slice_bounds-result-end
-slice_bounds-result-end c = sym (length-take-le (c.loop-i.i - 1) c.args.name.now (omega arith))
+loop-i-init c = ap (any (eqb slash)) (drop-length c.args.name.now)
 
 pub returns-then-name-i-eq47 : goal.returns-then-name-i-eq47
-returns-then-name-i-eq47 c = (sym (folder_here c.args.name.now c.loop-i.i c.loop-i-test.true c.loop-i.invariant.0 c.loop-i.invariant.1 c.if-name-i-eq47.true), refl)
+returns-then-name-i-eq47 c = (sym (folder_here c.args.name.now c.loop-i.i c.loop-i-test.true c.loop-i.auto.i c.loop-i.invariant c.if-name-i-eq47.true), refl)
 
 pub loop-i-preserved : goal.loop-i-preserved
-loop-i-preserved c = (search rules, folder_back c.args.name.now c.loop-i.i c.loop-i-test.true c.loop-i.invariant.0 c.loop-i.invariant.1 c.if-name-i-eq47.false)
+loop-i-preserved c = folder_back c.args.name.now c.loop-i.i c.loop-i-test.true c.loop-i.auto.i c.loop-i.invariant c.if-name-i-eq47.false
 
 pub returns : goal.returns
 returns c =
     let z : c.loop-i.i ≡ 0 = omega arith in
-    (sym (folder_none c.args.name.now (rw z at c.loop-i.invariant.1)), refl)
+    (sym (folder_none c.args.name.now (rw z at c.loop-i.invariant)), refl)

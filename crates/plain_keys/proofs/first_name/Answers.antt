@@ -6,7 +6,7 @@ use Rattle.plain_keys.proofs.Keys.{bound_first, free_first}
 use Rattle.plain_keys.proofs.first_name.Goals as goal
 
 pub name_length-n-requires : goal.name_length-n-requires
-name_length-n-requires c = (c.requires.0, ended_rest c.requires.1 1 (omega (arith, binding_on c.requires.1 0 c.requires.1.some (sym c.is_binding.ensures ∙ c.if-is_binding.true))))
+name_length-n-requires c = (ended_rest c.requires 1 (omega (arith, binding_on c.requires 0 c.requires.some (sym c.is_binding.ensures ∙ c.if-is_binding.true))))
 
 pub returns-then-is_binding : goal.returns-then-is_binding
 returns-then-is_binding c = bound_first (sym c.is_binding.ensures ∙ c.if-is_binding.true) _ c.name_length-n.ensures.0

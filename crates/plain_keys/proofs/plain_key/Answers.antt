@@ -1,18 +1,15 @@
 -- `plain_keys::plain_key` meets its contract. Assumes nothing.
 use mathlib.Core.Path.{sym, ◌∙◌}
-use Prim.Native.Nat.{◌+◌, ◌-◌, ◌<◌}
 use native.Mathlib.Omega.{arith}
-use lib.ListN.{length}
-use borrow.Author.Tests.{not-true, not-false}
 use Rattle.plain_keys.proofs.Ends.{binding_on, ended_rest}
-use Rattle.plain_keys.proofs.Keys.{first_most, Keying, keying_first, keying_none, keying_over, keying_other, keying_more}
+use Rattle.plain_keys.proofs.Keys.{first_most, keying_first, keying_none, keying_over, keying_other, keying_more}
 use Rattle.plain_keys.proofs.plain_key.Goals as goal
 
 pub overflow_sub-extra : goal.overflow_sub-extra
 overflow_sub-extra c = first_most c.first_name-first.ensures
 
 pub loop-start-init : goal.loop-start-init
-loop-start-init c = keying_first c.requires.1 c.first_name-first.ensures
+loop-start-init c = keying_first c.requires c.first_name-first.ensures
 
 pub bounds-text-i : goal.bounds-text-i
 bounds-text-i c = c.loop-start.invariant.inside
@@ -21,59 +18,56 @@ pub returns-then-c-eq58 : goal.returns-then-c-eq58
 returns-then-c-eq58 c = keying_over c.loop-start.invariant c.loop-start-test.true c.if-c-eq58.true
 
 pub returns-then-not-is_binding : goal.returns-then-not-is_binding
-returns-then-not-is_binding c = keying_other c.loop-start.invariant c.loop-start-test.true c.if-c-eq58.false (sym c.is_binding.ensures ∙ not-true _ c.if-not-is_binding.true-raw)
+returns-then-not-is_binding c = keying_other c.loop-start.invariant c.loop-start-test.true c.if-c-eq58.false (sym c.is_binding.ensures ∙ c.if-not-is_binding.true)
 
 pub overflow_add-start : goal.overflow_add-start
 overflow_add-start c =
-    let on : c.loop-start.i + 1 < length c.args.text.now = binding_on c.requires.1 _ c.loop-start.invariant.inside (sym c.is_binding.ensures ∙ not-false _ c.if-not-is_binding.false-raw) in
+    let on = binding_on c.requires _ c.loop-start.invariant.inside (sym c.is_binding.ensures ∙ c.if-not-is_binding.false) in
     omega (arith, on, c.well_formed.1.0.0)
 
 pub slice_bounds-name_length-count : goal.slice_bounds-name_length-count
 slice_bounds-name_length-count c =
-    let on : c.loop-start.i + 1 < length c.args.text.now = binding_on c.requires.1 _ c.loop-start.invariant.inside (sym c.is_binding.ensures ∙ not-false _ c.if-not-is_binding.false-raw) in
+    let on = binding_on c.requires _ c.loop-start.invariant.inside (sym c.is_binding.ensures ∙ c.if-not-is_binding.false) in
     omega (arith, on)
 
 pub slice_bounds-name_length-start : goal.slice_bounds-name_length-start
 slice_bounds-name_length-start c =
-    let on : c.loop-start.i + 1 < length c.args.text.now = binding_on c.requires.1 _ c.loop-start.invariant.inside (sym c.is_binding.ensures ∙ not-false _ c.if-not-is_binding.false-raw) in
+    let on = binding_on c.requires _ c.loop-start.invariant.inside (sym c.is_binding.ensures ∙ c.if-not-is_binding.false) in
     omega (arith, on)
 
 pub name_length-requires : goal.name_length-requires
 name_length-requires c =
-    let on : c.loop-start.i + 1 < length c.args.text.now = binding_on c.requires.1 _ c.loop-start.invariant.inside (sym c.is_binding.ensures ∙ not-false _ c.if-not-is_binding.false-raw) in
-    (c.requires.0, ended_rest c.requires.1 _ on)
+    let on = binding_on c.requires _ c.loop-start.invariant.inside (sym c.is_binding.ensures ∙ c.if-not-is_binding.false) in
+    (ended_rest c.requires _ on)
 
 pub overflow_add-i : goal.overflow_add-i
 overflow_add-i c =
-    let next : Keying c.args.text.now (1 - c.first_name-first.result.start) (c.loop-start.count + 1) (c.loop-start.i + 1) (c.loop-start.i + 1 + c.name_length.result) =
-    keying_more c.loop-start.invariant c.loop-start-test.true c.if-c-eq58.false c.requires.1 (sym c.is_binding.ensures ∙ not-false _ c.if-not-is_binding.false-raw) _
+    let next =
+    keying_more c.loop-start.invariant c.loop-start-test.true c.if-c-eq58.false c.requires (sym c.is_binding.ensures ∙ c.if-not-is_binding.false) _
     c.name_length.ensures.0
     in
     omega (arith, next.inside, c.well_formed.1.0.0)
 
 pub overflow_add-count : goal.overflow_add-count
 overflow_add-count c =
-    let next : Keying c.args.text.now (1 - c.first_name-first.result.start) (c.loop-start.count + 1) (c.loop-start.i + 1) (c.loop-start.i + 1 + c.name_length.result) =
-    keying_more c.loop-start.invariant c.loop-start-test.true c.if-c-eq58.false c.requires.1 (sym c.is_binding.ensures ∙ not-false _ c.if-not-is_binding.false-raw) _
+    let next =
+    keying_more c.loop-start.invariant c.loop-start-test.true c.if-c-eq58.false c.requires (sym c.is_binding.ensures ∙ c.if-not-is_binding.false) _
     c.name_length.ensures.0
     in
     omega (arith, next.count_most, next.inside, c.well_formed.1.0.0)
 
 pub loop-start-smaller : goal.loop-start-smaller
 loop-start-smaller c =
-    let next : Keying c.args.text.now (1 - c.first_name-first.result.start) (c.loop-start.count + 1) (c.loop-start.i + 1) (c.loop-start.i + 1 + c.name_length.result) =
-    keying_more c.loop-start.invariant c.loop-start-test.true c.if-c-eq58.false c.requires.1 (sym c.is_binding.ensures ∙ not-false _ c.if-not-is_binding.false-raw) _
+    let next =
+    keying_more c.loop-start.invariant c.loop-start-test.true c.if-c-eq58.false c.requires (sym c.is_binding.ensures ∙ c.if-not-is_binding.false) _
     c.name_length.ensures.0
     in
     omega (arith, next.inside)
 
 pub loop-start-preserved : goal.loop-start-preserved
 loop-start-preserved c =
-    let next : Keying c.args.text.now (1 - c.first_name-first.result.start) (c.loop-start.count + 1) (c.loop-start.i + 1) (c.loop-start.i + 1 + c.name_length.result) =
-    keying_more c.loop-start.invariant c.loop-start-test.true c.if-c-eq58.false c.requires.1 (sym c.is_binding.ensures ∙ not-false _ c.if-not-is_binding.false-raw) _
+    keying_more c.loop-start.invariant c.loop-start-test.true c.if-c-eq58.false c.requires (sym c.is_binding.ensures ∙ c.if-not-is_binding.false) _
     c.name_length.ensures.0
-    in
-    next
 
 pub returns : goal.returns
 returns c = keying_none c.loop-start.invariant c.loop-start-test.false

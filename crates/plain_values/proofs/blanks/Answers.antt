@@ -5,13 +5,13 @@ use Rattle.plain_values.proofs.BlankRuns.{blank_first, blank_more, blank_over}
 use Rattle.plain_values.proofs.blanks.Goals as goal
 
 pub loop-i-preserved : goal.loop-i-preserved
-loop-i-preserved c = blank_more c.requires.1 c.loop-i.invariant (sym c.is_blank.ensures ∙ c.loop-i-test.true)
+loop-i-preserved c = blank_more c.requires c.loop-i.invariant (sym c.is_blank.ensures ∙ c.loop-i-test.true)
 
 pub returns : goal.returns
 returns c = blank_over c.loop-i.invariant (sym c.is_blank.ensures ∙ c.loop-i-test.false)
 
 pub loop-i-init : goal.loop-i-init
-loop-i-init c = blank_first c.requires.1
+loop-i-init c = blank_first c.requires
 
 pub bounds-text-i : goal.bounds-text-i
 bounds-text-i c = c.loop-i.invariant.inside

@@ -13,7 +13,7 @@ use Rattle.query.proofs.split_names.Goals.{then-count-starts, else-count-starts}
 
 pub returns-then-text-most : goal.returns-then-text-most
 returns-then-text-most c = (
-  c.no_parts.ensures ∙ parsed_long c.args.most c.args.text.now c.args.starts.now c.if-text-most.true,
+  parsed_long c.args.most c.args.text.now c.args.starts.now c.if-text-most.true,
   kept_none c.args.most c.args.text.now c.args.starts.now c.if-text-most.true,
   lengths_none c.args.most c.args.text.now c.args.lengths.now c.if-text-most.true,
 )
@@ -31,7 +31,7 @@ loop-n-preserved c =
 pub returns-then-rest-gt0 : goal.returns-then-rest-gt0
 returns-then-rest-gt0 c =
     let z = sym c.next_component-n.ensures ∙ c.if-n-eq0.true in (
-      c.no_parts-then-rest-gt0.ensures ∙ parsed_malformed _ c.loop-n.invariant c.if-text-most.false c.if-rest-gt0.true z,
+      parsed_malformed _ c.loop-n.invariant c.if-text-most.false c.if-rest-gt0.true z,
       kept_found _ c.loop-n.invariant c.if-text-most.false z,
       lengths_found _ c.loop-n.invariant c.if-text-most.false z,
     )
@@ -39,7 +39,7 @@ returns-then-rest-gt0 c =
 pub returns-then-starts-count : goal.returns-then-starts-count
 returns-then-starts-count c =
     let z = sym c.next_component-n.ensures ∙ c.if-n-eq0.true in (
-      c.no_parts-then-starts-count.ensures ∙ parsed_many _ c.loop-n.invariant c.if-text-most.false (omega arith) (omega (arith, c.if-starts-count.true, as_long c.loop-n.invariant)),
+      parsed_many _ c.loop-n.invariant c.if-text-most.false (omega arith) (omega (arith, c.if-starts-count.true, as_long c.loop-n.invariant)),
       kept_found _ c.loop-n.invariant c.if-text-most.false z,
       lengths_found _ c.loop-n.invariant c.if-text-most.false z,
     )

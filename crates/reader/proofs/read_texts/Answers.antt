@@ -1,80 +1,47 @@
 -- `reader::read_texts` meets its contract: 1, 2, 3, 15, and then the fronts of the buffers. Assumes nothing.
+use Rattle.std.proofs.lemmas.Result.{err_from_is_err_and}
 use mathlib.Core.List.{map}
 use mathlib.Core.Path.{sym, ◌∙◌}
-use borrow.Author.Tests.{not-true, not-false}
-use Rattle.reader.proofs.Finishing.{short_contents, short_bodies, long_text, not_laid_out, too_deep, Admitted, words_front, bytes_front, fronts}
+use Rattle.reader.specs.Said.{left_by}
+use Rattle.reader.proofs.Finishing.{front_left, short_contents, short_bodies, long_text, not_laid_out, too_deep, fronts}
 use Rattle.reader.proofs.read_texts.Goals as goal
 
-pub returns-then-contents-lt-CONTENTS_WORDS : goal.returns-then-contents-lt-CONTENTS_WORDS
-returns-then-contents-lt-CONTENTS_WORDS c = short_contents c.args.depth (map (λ x. x.now) c.args.texts.now) c.args.archive.now c.args.contents.now c.args.bodies.now c.if-contents-lt-CONTENTS_WORDS.true
+pub returns-in_default : goal.returns-in_default
+returns-in_default c = short_contents c.args.depth (map (λ x. x.now) c.args.texts.now) c.args.archive.now c.args.contents.now c.args.bodies.now c.in_default.ensures.cases
 
-pub returns-then-bodies-lt-BODY_BYTES : goal.returns-then-bodies-lt-BODY_BYTES
-returns-then-bodies-lt-BODY_BYTES c = short_bodies c.args.depth (map (λ x. x.now) c.args.texts.now) c.args.archive.now c.args.contents.now c.args.bodies.now c.if-contents-lt-CONTENTS_WORDS.false c.if-bodies-lt-BODY_BYTES.true
+pub returns-in_default-first_chunk_mut : goal.returns-in_default-first_chunk_mut
+returns-in_default-first_chunk_mut c =
+    rw (front_left _ _ _ c.in-Some.ensures.cases)
+    (short_bodies c.args.depth (map (λ x. x.now) c.args.texts.now) c.args.archive.now c.args.contents.now c.args.bodies.now c.in-Some.ensures.cases.enough c.in_default-first_chunk_mut.ensures.cases)
 
 pub returns-then-is_long : goal.returns-then-is_long
 returns-then-is_long c =
-    long_text c.args.depth (map (λ x. x.now) c.args.texts.now) c.args.archive.now c.args.contents.now c.args.bodies.now c.if-contents-lt-CONTENTS_WORDS.false c.if-bodies-lt-BODY_BYTES.false
-    (sym c.is_long.ensures ∙ c.if-is_long.true)
+    rw (front_left _ _ _ c.in-Some.ensures.cases, front_left _ _ _ c.in-Some-first_chunk_mut.ensures.cases)
+    (long_text c.args.depth (map (λ x. x.now) c.args.texts.now) c.args.archive.now c.args.contents.now c.args.bodies.now c.in-Some.ensures.cases.enough c.in-Some-first_chunk_mut.ensures.cases.enough
+    (sym c.is_long.ensures ∙ c.if-is_long.true))
 
-pub returns-then-not-is_archive : goal.returns-then-not-is_archive
-returns-then-not-is_archive c =
-    not_laid_out c.args.depth (map (λ x. x.now) c.args.texts.now) c.args.archive.now c.args.contents.now c.args.bodies.now c.if-contents-lt-CONTENTS_WORDS.false c.if-bodies-lt-BODY_BYTES.false
-    (sym c.is_long.ensures ∙ c.if-is_long.false) (sym c.is_archive.ensures ∙ not-true _ c.if-not-is_archive.true-raw)
+pub returns-in_err-judged : goal.returns-in_err-judged
+returns-in_err-judged c =
+    let p = err_from_is_err_and c.from_residual.result c.from_residual.ensures.1 in
+    rw (p.1, p.2, c.in_err-judged.ensures.0)
+    (rw (front_left _ _ _ c.in-Some.ensures.cases, front_left _ _ _ c.in-Some-first_chunk_mut.ensures.cases)
+    (not_laid_out c.args.depth (map (λ x. x.now) c.args.texts.now) c.args.archive.now c.args.contents.now c.args.bodies.now c.in-Some.ensures.cases.enough c.in-Some-first_chunk_mut.ensures.cases.enough
+    (sym c.is_long.ensures ∙ c.if-is_long.false) c.in_err-judged.ensures.1))
 
 pub returns-then-depth-gt-GREATEST_DEPTH : goal.returns-then-depth-gt-GREATEST_DEPTH
 returns-then-depth-gt-GREATEST_DEPTH c =
-    too_deep c.args.depth (map (λ x. x.now) c.args.texts.now) c.args.archive.now c.args.contents.now c.args.bodies.now c.if-contents-lt-CONTENTS_WORDS.false c.if-bodies-lt-BODY_BYTES.false
-    (sym c.is_long.ensures ∙ c.if-is_long.false) (sym c.is_archive.ensures ∙ not-false _ c.if-not-is_archive.false-raw) c.if-depth-gt-GREATEST_DEPTH.true
-
-pub fill-requires : goal.fill-requires
-fill-requires c =
-    let admitted : (Admitted c.args.depth (map (λ x. x.now) c.args.texts.now) c.args.archive.now c.args.contents.now c.args.bodies.now) =
-    record {
-      words = c.if-contents-lt-CONTENTS_WORDS.false;
-      bytes = c.if-bodies-lt-BODY_BYTES.false;
-      short = sym c.is_long.ensures ∙ c.if-is_long.false;
-      laid = sym c.is_archive.ensures ∙ not-false _ c.if-not-is_archive.false-raw;
-      shallow = c.if-depth-gt-GREATEST_DEPTH.false;
-    }
-    in
-    let h = admitted in
-    (words_front h, bytes_front h, h.laid)
+    rw (front_left _ _ _ c.in-Some.ensures.cases, front_left _ _ _ c.in-Some-first_chunk_mut.ensures.cases)
+    (too_deep c.args.depth (map (λ x. x.now) c.args.texts.now) c.args.archive.now c.args.contents.now c.args.bodies.now c.in-Some.ensures.cases.enough c.in-Some-first_chunk_mut.ensures.cases.enough
+    (sym c.is_long.ensures ∙ c.if-is_long.false) c.in_ok-judged.ensures.1 c.if-depth-gt-GREATEST_DEPTH.true)
 
 pub returns : goal.returns
 returns c =
-    let admitted : (Admitted c.args.depth (map (λ x. x.now) c.args.texts.now) c.args.archive.now c.args.contents.now c.args.bodies.now) =
-    record {
-      words = c.if-contents-lt-CONTENTS_WORDS.false;
-      bytes = c.if-bodies-lt-BODY_BYTES.false;
+    fronts
+    (record {
+      words = c.in-Some.ensures.cases.enough;
+      bytes = c.in-Some-first_chunk_mut.ensures.cases.enough;
       short = sym c.is_long.ensures ∙ c.if-is_long.false;
-      laid = sym c.is_archive.ensures ∙ not-false _ c.if-not-is_archive.false-raw;
+      laid = c.in_ok-judged.ensures.1;
       shallow = c.if-depth-gt-GREATEST_DEPTH.false;
-    }
-    in
-    fronts admitted _ _ _ c.fill.ensures
-
-pub slice_bounds-fill-end-2 : goal.slice_bounds-fill-end-2
-slice_bounds-fill-end-2 c =
-    let admitted : (Admitted c.args.depth (map (λ x. x.now) c.args.texts.now) c.args.archive.now c.args.contents.now c.args.bodies.now) =
-    record {
-      words = c.if-contents-lt-CONTENTS_WORDS.false;
-      bytes = c.if-bodies-lt-BODY_BYTES.false;
-      short = sym c.is_long.ensures ∙ c.if-is_long.false;
-      laid = sym c.is_archive.ensures ∙ not-false _ c.if-not-is_archive.false-raw;
-      shallow = c.if-depth-gt-GREATEST_DEPTH.false;
-    }
-    in
-    sym (words_front admitted)
-
-pub slice_bounds-fill-end-4 : goal.slice_bounds-fill-end-4
-slice_bounds-fill-end-4 c =
-    let admitted : (Admitted c.args.depth (map (λ x. x.now) c.args.texts.now) c.args.archive.now c.args.contents.now c.args.bodies.now) =
-    record {
-      words = c.if-contents-lt-CONTENTS_WORDS.false;
-      bytes = c.if-bodies-lt-BODY_BYTES.false;
-      short = sym c.is_long.ensures ∙ c.if-is_long.false;
-      laid = sym c.is_archive.ensures ∙ not-false _ c.if-not-is_archive.false-raw;
-      shallow = c.if-depth-gt-GREATEST_DEPTH.false;
-    }
-    in
-    sym (bytes_front admitted)
+    }) _ _ _
+    (c.fill.ensures ∙ (λ i. left_by c.args.depth (map (λ x. x.now) c.args.texts.now) (c.in_ok-judged.ensures.0 i) (c.in-Some.ensures.cases.same i) (c.in-Some-first_chunk_mut.ensures.cases.same i)))

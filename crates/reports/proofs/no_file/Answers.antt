@@ -1,14 +1,9 @@
 -- `reports::no_file` meets its contract. Assumes nothing.
-use native.Mathlib.Omega.{arith}
-use Rattle.printing.proofs.Pieces.{piece_long}
-use Rattle.reports.proofs.Telling.{not_among_lem}
+use mathlib.Core.Path.{refl}
+use Rattle.printing.proofs.Pieces.{then_piece}
+use Rattle.reports.specs.Telling.{not_among}
 use Rattle.reports.proofs.no_file.Goals as goal
 
-pub put-end-requires-2 : goal.put-end-requires-2
-put-end-requires-2 c = omega (arith, c.requires.0, c.requires.1, c.put-end.ensures.ends, piece_long c.put-end.ensures)
-
-pub put-size-requires : goal.put-size-requires
-put-size-requires c = omega (arith, c.requires.0, c.requires.1, c.put-end.ensures.ends, piece_long c.put-end.ensures, c.put-end-2.ensures.ends, piece_long c.put-end-2.ensures)
-
 pub returns : goal.returns
-returns c = not_among_lem c.args.file.now c.put-end.ensures c.put-end-2.ensures c.put-size.ensures
+unfolding not_among
+returns c = record { puts = then_piece (then_piece c.put.ensures c.put-2.ensures) c.put-3.ensures; status = refl; wrong = refl }

@@ -1,19 +1,13 @@
 -- `scan::next_component` meets its contract. Assumes nothing.
-use mathlib.Core.Path.{sym, ◌∙◌}
-use Prim.Native.Nat.{◌-◌}
-use borrow.Author.Tests.{not-true, not-false}
+use Rattle.std.proofs.Common.{rules, tests, ◌≡◌, ◌∙◌, not}
+use Rattle.std.proofs.lemmas.Iterator.{YieldsList-from_slice}
+use Rattle.std.proofs.lemmas.Iterator.Search.{position_from_yields_List}
+use Rattle.std.specs.List.{position}
 use Rattle.definition.specs.Bytes.{is_name}
-use Rattle.scan.proofs.Runs.{passed_none, passed_more, passed_stop, passed_end}
+use Rattle.scan.proofs.Bridges.{position_run}
 use Rattle.scan.proofs.next_component.Goals as goal
 
-pub returns-then-not-allowed_in_quark_name : goal.returns-then-not-allowed_in_quark_name
-returns-then-not-allowed_in_quark_name c = passed_stop is_name _ c.loop-i.invariant c.loop-i-test.true (sym c.allowed_in_quark_name.ensures ∙ not-true _ c.if-not-allowed_in_quark_name.true-raw)
-
-pub loop-i-preserved : goal.loop-i-preserved
-loop-i-preserved c = passed_more is_name _ c.loop-i.invariant c.loop-i-test.true (sym c.allowed_in_quark_name.ensures ∙ not-false _ c.if-not-allowed_in_quark_name.false-raw)
-
-pub loop-i-init : goal.loop-i-init
-loop-i-init c = passed_none is_name _
-
 pub returns : goal.returns
-returns c = passed_end is_name _ c.loop-i.invariant c.loop-i-test.false
+returns c =
+    let found : c.position.result ≡ position (λ x. not (is_name x)) c.args.text.now = position_from_yields_List (λ x. not (is_name x)) _ _ c.position.result c.position.ensures.ran (YieldsList-from_slice _ c.iter.ensures.rest) (λ x b q k. search (rules, tests)) in
+    c.unwrap_or.ensures ∙ position_run is_name c.args.text.now found

@@ -1,6 +1,10 @@
 -- `shared_lines::put_key` meets its contract. Assumes nothing.
-use Rattle.shared_lines.proofs.Putting.{key_put}
+use Rattle.printing.proofs.Pieces.{then_piece}
+use Rattle.shared_lines.specs.Lines.{key_of}
 use Rattle.shared_lines.proofs.put_key.Goals as goal
 
 pub returns : goal.returns
-returns c = key_put c.args.a.now c.args.b.now c.args.key.now c.put-end.ensures c.put-end-2.ensures c.put-end-3.ensures c.put-end-4.ensures c.put-end-5.ensures c.put.ensures
+unfolding key_of
+returns c =
+    let names = then_piece (then_piece (then_piece c.put.ensures c.put-2.ensures) c.put-3.ensures) c.put-4.ensures in
+    then_piece (then_piece names c.put-5.ensures) c.put-6.ensures

@@ -1,6 +1,5 @@
 -- `skips::line_blocks` meets its contract. Assumes nothing.
 use mathlib.Core.Path.{sym, ◌∙◌}
-use Prim.Native.Nat.{◌-◌}
 use borrow.Author.Rules.{rules}
 use Rattle.definition.specs.Bytes.{newline, not_newline}
 use Rattle.blocks.specs.Either.{either}

@@ -1,12 +1,7 @@
 -- `skips::line_end` meets its contract. Assumes nothing.
-use Prim.Native.Nat.{◌-◌}
-use lib.ListN.{length}
 use Rattle.definition.specs.Bytes.{not_newline}
 use Rattle.scan.proofs.Runs.{Passed}
 use Rattle.skips.proofs.line_end.Given as goal
 
 abbrev pub invariant-loop-i : goal.invariant-loop-i
 invariant-loop-i l = Passed not_newline l.text l.i
-
-abbrev pub decreases-loop-i : goal.decreases-loop-i
-decreases-loop-i l = length l.text - l.i

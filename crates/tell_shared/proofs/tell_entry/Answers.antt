@@ -8,18 +8,21 @@ use Rattle.tell_shared.proofs.tell_entry.Goals as goal
 
 pub tell_line-requires : goal.tell_line-requires
 tell_line-requires c =
-    let f = found_shared (entries_of_image c.args.contents.now c.args.bodies.now) c.args.i c.args.others.now c.args.stores.now c.loop-next.next c.in-At.j c.requires.4
-    (rw c.in-At.is at c.next_shared-shared.ensures) in
-    (c.requires.0, c.requires.1, c.requires.2, c.requires.3, c.requires.4, f.1)
+    let one = c.args.one.now.image in
+    let other = c.args.other.now.image in
+    let f = found_shared (entries_of_image one.contents.now one.bodies.now) c.args.i other.contents.now other.bodies.now c.loop-j.next c.in-Some.j other.judged (rw c.in-Some.is at c.next_shared.ensures) in
+    (c.requires, f.1)
 
 pub overflow_add-next : goal.overflow_add-next
 overflow_add-next c =
-    let f = found_shared (entries_of_image c.args.contents.now c.args.bodies.now) c.args.i c.args.others.now c.args.stores.now c.loop-next.next c.in-At.j c.requires.4
-    (rw c.in-At.is at c.next_shared-shared.ensures) in
-    omega (arith, f.1, (image_holds c.args.others.now c.args.stores.now c.requires.4).count_most)
+    let one = c.args.one.now.image in
+    let other = c.args.other.now.image in
+    let f = found_shared (entries_of_image one.contents.now one.bodies.now) c.args.i other.contents.now other.bodies.now c.loop-j.next c.in-Some.j other.judged (rw c.in-Some.is at c.next_shared.ensures) in
+    omega (arith, f.1, (image_holds other.contents.now other.bodies.now other.judged).count_most)
 
-pub loop-next-smaller : goal.loop-next-smaller
-loop-next-smaller c =
-    let f = found_shared (entries_of_image c.args.contents.now c.args.bodies.now) c.args.i c.args.others.now c.args.stores.now c.loop-next.next c.in-At.j c.requires.4
-    (rw c.in-At.is at c.next_shared-shared.ensures) in
-    omega (arith, f.0, c.loop-next-test.true)
+pub loop-j-smaller : goal.loop-j-smaller
+loop-j-smaller c =
+    let one = c.args.one.now.image in
+    let other = c.args.other.now.image in
+    let f = found_shared (entries_of_image one.contents.now one.bodies.now) c.args.i other.contents.now other.bodies.now c.loop-j.next c.in-Some.j other.judged (rw c.in-Some.is at c.next_shared.ensures) in
+    omega (arith, f.0, f.1)

@@ -1,10 +1,10 @@
--- `tell_shared::tell_entry` ends, and what it tells is there: each entry is after the one before. Assumes nothing.
+-- `tell_shared::tell_entry` ends: each entry is after the one before. Assumes nothing.
 use Prim.Native.Nat.{◌-◌}
-use Rattle.definition.specs.Limits.{most_entries}
+use Rattle.definition.specs.Image.{count_of}
 use Rattle.tell_shared.proofs.tell_entry.Given as goal
 
-abbrev pub invariant-loop-next : goal.invariant-loop-next
-invariant-loop-next l = Unit {0}
+abbrev pub invariant-loop-j : goal.invariant-loop-j
+invariant-loop-j l = Unit {0}
 
-abbrev pub decreases-loop-next : goal.decreases-loop-next
-decreases-loop-next l = most_entries - l.next
+abbrev pub decreases-loop-j : goal.decreases-loop-j
+decreases-loop-j l = count_of l.other.image.contents.now - l.next

@@ -1,16 +1,13 @@
 -- `texts::is_long` meets its contract. Assumes nothing.
-use mathlib.Core.Path.{refl}
-use Rattle.texts.proofs.Texts.{long_here, long_later, long_nowhere}
+use Rattle.std.proofs.Common.{rules, tests, ◌≡◌, ◌∙◌}
+use Rattle.std.proofs.lemmas.Iterator.{YieldsList-from_slice}
+use Rattle.std.proofs.lemmas.Iterator.Search.{any_from_yields_List}
+use Rattle.std.specs.List.{list_any}
+use Rattle.definition.specs.Reading.{too_long}
+use Rattle.texts.proofs.Texts.{some_long}
 use Rattle.texts.proofs.is_long.Goals as goal
 
-pub loop-i-preserved : goal.loop-i-preserved
-loop-i-preserved c = long_later (λ x. x.now) c.loop-i.invariant _ c.loop-i-test.true c.if-text-gt-TEXT_BYTES.false
-
-pub returns-then-text-gt-TEXT_BYTES : goal.returns-then-text-gt-TEXT_BYTES
-returns-then-text-gt-TEXT_BYTES c = long_here (λ x. x.now) c.loop-i.invariant _ c.loop-i-test.true c.if-text-gt-TEXT_BYTES.true
-
 pub returns : goal.returns
-returns c = long_nowhere (λ x. x.now) c.loop-i.invariant c.loop-i-test.false
-
-pub loop-i-init : goal.loop-i-init
-loop-i-init c = record { same = refl }
+returns c =
+    let found : c.any.result ≡ list_any (λ x. too_long x.now) c.args.texts.now = any_from_yields_List (λ x. too_long x.now) _ _ c.any.result c.any.ensures.ran (YieldsList-from_slice _ c.iter.ensures.rest) (λ x b q k. search (rules, tests)) in
+    found ∙ some_long (λ x. x.now) c.args.texts.now

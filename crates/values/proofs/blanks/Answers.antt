@@ -1,39 +1,22 @@
--- `values::blanks` meets its contract. The invariant is `Dropping`. Assumes nothing.
-use mathlib.Core.Bool.{false}
-use mathlib.Core.Path.{◌≡◌, sym, ◌∙◌}
-use Prim.Native.Nat.{◌-◌}
+-- `values::blanks` meets its contract. The invariant: what follows the blanks is the same of what is left. Assumes nothing.
+use mathlib.Core.Path.{sym, ◌∙◌}
 use native.Mathlib.Omega.{arith}
-use lib.ListN.{length, get_or}
-use borrow.Author.Tests.{eqb-true, ltb-false, not-false}
-use Rattle.definition.specs.Bytes.{is_blank}
-use Rattle.values.proofs.Skipping.{dropping_none, dropping_blank, dropping_other, dropping_last, dropping_kept, dropping_joined, dropping_end}
+use borrow.Author.Tests.{ltb-true, ltb-false}
+use Rattle.values.proofs.Skipping.{left_none, left_blank, left_other, left_last, left_kept, left_joined}
 use Rattle.values.proofs.blanks.Goals as goal
-use Rattle.values.proofs.blanks.Goals.{then-c-ne92-via-then-c-ne92, then-c-ne92-via-else-c-ne92+then-text-i-lt2, then-c-ne92-via-else-c-ne92+else-text-i-lt2+then-text-i-ne10}
+use Rattle.values.proofs.blanks.Goals.{in_default-via-then-rest-lt1, in_default-via-in-len1-up+else-is_blank+then-rest-lt2, in_default-via-in-len1-up+else-is_blank+else-rest-lt2+in-92+in_default-1, in_default-via-in-len1-up+else-is_blank+else-rest-lt2+in_default-1}
 
-pub loop-i-preserved-then-is_blank : goal.loop-i-preserved-then-is_blank
-loop-i-preserved-then-is_blank c = dropping_blank c.loop-i.invariant c.loop-i-test.true (sym c.is_blank.ensures ∙ c.if-is_blank.true)
+pub loop-rest-preserved-in-len1-up : goal.loop-rest-preserved-in-len1-up
+loop-rest-preserved-in-len1-up c = left_blank c.loop-rest.invariant (omega arith) (sym c.is_blank.ensures ∙ c.if-is_blank.true)
 
-pub bounds-text-i-else-text-i-lt2 : goal.bounds-text-i-else-text-i-lt2
-bounds-text-i-else-text-i-lt2 c = omega (arith, ltb-false (length c.args.text.now - c.loop-i.i) 2 c.if-text-i-lt2.false-raw)
+pub loop-rest-preserved : goal.loop-rest-preserved
+loop-rest-preserved c = left_joined c.loop-rest.invariant (sym c.is_blank.ensures ∙ c.if-is_blank.false) (omega arith) (omega arith) (omega arith)
 
-pub returns-then-c-ne92 : goal.returns-then-c-ne92
-returns-then-c-ne92 c =
-    let no-blank : is_blank (get_or c.args.text.now c.loop-i.i 0) ≡ false = sym c.is_blank.ensures ∙ c.if-is_blank.false in
-    let b = no-blank in
-    elim c.then-c-ne92.branch [
-      | then-c-ne92-via-then-c-ne92 w ↦ dropping_other c.loop-i.invariant c.loop-i-test.true b w.if-c-ne92.true
-      | then-c-ne92-via-else-c-ne92+then-text-i-lt2 w ↦ dropping_last c.loop-i.invariant c.loop-i-test.true b w.if-text-i-lt2.true
-      | then-c-ne92-via-else-c-ne92+else-text-i-lt2+then-text-i-ne10 w ↦
-          dropping_kept c.loop-i.invariant c.loop-i-test.true b w.if-text-i-lt2.false w.if-text-i-ne10.true
+pub returns-in_default : goal.returns-in_default
+returns-in_default c =
+    elim c.in_default.branch [
+      | in_default-via-then-rest-lt1 w ↦ left_none c.loop-rest.invariant (omega (arith, ltb-true))
+      | in_default-via-in-len1-up+else-is_blank+then-rest-lt2 w ↦ left_last c.loop-rest.invariant (sym w.is_blank.ensures ∙ w.if-is_blank.false) (omega (arith, ltb-true))
+      | in_default-via-in-len1-up+else-is_blank+else-rest-lt2+in-92+in_default-1 w ↦ left_kept c.loop-rest.invariant (sym w.is_blank.ensures ∙ w.if-is_blank.false) (omega (arith, ltb-false)) (λ e. omega arith)
+      | in_default-via-in-len1-up+else-is_blank+else-rest-lt2+in_default-1 w ↦ left_other c.loop-rest.invariant (sym w.is_blank.ensures ∙ w.if-is_blank.false) (omega (arith, ltb-false)) (λ e. omega arith)
     ]
-
-pub loop-i-preserved : goal.loop-i-preserved
-loop-i-preserved c =
-    let no-blank : is_blank (get_or c.args.text.now c.loop-i.i 0) ≡ false = sym c.is_blank.ensures ∙ c.if-is_blank.false in
-    dropping_joined c.loop-i.invariant c.loop-i-test.true no-blank (ltb-false _ 2 c.if-text-i-lt2.false-raw) c.if-c-ne92.false (eqb-true _ 10 (not-false _ c.if-text-i-ne10.false-raw))
-
-pub loop-i-init : goal.loop-i-init
-loop-i-init c = dropping_none _
-
-pub returns : goal.returns
-returns c = dropping_end c.loop-i.invariant c.loop-i-test.false

@@ -1,11 +1,10 @@
--- `values::blanks` meets its contract. The invariant is `Dropping`. Assumes nothing.
-use Prim.Native.Nat.{◌-◌}
+-- `values::blanks` meets its contract. The invariant: what follows the blanks is the same of what is left. Assumes nothing.
 use lib.ListN.{length}
-use Rattle.values.proofs.Skipping.{Dropping}
+use Rattle.values.proofs.Skipping.{Left}
 use Rattle.values.proofs.blanks.Given as goal
 
-abbrev pub invariant-loop-i : goal.invariant-loop-i
-invariant-loop-i l = Dropping l.text l.i
+abbrev pub invariant-loop-rest : goal.invariant-loop-rest
+invariant-loop-rest l = Left l.text l.rest
 
-abbrev pub decreases-loop-i : goal.decreases-loop-i
-decreases-loop-i l = length l.text - l.i
+abbrev pub decreases-loop-rest : goal.decreases-loop-rest
+decreases-loop-rest l = length l.rest

@@ -3,38 +3,21 @@ use mathlib.Core.Path.{ap}
 use Prim.Native.Nat.{ℕ}
 use native.Mathlib.Omega.{arith}
 use lib.Dec.{leb}
-use Rattle.image_judge.proofs.Judged.{Judged, judged}
+use Rattle.image_judge.proofs.Judged.{judged}
 use Rattle.writer.proofs.Texts.{surely_room}
 use Rattle.writer.proofs.has_room.Goals as goal
 
 pub returns-then-used-count : goal.returns-then-used-count
-returns-then-used-count c = surely_room _ _ _ c.requires c.if-used-count.true
+returns-then-used-count c = surely_room _ _ _ c.args.image.now.judged (omega (arith, c.if-used-count.true, c.count-count.ensures.0))
 
 pub returns : goal.returns
 returns c = ap (λ (n : ℕ). leb n c.args.room) c.text_length.ensures
 
-pub bounds-contents-0 : goal.bounds-contents-0
-bounds-contents-0 c =
-    let image : Judged c.args.contents.now c.args.bodies.now = judged _ _ c.requires in
-    omega (arith, image.contents_long)
-
-pub overflow_cast-count : goal.overflow_cast-count
-overflow_cast-count c = omega (arith, c.type_inv.contents 0)
-
-pub bounds-contents-1 : goal.bounds-contents-1
-bounds-contents-1 c =
-    let image : Judged c.args.contents.now c.args.bodies.now = judged _ _ c.requires in
-    omega (arith, image.contents_long)
-
-pub overflow_cast-used : goal.overflow_cast-used
-overflow_cast-used c = omega (arith, c.type_inv.contents 1)
+pub bounds-image-1 : goal.bounds-image-1
+bounds-image-1 c = omega (arith, (judged _ _ c.args.image.now.judged).contents_long)
 
 pub overflow_mul-used : goal.overflow_mul-used
-overflow_mul-used c =
-    let image : Judged c.args.contents.now c.args.bodies.now = judged _ _ c.requires in
-    omega (arith, image.used_most)
+overflow_mul-used c = omega (arith, (judged _ _ c.args.image.now.judged).used_most)
 
 pub overflow_add-used : goal.overflow_add-used
-overflow_add-used c =
-    let image : Judged c.args.contents.now c.args.bodies.now = judged _ _ c.requires in
-    omega (arith, image.used_most, image.count_most)
+overflow_add-used c = omega (arith, (judged _ _ c.args.image.now.judged).used_most, c.count-count.ensures)

@@ -1,34 +1,28 @@
 -- `writer::write` meets its contract: 8, 11, and the text. Assumes nothing.
-use mathlib.Core.Bool.{true}
-use mathlib.Core.Path.{◌≡◌, sym, ◌∙◌}
-use borrow.Author.Tests.{not-true, not-false, leb-true}
-use Rattle.definition.specs.Image.{is_image}
+use mathlib.Core.Path.{sym}
+use borrow.Author.Tests.{leb-true}
+use Rattle.std.proofs.lemmas.Result.{err_from_is_err_and}
 use Rattle.copies.proofs.Pieces.{piece_long}
 use Rattle.writer.proofs.Texts.{no_image, no_room, text_put}
 use Rattle.writer.proofs.write.Goals as goal
 
-pub returns-then-not-is_image : goal.returns-then-not-is_image
-returns-then-not-is_image c = no_image _ _ _ (sym c.is_image.ensures ∙ not-true _ c.if-not-is_image.true-raw)
+pub returns-in_err-image : goal.returns-in_err-image
+returns-in_err-image c =
+    let p = err_from_is_err_and c.from_residual.result c.from_residual.ensures.1 in
+    rw (p.1, p.2, c.in_err-image.ensures.0) (no_image _ _ _ c.in_err-image.ensures.1)
 
 pub returns-then-not-has_room : goal.returns-then-not-has_room
 returns-then-not-has_room c =
-    let image : is_image c.args.contents.now c.args.bodies.now ≡ true = sym c.is_image.ensures ∙ not-false _ c.if-not-is_image.false-raw in
-    no_room _ _ _ image (sym c.has_room.ensures ∙ not-true _ c.if-not-has_room.true-raw)
+    let room = rw (c.in_ok-image.ensures.0, c.in_ok-image.ensures.1) at c.if-not-has_room.ensures in
+    no_room _ _ _ c.in_ok-image.ensures.2 (sym room)
 
 pub write_entries-requires : goal.write_entries-requires
-write_entries-requires c =
-    let image : is_image c.args.contents.now c.args.bodies.now ≡ true = sym c.is_image.ensures ∙ not-false _ c.if-not-is_image.false-raw in
-    (image, leb-true _ _ (sym c.has_room.ensures ∙ not-false _ c.if-not-has_room.false-raw))
-
-pub has_room-requires : goal.has_room-requires
-has_room-requires c =
-    let image : is_image c.args.contents.now c.args.bodies.now ≡ true = sym c.is_image.ensures ∙ not-false _ c.if-not-is_image.false-raw in
-    image
+write_entries-requires c = leb-true _ _ (sym c.if-not-has_room.ensures)
 
 pub shape_of-text : goal.shape_of-text
 shape_of-text c = piece_long c.write_entries.ensures
 
 pub returns : goal.returns
 returns c =
-    let image : is_image c.args.contents.now c.args.bodies.now ≡ true = sym c.is_image.ensures ∙ not-false _ c.if-not-is_image.false-raw in
-    text_put _ _ _ image c.write_entries.ensures
+    let put = rw (c.in_ok-image.ensures.0, c.in_ok-image.ensures.1) at c.write_entries.ensures in
+    text_put _ _ _ c.in_ok-image.ensures.2 put

@@ -6,4 +6,6 @@ pub compare_code-requires : goal.compare_code-requires
 compare_code-requires c = both_small _ _ c.compare_default_without-answer.result _ _ _ _ _ c.compare_default_without-answer.ensures.equals
 
 pub returns : goal.returns
-returns c = crosses _ _ c.compare_default_without-answer.result _ _ _ _ _ _ _ _ c.compare_default_without-answer.ensures c.compare_code.ensures
+returns c =
+    crosses _ _ c.compare_default_without-answer.result _ _ _ _ _ _ _ _
+    (rw c.start_of-start.ensures at c.compare_default_without-answer.ensures) c.compare_code.ensures

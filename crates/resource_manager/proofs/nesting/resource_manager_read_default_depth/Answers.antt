@@ -6,4 +6,4 @@ pub read_code-requires : goal.read_code-requires
 read_code-requires c = read_few _ _ _ _ _ _ _ c.read_default-answer.result c.read_default-answer.ensures
 
 pub returns : goal.returns
-returns c = read_crosses c.read_default-answer.result _ _ _ _ c.read_default-answer.ensures c.read_code.ensures
+returns c = read_crosses c.read_default-answer.result _ _ _ _ (rw c.start_of-start.ensures at c.read_default-answer.ensures) c.read_code.ensures

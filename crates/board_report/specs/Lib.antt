@@ -1,2 +1,0 @@
--- What the contracts of a board's report cite beside the definition.
-pub mod Replies

@@ -1,2 +1,0 @@
--- Laws of loading.
-pub mod Loading

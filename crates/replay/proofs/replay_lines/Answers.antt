@@ -1,6 +1,0 @@
--- `replay::replay_lines` is safe and ends: what is left of the lines falls. Assumes nothing.
-use Rattle.std.proofs.Common.{sym, arith, length-take-le}
-use Rattle.replay.proofs.replay_lines.Goals as goal
-
-pub slice_bounds-replay_case-end : goal.slice_bounds-replay_case-end
-slice_bounds-replay_case-end c = sym (length-take-le _ _ (omega arith))

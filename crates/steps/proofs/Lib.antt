@@ -1,2 +1,0 @@
--- Laws of a chain's steps.
-pub mod Lines
