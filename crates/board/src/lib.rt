@@ -210,9 +210,9 @@ fn drop_slot(words: &mut [u16], bytes: &mut [u8], i: usize, count: usize)
 pub fn leave(words: &mut [u16], bytes: &mut [u8], number: u16) -> Result<usize, Refusal>
     ensures { done (replied result) (lent words.new bytes.new) ≡ board_call (leave number) (lent words.old bytes.old) }
 {
-    let board = Board::new(words, bytes)?;
-    let i = leaving_slot(board, number)?;
+    let n = leave_reply(words, bytes, number)?;
     let count = words[0] as usize;
+    let i = slots_before(words, number, count);
     drop_slot(words, bytes, i, count);
-    Ok(0)
+    Ok(n)
 }

@@ -96,6 +96,13 @@ fn holds_board(buffers: Buffers<'_>) -> bool
     have_room(buffers, queries)
 }
 
+// May a call go on? (Otherwise it is refused with 1 or 8.)
+pub fn is_board(words: &[u16], bytes: &[u8]) -> bool
+    ensures { result ≡ is_board (lent words.now bytes.now) }
+{
+    !is_short(words, bytes) && holds_board(Buffers { words, bytes })
+}
+
 // Two lent buffers that hold a board: every call but the making goes on with one.
 #[derive(Clone, Copy)]
 pub struct Board<'a> {
@@ -111,10 +118,10 @@ impl<'a> Board<'a> {
         if is_short(words, bytes) {
             return Err(Refusal::ShortBuffers);
         }
-        let buffers = Buffers { words, bytes };
-        if !holds_board(buffers) {
+        if !is_board(words, bytes) {
             return Err(Refusal::NotAnImage);
         }
+        let buffers = Buffers { words, bytes };
         Ok(Board { buffers })
     }
 
@@ -129,11 +136,4 @@ impl<'a> Board<'a> {
             bodies: slot.bodies,
         }
     }
-}
-
-// May a call go on? (Otherwise it is refused with 1 or 8.)
-pub fn is_board(words: &[u16], bytes: &[u8]) -> bool
-    ensures { result ≡ is_board (lent words.now bytes.now) }
-{
-    Board::new(words, bytes).is_ok()
 }

@@ -8,8 +8,9 @@ ghost use Rattle.board_layout.specs.Laid.{lent_of};
 ghost use Rattle.board_search.specs.Slots.{Named, spot_value};
 ghost use Rattle.board.specs.Replies.{replied};
 
-use board::leaving_slot;
+use board::{leave_reply, slots_before};
 use board_judge::Board;
+use board_layout::Buffers;
 use board_search::find;
 use limits::MOST_ENTRIES;
 use refusal::Refusal;
@@ -78,8 +79,12 @@ fn bits_of(board: Board<'_>, i: usize, count: usize) -> u32
 pub fn report(words: &[u16], bytes: &[u8], number: u16) -> Result<u32, Refusal>
     ensures { replied result ≡ board_report (lent words.now bytes.now) number }
 {
-    let board = Board::new(words, bytes)?;
-    let i = leaving_slot(board, number)?;
+    let _ = leave_reply(words, bytes, number)?;
+    let buffers = Buffers { words, bytes };
+    // A leaving is answered of a board alone, so these buffers hold one.
+    let board = Board { buffers };
+    let packs = board.buffers.pack_count();
+    let i = slots_before(words, number, packs);
     let queries = board.buffers.query_count();
     Ok(bits_of(board, i, queries))
 }

@@ -33,11 +33,13 @@ impl Piece {
     }
 }
 
-// The low eight bits of x * 8.
+// The low eight bits of x * 8, by three doublings that wrap, as document 01 names it.
 fn times_eight(x: u8) -> u8
     ensures { result ≡ (x * 8) % 256 }
 {
-    x.wrapping_mul(8)
+    let two = x.wrapping_add(x);
+    let four = two.wrapping_add(two);
+    four.wrapping_add(four)
 }
 
 // The low eight bits of the number of three octal digits, as the Rust's release build has them.

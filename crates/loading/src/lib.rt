@@ -10,6 +10,7 @@ use archive::Archive;
 use archive_add::{AddError, add_file};
 use arguments::name_end;
 use command_line::{argument, argument_count, next_argument};
+use copies::copy_in;
 use input::{open, read_all};
 use limits::ARCHIVE_BYTES;
 use options::Next;
@@ -98,7 +99,9 @@ impl Files {
         let mut bytes = [0; ARCHIVE_BYTES];
         match add_file(self.archive(), name, body, &mut bytes) {
             Ok(size) => {
-                *self = Files { bytes, size };
+                // what the archive has, and not the whole room
+                copy_in(&bytes[..size], &mut self.bytes, 0);
+                self.size = size;
                 Some(())
             }
             Err(why) => {

@@ -185,7 +185,21 @@ pub fn window_get_bytes(
     Ok(value_of(&image, found))
 }
 
-// The first entry that aligns with a query, from `next` on and below both `count` and the image's own count.
+// The first entry of a judged image that aligns with a query, from `next` on and below both `count` and the image's own count.
+pub fn first_in(
+    image: &Image,
+    name: &[u8],
+    class: &[u8],
+    next: usize,
+    count: usize,
+) -> Result<Option<usize>, Refusal>
+    ensures { entry_replied result ≡ entry_within shell true next count image.now.contents.now image.now.bodies.now name.now class.now }
+{
+    let last = count.min(image.count());
+    find_entry(image, name, class, next, last, true)
+}
+
+// The same of two lent buffers, which are judged first: 8.
 pub fn first_entry(
     contents: &[u16],
     bodies: &[u8],
@@ -197,6 +211,5 @@ pub fn first_entry(
     ensures { entry_replied result ≡ entry_within shell true next count contents.now bodies.now name.now class.now }
 {
     let image = Image::new(contents, bodies)?;
-    let last = count.min(image.count());
-    find_entry(&image, name, class, next, last, true)
+    first_in(&image, name, class, next, count)
 }

@@ -5,7 +5,7 @@ use mathlib.Core.List.{List, [], ◌∷◌}
 use mathlib.Core.Path.{◌≡◌, refl, ◌∙◌}
 use Prim.Native.Nat.{ℕ, zero, suc, ◌+◌, ◌-◌, ◌<◌}
 use native.Mathlib.Omega.{arith}
-use lib.Dec.{leb}
+use lib.Dec.{eqb, leb}
 use lib.ListN.{take, drop, get_or, set, replicate, length-set, length-replicate}
 use borrow.Author.Tests.{le-leb, leb-true, leb-false}
 use Rattle.definition.specs.Lists.{all}
@@ -48,16 +48,16 @@ waiting_none n =
 
 pub waiting_more : (n : ℕ) (r : Reached) (m : Member) → Waiting n r → stands_in n m ≡ true → Waiting n (reaching r m)
 unfolding reaching
-waiting_more n r m w h = at (leb archive_files m.number) (leb archive_files r.count) refl (get_or r.seen m.number false)
+waiting_more n r m w h = at (leb archive_files m.number) (leb archive_files r.count) refl (eqb (get_or r.seen m.number 0) 0)
   where
     more : Reached
-    more = reached (set r.files r.count m) (set r.seen m.number true) (r.count + 1)
+    more = reached (set r.files r.count m) (set r.seen m.number 1) (r.count + 1)
 
-    at : (a b : Bool) → leb archive_files r.count ≡ b → (c : Bool) → Waiting n (if a then r else if b then r else if c then r else more)
+    at : (a b : Bool) → leb archive_files r.count ≡ b → (c : Bool) → Waiting n (if a then r else if b then r else if c then more else r)
     at true b e c = w
     at false true e c = w
-    at false false e true = w
-    at false false e false = record { stand = all_set (stands_in n) r.files r.count m w.stand h; long = length-set r.files r.count m ∙ w.long; few = omega (arith, leb-false archive_files r.count e) }
+    at false false e false = w
+    at false false e true = record { stand = all_set (stands_in n) r.files r.count m w.stand h; long = length-set r.files r.count m ∙ w.long; few = omega (arith, leb-false archive_files r.count e) }
 
 -- file i of those that are reached stands in the archive
 pub waiting_in : (n : ℕ) (r : Reached) (i : ℕ) → Waiting n r → i < r.count → Within n (member_at r i)

@@ -1,5 +1,5 @@
 -- Files reached through includes, each once, in the order in which they are reached.
-use Rattle.std.specs.Prelude.{Bool, true, false, ◌&&◌, List, [], ◌∷◌, ◌≡◌, ℕ, ◌+◌, ◌≤◌, leb, length, get_or, set, replicate, if◌then◌else◌}
+use Rattle.std.specs.Prelude.{Bool, true, ◌&&◌, List, [], ◌∷◌, ◌≡◌, ℕ, ◌+◌, ◌≤◌, eqb, leb, length, get_or, set, replicate, if◌then◌else◌}
 use Rattle.definition.specs.Lists.{all}
 use Rattle.definition.specs.Limits.{archive_files}
 use Rattle.definition.specs.Archive as shelf
@@ -10,22 +10,23 @@ use Rattle.missing.specs.declared.Look.{Look}
 use Rattle.missing.specs.declared.Look.TheVariants.{File, Absent, Nowhere}
 use Rattle.missing.specs.declared.Reached.{Reached}
 
-abbrev pub reached : List Member → List Bool → ℕ → Reached
+abbrev pub reached : List Member → List ℕ → ℕ → Reached
 reached files seen count = record { files = files; seen = seen; count = count }
 
 abbrev pub no_member : Member
 no_member = record { number = 0; start = 0; body = 0; end = 0 }
 
 abbrev pub none_reached : Reached
-none_reached = reached (replicate archive_files no_member) (replicate archive_files false) 0
+none_reached = reached (replicate archive_files no_member) (replicate archive_files 0) 0
 
 -- a file more, if it is not among them and there is room
 unfoldable pub reaching : Reached → Member → Reached
 reaching r m =
     if leb archive_files m.number then r
     else if leb archive_files r.count then r
-    else if get_or r.seen m.number false then r
-    else reached (set r.files r.count m) (set r.seen m.number true) (r.count + 1)
+    else if eqb (get_or r.seen m.number 0) 0
+    then reached (set r.files r.count m) (set r.seen m.number 1) (r.count + 1)
+    else r
 
 -- what an include finds, if it finds a file
 unfoldable pub reaching_look : Reached → Look → Reached

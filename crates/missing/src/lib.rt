@@ -40,11 +40,12 @@ pub fn look_for<'a>(archive: Archive<'_>, folder: &'a [u8], name: &'a [u8], path
 }
 
 // No heap, so the room is fixed and a count stands beside it.
-// The files reached so far, in their order: the first `count` of `files`; of each file, by its number, whether it is among them.
+// The files reached so far, in their order: the first `count` of `files`; of each file, by its number, whether it is among them: any number but
+// zero says so, as what docs/TRACE.md names may not ask for less numbers than it did.
 #[derive(Clone, Copy)]
 pub struct Reached {
     pub files: [Member; ARCHIVE_FILES],
-    pub seen: [bool; ARCHIVE_FILES],
+    pub seen: [u8; ARCHIVE_FILES],
     pub count: usize,
 }
 
@@ -61,7 +62,7 @@ impl Default for Reached {
         };
         Reached {
             files: [none; ARCHIVE_FILES],
-            seen: [false; ARCHIVE_FILES],
+            seen: [0; ARCHIVE_FILES],
             count: 0,
         }
     }
@@ -79,12 +80,12 @@ pub fn reach(reached: Reached, member: Member) -> Reached
     if count >= ARCHIVE_FILES {
         return reached;
     }
-    if reached.seen[number] {
+    if reached.seen[number] != 0 {
         return reached;
     }
     let mut more = reached;
     more.files[count] = member;
-    more.seen[number] = true;
+    more.seen[number] = 1;
     more.count = count + 1;
     more
 }

@@ -5,12 +5,15 @@ ghost use Rattle.std.specs.Prelude.{◌≡◌, ◌+◌, ◌≤◌, length};
 ghost use Rattle.std.proofs.Math.Seq.{slice};
 ghost use Rattle.definition.specs.Adding.{over};
 
-// Copies `source` into `store` from `at` on.
+// Copies `source` into `store` from `at` on. Word by word: what the library copies calls memmove of the host, and include/resource_manager.h
+// promises that of the host memcpy and memset alone are called.
 pub fn copy_words(source: &[u16], store: &mut [u16], at: usize)
     requires { at + length source.now ≤ length store.old }
     ensures { store.new ≡ over at source.now store.old }
 {
-    store[at..at + source.len()].copy_from_slice(source);
+    for i in 0..source.len() {
+        store[at + i] = source[i];
+    }
 }
 
 // Moves the words from `from` up to `to` to the place `at`, which is not behind `from`.

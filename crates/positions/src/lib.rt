@@ -25,7 +25,7 @@ fn same_text(a: &[u8], b: &[u8]) -> bool
 }
 
 // The bytes of the part at `i`. Where there is none they are none: no part of a key is empty, so the empty slice equals nothing.
-pub fn part_at<'a>(names: &Names<'a>, i: usize) -> &'a [u8]
+pub fn part_at<'t>(names: &Names<'t, '_>, i: usize) -> &'t [u8]
     ensures { result.now ≡ part_at names.now.text.now names.now.starts.now names.now.lengths.now i }
 {
     let starts = names.starts;
@@ -39,7 +39,7 @@ pub fn part_at<'a>(names: &Names<'a>, i: usize) -> &'a [u8]
 }
 
 // The part at the last of `len` positions.
-pub fn last_part<'a>(names: &Names<'a>, len: usize) -> &'a [u8]
+pub fn last_part<'t>(names: &Names<'t, '_>, len: usize) -> &'t [u8]
     ensures { result.now ≡ part_at names.now.text.now names.now.starts.now names.now.lengths.now (len - 1) }
 {
     part_at(names, len.saturating_sub(1))

@@ -29,12 +29,12 @@ pub struct Split<const N: usize> {
     pub count: usize,
 }
 
-// The parts of a text, lent with it.
+// The parts of a text, lent with it. A part lives as long as the text, also where its place does not.
 #[derive(Clone, Copy)]
-pub struct Names<'a> {
-    pub text: &'a [u8],
-    pub starts: &'a [u16],
-    pub lengths: &'a [u16],
+pub struct Names<'t, 'p> {
+    pub text: &'t [u8],
+    pub starts: &'p [u16],
+    pub lengths: &'p [u16],
     ghost inside: { Inside text.now starts.now lengths.now },
 }
 
@@ -50,7 +50,7 @@ impl<const N: usize> Split<N> {
         }
     }
 
-    pub fn names<'a>(&'a self, text: &'a [u8]) -> Names<'a>
+    pub fn names<'t, 'p>(&'p self, text: &'t [u8]) -> Names<'t, 'p>
         requires { SplitIn text.now self.now }
         ensures text { result.text.now ≡ text.now }
         ensures starts { result.starts.now ≡ starts_of self.now }

@@ -39,13 +39,17 @@ fn string_of(found: Option<Place>, bodies: &[u8]) -> Option<Place>
     }
 }
 
-// The boolean of what a lookup found, if that is a string.
+// The boolean of what a lookup found, if that is a string. UTF-8 is asked for here: a place that another call hands on takes stack.
 fn bool_of(found: Option<Place>, bodies: &[u8]) -> Option<bool>
     requires { LiesIn (Ok found) (length bodies.now) }
     ensures { truth_replied (Ok result) ≡ as_bool bodies.now (as_string bodies.now (replied (Ok found))) }
 {
-    let place = string_of(found, bodies)?;
-    to_bool(bytes_at(bodies, place))
+    let place = found?;
+    let bytes = bytes_at(bodies, place);
+    if !is_utf8(bytes) {
+        return None; // no string
+    }
+    to_bool(bytes)
 }
 
 // Why a lookup of a number has none: what it found is a string and no number, or it is refused.
@@ -70,10 +74,14 @@ fn value_of(found: Option<Place>, bodies: &[u8]) -> Result<Option<i64>, ValueErr
     requires { LiesIn (Ok found) (length bodies.now) }
     ensures { value_replied result ≡ as_number bodies.now (as_string bodies.now (replied (Ok found))) }
 {
-    let Some(place) = string_of(found, bodies) else {
+    let Some(place) = found else {
         return Ok(None);
     };
-    match parse_i64(bytes_at(bodies, place)) {
+    let bytes = bytes_at(bodies, place);
+    if !is_utf8(bytes) {
+        return Ok(None); // no string
+    }
+    match parse_i64(bytes) {
         Some(number) => Ok(Some(number)),
         None => Err(ValueError::NotANumber),
     }

@@ -74,7 +74,9 @@ fn take_field(rest: &[u8], store: &mut [u8], at: usize) -> Option<(usize, Field)
 }
 
 // Takes the property, the four texts and the archive, and answers what is left of the line.
-fn take_chain<'a>(line: &'a [u8], store: &mut [u8], fields: &mut [Field; 6]) -> Option<&'a [u8]> {
+fn take_chain<'a>(line: &'a [u8], store: &mut [u8], fields: &mut [Field; 6]) -> Option<&'a [u8]>
+    ensures { IfSome result (λ rest. length rest.now ≤ length line.now) }
+{
     let mut rest = line;
     let mut at = 0;
     for field in fields.iter_mut() {

@@ -15,7 +15,7 @@ use image_judge::Image;
 use places::place_of;
 use printing::Lines;
 use shown_bytes::put_shown;
-use walk::walk_step;
+use walk::step_in;
 
 // Puts the number of entry `i` and where its line stands.
 #[tactic(auto, using(crate::proofs::Lines::head_long))]
@@ -55,9 +55,9 @@ pub fn put_walk(
     ensures { Appends (walk_lines (files_of archive.entry.bytes.now) (query_of name.now class.now) (sources_of_image image.now.contents.now image.now.bodies.now)) out.old out.new }
 {
     let mut next = 0;
-    // not by index: a turn takes a step of the walk, to the next entry that aligns
-    loop {
-        match walk_step(image.contents, image.bodies, name, class, next, count) {
+    // not by index: a turn takes a step of the walk, to the next entry that aligns; none is taken past the last
+    while next < count {
+        match step_in(image, name, class, next, count) {
             Ok(Some(i)) => {
                 let place = place_of(archive, image.origin(i));
                 put_entry(i, place, image.key(i), image.value(i), out);

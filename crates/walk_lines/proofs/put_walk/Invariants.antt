@@ -8,10 +8,10 @@ use Rattle.walk_lines.specs.Lines.{walk_lines}
 use Rattle.walk_lines.proofs.Walks.{lines_left}
 use Rattle.walk_lines.proofs.put_walk.Given as goal
 
-abbrev pub invariant-loop-i : goal.invariant-loop-i
-invariant-loop-i l =
+abbrev pub invariant-loop-next : goal.invariant-loop-next
+invariant-loop-next l =
     Walk (walk_lines (files_of l.archive.bytes.now) (query_of l.name l.class) (sources_of_image l.image.contents.now l.image.bodies.now)) l.initial.out
     (lines_left l.image.contents.now l.image.bodies.now l.name l.class (files_of l.archive.bytes.now) l.next) l.out
 
-abbrev pub decreases-loop-i : goal.decreases-loop-i
-decreases-loop-i l = l.count - l.next
+abbrev pub decreases-loop-next : goal.decreases-loop-next
+decreases-loop-next l = l.count - l.next

@@ -1,0 +1,2 @@
+-- Laws of loading.
+pub mod Loading
