@@ -23,6 +23,8 @@ use borrow.Author.Tests.{eqb-true, eq-eqb, ne_eqb}
 use Rattle.board_laws.proofs.Placing.{each_long}
 use Rattle.board_laws.proofs.Slots.{has_slot, slot_leaves}
 use Rattle.board_laws.proofs.Calls.{Laid}
+use Rattle.board_layout.specs.declared.Buffers.{Buffers}
+use Rattle.board_layout.specs.Laid.{lent_of}
 use Rattle.board_judge.specs.Slots.{number_at, has_number_from}
 use Rattle.board_judge.proofs.Judging.{each_first, number_found, number_on, number_none, slots_number}
 use Rattle.board.specs.Replies.{before_number, dropped}
@@ -219,3 +221,7 @@ pub gone_inside : (l : Lent) (n : ℕ) → Laid l → has_slot n (slots_in l) �
 unfolding before_number
 gone_inside l n h p i e =
     omega (arith, e, before_slots l n 0 (pack_count l), (slot_leaves n (slots_in l) h.slots p).0, each_long (slot_at l) 0 (pack_count l))
+
+-- the slot by the words of a judged board
+pub slot_at_call : (b : Buffers) (l : Lent) (n i : ℕ) → lent_of b ≡ l → i ≡ before_number b.words.now n (pack_count (lent_of b)) → i ≡ before_number l.words n (pack_count l)
+slot_at_call b l n i e h = h ∙ ap (λ (o : Lent). before_number o.words n (pack_count o)) e

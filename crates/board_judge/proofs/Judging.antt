@@ -1,5 +1,6 @@
 -- How a board is judged, slot by slot and query by query. Assumes nothing.
-use Rattle.std.specs.Prelude.{if◌then◌else◌}
+use Rattle.std.specs.Prelude.{if◌then◌else◌, Result, Ok, Err, MatchResult}
+use Rattle.std.specs.Result.{is_ok}
 use mathlib.Core.Bool.{Bool, true, false, ◌&&◌, ◌||◌, not, and-false}
 use mathlib.Core.List.{List, [], ◌∷◌}
 use mathlib.Core.Path.{◌≡◌, refl, sym, ap, ◌∙◌}
@@ -172,3 +173,7 @@ turned_away l k h A r = rw (h.1, h.0) (at (short_board l))
 
 pub held : (b : Board) (l : Lent) → lent_of b.buffers ≡ l → is_board l ≡ true
 held b l e = rw e at b.is_one
+
+pub judged_board : (l : Lent) (r : Result Board Refusal) → MatchResult r (λ b. lent_of b.buffers ≡ l) (turns_away l) → is_ok r ≡ is_board l
+judged_board l (Ok b) h = sym (held b l h)
+judged_board l (Err k) h = sym h.1

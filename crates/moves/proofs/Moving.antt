@@ -1,11 +1,11 @@
 -- What a copy leaves, word by word or of the library, in the definition's words. Assumes nothing.
-use mathlib.Core.List.{List, ◌++◌}
+use mathlib.Core.List.{List, ◌++◌, append_assoc}
 use mathlib.Core.Path.{◌≡◌, sym, ap, ◌∙◌}
 use Prim.Native.Nat.{ℕ, ◌+◌, ◌-◌, ◌≤◌, ◌<◌}
 use native.Mathlib.Numerals.{add-one}
 use native.Mathlib.Omega.{arith}
 use lib.ListN.{length, get_or, set, take, drop}
-use lib.Seq.{paste, paste-zero, paste-suc, slice, length-slice}
+use lib.Seq.{paste, paste-zero, paste-suc, drop-drop, slice, length-slice}
 use Rattle.std.specs.List.{copy_within}
 use Rattle.std.proofs.lemmas.Slice.{between_is}
 use Rattle.definition.specs.Adding.{over}
@@ -33,6 +33,11 @@ module _ (d : List ℕ) (at : ℕ) (s : List ℕ) (fits : at + length s ≤ leng
   stored_all {xs} {i} h k =
       let e : i ≡ length s = omega (arith, h.most) in
       h.same ∙ ap (paste d at s) e ∙ over_paste at s d
+
+-- a part of so many elements, copied over
+pub part_over : (d s : List ℕ) (at n : ℕ) {ys : List ℕ} → n ≡ length s → ys ≡ s → take at d ++ (ys ++ drop n (drop at d)) ≡ over at s d
+unfolding over
+part_over d s at n e f = rw (f, e, drop-drop (length s) at d) (sym (append_assoc (take at d) s (drop (at + length s) d)))
 
 -- a part moved within its list
 pub within_over : (d : List ℕ) (from to at : ℕ) → to ≤ length d
